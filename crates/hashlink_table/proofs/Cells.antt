@@ -66,8 +66,8 @@ module _ {N : Type 0} where
       ∙ get_or-set_other (map (label buckets) cells) i j (label buckets c) (suc buckets) ne
 
   -- a write that changes no node changes no chain
-  pub chain_at-set_same : (buckets : ℕ) (cells : List (Cell N)) (i : ℕ) (c : Cell N) → c.kept ≡ kept_at cells i
-      → (j : ℕ)
+  pub chain_at-set_same : (buckets : ℕ) (cells : List (Cell N)) (i : ℕ) (c : Cell N)
+      → c.kept ≡ kept_at cells i → (j : ℕ)
       → chain_at buckets (set cells i c) j ≡ chain_at buckets cells j
   chain_at-set_same buckets cells i c same j =
       ap (λ ls. get_or ls j (suc buckets))

@@ -1,7 +1,7 @@
 -- The slots are doubled: where each node is then, and that no bucket has a chain.
-use Rattle.std.proofs.Common.{◌≡◌, ℕ, ◌+◌, ◌-◌, ◌*◌, ◌/◌, ◌%◌, ◌<◌, ◌≤◌, ◌⊎◌, ltb, Bool, true, false, cond, inl}
-use Rattle.std.proofs.Common.{inr, List, [], ◌∷◌, ◌++◌, length, map, get_or, Option, None, Some, refl, sym}
-use Rattle.std.proofs.Common.{ap, ◌∙◌, subst, arith}
+use Rattle.std.proofs.Common.{◌≡◌, ℕ, ◌+◌, ◌-◌, ◌*◌, ◌/◌, ◌%◌, ◌<◌, ◌≤◌, ◌⊎◌, ltb, Bool, true, false, inl}
+use Rattle.std.proofs.Common.{cond, inr, List, [], ◌∷◌, ◌++◌, length, map, get_or, Option, None, Some, refl}
+use Rattle.std.proofs.Common.{sym, ap, ◌∙◌, subst, arith}
 use Rattle.std.specs.Prelude.{IsPermutation}
 use Rattle.std.proofs.Math.Arith.{mod-mul}
 use Rattle.std.proofs.Math.ListN.{get_or-map}
@@ -137,7 +137,8 @@ module _ {N : Type 0} where
                 let bucket = bucket_low k.hash (length cells) (omega (arith, low)) s.1 in
                 ap (λ b. b / 16) bucket ∙ p at k s.0
             | inr high ↦
-                let s = moves (length cells) _ k (sym (ap (λ (c : Cell N). c.kept) (read_high at high)) ∙ is) in
+                let s = moves (length cells) _ k
+                (sym (ap (λ (c : Cell N). c.kept) (read_high at high)) ∙ is) in
                 let within = within_kept cells (at - length cells) k s.0 in
                 let bucket = bucket_high k.hash (length cells) (omega (arith, within)) s.1 in
                 omega (arith, whole, high, bucket, p (at - length cells) k s.0)

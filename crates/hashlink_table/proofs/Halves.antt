@@ -15,7 +15,8 @@ use Rattle.hashlink_table.specs.declared.store.slots.Rest.{Rest}
 use Rattle.hashlink_table.specs.Stored.{bare_cell}
 use Rattle.hashlink_table.specs.Slots.{slot, cells_in, low_kept, high_kept, low_half, high_half, doubled}
 use Rattle.hashlink_table.specs.Slots.{parted, IsStored, IsTagged, Row}
-use Rattle.hashlink_table.proofs.Storing.{AreCells, cell_at, node_at, node_stays, rest_at, row, stored, tag_at, written}
+use Rattle.hashlink_table.proofs.Storing.{AreCells, cell_at, node_at, node_stays, rest_at, row}
+use Rattle.hashlink_table.proofs.Storing.{stored, tag_at, written}
 
 -- so many buckets twice are a power of two again
 pub twice_power : (n : ℕ) → IsPowerOfTwo n → IsPowerOfTwo (2 * n)
@@ -151,7 +152,8 @@ module _ {N : Type 0} (cells : List (Cell N)) where
       let in_low : at < length lower = omega (arith, low_long) in
       let in_high : at < length upper = omega (arith, length-map cells (high_half count)) in
       let long : length (lows at) ≡ count = length-so_far lower cells low_long at ∙ sym low_long in
-      let next : length (lows (at + 1)) ≡ count = length-so_far lower cells low_long (at + 1) ∙ sym low_long in
+      let next : length (lows (at + 1)) ≡ count
+      = length-so_far lower cells low_long (at + 1) ∙ sym low_long in
       let read : get_or (lows at ++ highs at) at bare_cell ≡ x
       = get_or_append_left (lows at) (highs at) bare_cell at (omega arith)
       ∙ so_far-next lower cells low_long at bare_cell in_low in

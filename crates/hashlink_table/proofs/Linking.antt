@@ -2,8 +2,8 @@
 use Rattle.std.proofs.Common.{◌≡◌, ◌≢◌, ℕ, suc, ◌+◌, inl, inr, ◌<◌, ◌≤◌, cond, eqb, List, [], ◌∷◌, ◌++◌}
 use Rattle.std.proofs.Common.{length, get_or, set, None, refl, sym, ap, ◌∙◌, arith}
 use Rattle.std.proofs.lemmas.Bool.{eq-eqb, ne_eqb, cases_eq}
-use Rattle.std.proofs.lemmas.List.{get_or_append_left, get_or_at, get_or-map, length-map, length-set, length_push}
-use Rattle.std.proofs.lemmas.List.{map-set, set-append_left, set_at}
+use Rattle.std.proofs.lemmas.List.{get_or_append_left, get_or_at, get_or-map, length-map, length-set}
+use Rattle.std.proofs.lemmas.List.{length_push, map-set, set-append_left, set_at}
 use Rattle.std.proofs.lemmas.Nat.{pow_pos}
 use Rattle.std.specs.Int.{IsPowerOfTwo}
 use Rattle.hashlink_table.specs.declared.store.cell.Cell.{Cell}
@@ -80,7 +80,8 @@ module _ {N : Type 0} where
   free_small slots cells free t few = elim (cases_eq free END) as (λ _. free ≤ END) [
     | inl e ↦ omega (arith, e)
     | inr ne ↦
-        omega (arith, few, within_by_chain (length slots) cells free _ (free_on slots cells free t ne) (omega arith))
+        let on = free_on slots cells free t ne in
+        omega (arith, few, within_by_chain (length slots) cells free _ on (omega arith))
   ]
 
   -- an insert into a new cell
@@ -108,8 +109,9 @@ module _ {N : Type 0} where
       let mid : ℕ → ℕ = λ j. cond (eqb j i) (suc m) (chain_at m cells j) in
       let here : mid i ≡ suc m = rw (eq-eqb i i refl) refl in
       let there : SameBut i (chain_at m cells) mid = λ j ne. rw (ne_eqb j i ne) refl in
-      put_first (starts slots free) (next_at cells) (next_at (set cells i c)) mid (chain_at m (set cells i c)) a
-      i (t mid (λ b h e. omega (arith, here, e, h)) there) (omega (arith, low, n))
+      put_first (starts slots free) (next_at cells) (next_at (set cells i c)) mid
+      (chain_at m (set cells i c)) a i (t mid (λ b h e. omega (arith, here, e, h)) there)
+      (omega (arith, low, n))
       (λ e. omega (arith, within, small, e)) (λ b h e. omega (arith, here, e, h, n))
       (next_at-set cells i c within ∙ leads) (next_at-set_other cells i c)
       (chain_at-set m cells i c within ∙ on)
@@ -121,8 +123,8 @@ module _ {N : Type 0} where
   unlinked_free slots cells free ne t now off same =
       let n = length-starts slots free in
       rw (← starts-free slots free (next_at cells free))
-      (take_first (starts slots free) (next_at cells) (chain_at (length slots) cells) now (length slots) free t
-      (omega (arith, n)) (free_start slots free) ne (free_on slots cells free t ne)
+      (take_first (starts slots free) (next_at cells) (chain_at (length slots) cells) now (length slots) free
+      t (omega (arith, n)) (free_start slots free) ne (free_on slots cells free t ne)
       (λ b h. off b (omega (arith, h, n))) same)
 
   -- an insert into the first free cell

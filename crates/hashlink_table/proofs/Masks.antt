@@ -88,7 +88,8 @@ none_pass : {X : Type 0} (p : X → Bool) (xs : List X) → mask_l (map p xs) �
     → p (get_or xs k d) ≡ false
 none_pass p xs e k d low =
     none_from_empty_mask p xs 0 (length xs) d (omega arith)
-    (ap (λ ys. mask_l (map p ys)) (take_all (length xs) xs (omega arith)) ∙ e) k (omega arith) (omega (arith, low))
+    (ap (λ ys. mask_l (map p ys)) (take_all (length xs) xs (omega arith)) ∙ e) k (omega arith)
+    (omega (arith, low))
 
 -- the cells of a group from one on
 module _ {N : Type 0} (cells : List (Cell N)) (base : ℕ) where
@@ -133,7 +134,8 @@ module _ {N : Type 0} {cells : List (Cell N)} {base : ℕ} {q : Cell N → Bool}
       here : IsHit cells base q at (mask_l (map q (from cells base at)))
       here =
           let xs = from cells base at in
-          let f = first_set q xs (omega (arith, from_long cells base room at left.low)) (λ e. some (left.bits ∙ e)) in
+          let long = from_long cells base room at left.low in
+          let f = first_set q xs (omega (arith, long)) (λ e. some (left.bits ∙ e)) in
           let t = count_trailing_zeros 64 (mask_l (map q xs)) in
           let n = at - base in
           let index : n + (t + 1) ≡ at + t + 1 - base = omega (arith, left.low) in

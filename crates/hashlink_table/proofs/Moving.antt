@@ -1,6 +1,7 @@
 -- The slots: a node comes into one, leaves it, and is followed there by the first of a chain.
 use Rattle.std.proofs.Common.{◌≡◌, ◌≢◌, ℕ, ◌+◌, ◌-◌, ◌%◌, ◌<◌, ◌≤◌, ◌⊎◌, inl, inr, List, ◌∷◌, ◌++◌, length}
-use Rattle.std.proofs.Common.{get_or, is_some, set, IsSome, Option, None, Some, refl, sym, ap, ◌∙◌, subst, arith}
+use Rattle.std.proofs.Common.{get_or, is_some, set, IsSome, Option, None, Some, refl, sym, ap, ◌∙◌, subst}
+use Rattle.std.proofs.Common.{arith}
 use Rattle.std.specs.Prelude.{IsPermutation}
 use Rattle.std.proofs.lemmas.Bool.{cases_eq}
 use Rattle.std.proofs.lemmas.List.{length-map, length-set}
@@ -30,8 +31,8 @@ module _ {N : Type 0} where
   same_length f g same = sym (length-map g stored_in) ∙ ap length same ∙ length-map f stored_in
 
   -- the slots keep their nodes, and a chain begins where the group is full
-  pub arranged-same : (f g : List (Cell N)) {cells : List (Cell N)} {free : ℕ} (later : List (Cell N)) (now : ℕ)
-      → SameNodes f g → IsArranged f cells free → IsLinked g later now
+  pub arranged-same : (f g : List (Cell N)) {cells : List (Cell N)} {free : ℕ} (later : List (Cell N))
+      (now : ℕ) → SameNodes f g → IsArranged f cells free → IsLinked g later now
       → ((b : ℕ) → b < length f → next_at g b ≢ END → AreTaken f (b - b % 16))
       → IsArranged g later now
   arranged-same f g later now same a linked full =
@@ -43,7 +44,8 @@ module _ {N : Type 0} where
             (full b (omega (arith, low, n)) ne at from to);
       }
 
-  -- a write to a slot leaves its link: a node of the group comes into it, or no bucket of the group has a chain
+  -- a write to a slot leaves its link: a node of the group comes into it, or no bucket of the group has a
+  -- chain
   pub arranged-set : {f cells : List (Cell N)} {free : ℕ} (i : ℕ) (d : Cell N) → i < length f
       → d.next ≡ next_at f i → IsArranged f cells free
       → ((k : Hashed N) → d.kept ≡ Some k → AreGrouped (k.hash % length f) i)
@@ -83,7 +85,8 @@ module _ {N : Type 0} where
       rw (with_more o (nodes_in f), with_more p (nodes_in (set f i d)), ← new, ← old)
       (IsPermutation-append_left over _ _ (nodes_in-set f i d low))
     where
-      with_more : (o : Option (Hashed N)) (ks : List (Hashed N)) → with_node o (ks ++ over) ≡ with_node o ks ++ over
+      with_more : (o : Option (Hashed N)) (ks : List (Hashed N))
+          → with_node o (ks ++ over) ≡ with_node o ks ++ over
       with_more None ks = refl
       with_more (Some k) ks = refl
 

@@ -81,7 +81,8 @@ pub agrees_free : {N : Type 0} (row : Row N) → IsStored row
     → eqb row.tag 0 ≡ is_none (let c : Cell N = slot row in c.kept)
 agrees_free {N} row is =
     elim (eqb row.tag 0) as (λ b. b ≡ is_none (cond b None
-    (Some (let k : Hashed N = record { hash = row.rest.hash; node = row.node } in k)))) [ true ↦ refl | false ↦ refl ]
+    (Some (let k : Hashed N = record { hash = row.rest.hash; node = row.node } in k))))
+    [ true ↦ refl | false ↦ refl ]
 
 pub agrees_may_have : {N : Type 0} (hash : ℕ) (row : Row N) → IsStored row
     → eqb row.tag (tag_of hash) ≡ may_be hash (slot row)
@@ -98,20 +99,25 @@ module _ {N : Type 0} {ts : List ℕ} {ns : List N} {rs : List Rest} {v : List (
 
   -- there are as many of each
   pub sizes : (length ts ≡ length v) × (length ns ≡ length v) × (length rs ≡ length v)
-  sizes = (long (λ row. row.tag) ts h.tags, long (λ row. row.node) ns h.nodes, long (λ row. row.rest) rs h.rests)
+  sizes = (
+    long (λ row. row.tag) ts h.tags,
+    long (λ row. row.node) ns h.nodes,
+    long (λ row. row.rest) rs h.rests,
+  )
     where
       long : {X : Type 0} (f : Row N → X) (xs : List X) → xs ≡ map f h.rows → length xs ≡ length v
       long f xs is = ap length is ∙ length-map h.rows f ∙ sym (ap length cells ∙ length-map h.rows slot)
 
   -- cells that come after them
-  pub more_cells : (us xs : List ℕ) (ms ys : List N) (ds zs : List Rest) (w : List (Cell N)) → AreCells us ms ds w
-      → xs ≡ ts ++ us → ys ≡ ns ++ ms → zs ≡ rs ++ ds
+  pub more_cells : (us xs : List ℕ) (ms ys : List N) (ds zs : List Rest) (w : List (Cell N))
+      → AreCells us ms ds w → xs ≡ ts ++ us → ys ≡ ns ++ ms → zs ≡ rs ++ ds
       → AreCells xs ys zs (v ++ w)
   more_cells us xs ms ys ds zs w (k, seen) tags nodes rests =
       let later : w ≡ map slot k.rows
       = sym seen ∙ (by_rows k.rows us ms ds _ k.stored k.tags k.nodes k.rests refl).1 in
       by_rows (h.rows ++ k.rows) xs ys zs _ (All-append IsStored h.rows k.rows h.stored k.stored)
-      (both (λ row. row.tag) ts us xs h.tags k.tags tags) (both (λ row. row.node) ns ms ys h.nodes k.nodes nodes)
+      (both (λ row. row.tag) ts us xs h.tags k.tags tags)
+      (both (λ row. row.node) ns ms ys h.nodes k.nodes nodes)
       (both (λ row. row.rest) rs ds zs h.rests k.rests rests) (both slot v w _ cells later refl)
     where
       both : {X : Type 0} (f : Row N → X) (xs ys zs : List X) → xs ≡ map f h.rows → ys ≡ map f k.rows
@@ -232,8 +238,8 @@ module _ {N : Type 0} {ts : List ℕ} {ns : List N} {rs : List Rest} {v : List (
 
     pub freed : AreCells (set ts i 0) ns rs (without_kept v i)
     freed =
-        written i (record row { tag = 0 }) _ _ _ _ (record { tagged = inl refl; small = stored.small }) refl node_stays
-        rest_stays (ap (λ (d : Cell N). record d { kept = None }) cell_at)
+        written i (record row { tag = 0 }) _ _ _ _ (record { tagged = inl refl; small = stored.small }) refl
+        node_stays rest_stays (ap (λ (d : Cell N). record d { kept = None }) cell_at)
 
     pub linked_on : (to : ℕ) (r : Rest) → r ≡ get_or rs i r → to ≤ END
         → AreCells ts ns (set rs i (record r { link = to })) (with_next v i to)

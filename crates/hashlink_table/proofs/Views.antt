@@ -107,14 +107,16 @@ module _ {N : Type 0} where
       → length slots % 16 ≡ 0 → IsInPlace slots → base ≡ hash % length slots - hash % length slots % 16
       → count_by (may_be hash) (lanes_of slots base)
       + count_by (λ c. eqb (chain_of (length slots) c.kept) (hash % length slots)) overflow
-      ≤ count_by (λ k. eqb (k.hash % length slots) (hash % length slots)) (nodes_in slots ++ nodes_in overflow)
+      ≤ count_by (λ k. eqb (k.hash % length slots) (hash % length slots))
+      (nodes_in slots ++ nodes_in overflow)
   looked_at slots overflow hash base power whole in_place first =
       let m = length slots in let b = hash % m in
       let some = positive_by_power m power in
       let room : base + 16 ≤ m = omega (arith, first, group_within b m (omega arith) whole) in
       let own = count_by-lanes (may_be hash) (λ c. eqb (chain_of m c.kept) b) slots base room
       (λ k lane e. tag_agrees m b hash (base + k) (kept_at slots (base + k)) some whole refl
-      (in_place (base + k)) (grouped_in b (base + k) (omega (arith, first)) (omega (arith, first, lane))) e) in
+      (in_place (base + k)) (grouped_in b (base + k) (omega (arith, first)) (omega (arith, first, lane)))
+      e) in
       omega (
         arith,
         own,

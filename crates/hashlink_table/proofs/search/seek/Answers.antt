@@ -1,7 +1,8 @@
-use Rattle.std.proofs.Common.{ℕ, ◌+◌, ◌-◌, ◌%◌, ◌<◌, ◌≤◌, ◌≡◌, List, length, Some, refl, ap, ◌∙◌, arith}
+use Rattle.std.proofs.Common.{ℕ, ◌+◌, ◌-◌, ◌%◌, ◌<◌, ◌≤◌, ◌≡◌, ◌++◌, count_by, eqb, false, length, Some}
+use Rattle.std.proofs.Common.{refl, ap, ◌∙◌, arith}
 use Rattle.std.proofs.lemmas.Bool.{eq-eqb, eqb-true}
-use Rattle.hashlink_table.specs.Chains.{chain_at, chain_of, kept_at, IsInPlace}
-use Rattle.hashlink_table.specs.declared.store.cell.Cell.{Cell}
+use Rattle.hashlink_table.specs.Chains.{chain_at, chain_of, kept_at, nodes_in}
+use Rattle.hashlink_table.specs.Slots.{lanes_of, may_be}
 use Rattle.hashlink_table.specs.declared.store.spot.Spot.TheVariants.{Slot, Overflow}
 use Rattle.hashlink_table.specs.Stored.{tag_of}
 use Rattle.hashlink_table.proofs.Cells.{chain_at_within}
@@ -11,16 +12,29 @@ use Rattle.hashlink_table.proofs.Masks.{no_chain}
 use Rattle.hashlink_table.proofs.Moving.{within_kept}
 use Rattle.hashlink_table.proofs.Views.{contains_found, looked_at, none_left, tag_agrees}
 use Rattle.hashlink_table.proofs.Walks.{walk_of, walk_goes}
+use Rattle.hashlink_table.proofs.search.seek.Given as given
+use Rattle.hashlink_table.proofs.search.seek.Goals.{After-base_of-base, In_default}
 use Rattle.hashlink_table.proofs.search.seek.Goals as goal
 
 pub seek_overflow-requires-clause-bucket : goal.seek_overflow-requires-clause-bucket
 seek_overflow-requires-clause-bucket g c =
     c.bucket_of-bucket.ensures ∙ ap (λ m. c.args.hash % m) c.len-buckets.ensures
 
--- the group of a hash
-group_is : (hash m len base : ℕ) → len ≡ m → base ≡ hash % len - hash % len % 16 → base
-    ≡ hash % m - hash % m % 16
-group_is hash m len base n is = is ∙ ap (λ k. hash % k - hash % k % 16) n
+-- the group of the hash, and the nodes that are looked at there and in the chain
+module _ (g : given.Over) (c : After-base_of-base g) where
+  abbrev m : ℕ
+  m = length c.args.slots.now
+
+  group : c.base_of-base.result ≡ c.args.hash % m - c.args.hash % m % 16
+  group = c.base_of-base.ensures ∙ ap (λ k. c.args.hash % k - c.args.hash % k % 16) c.len-buckets.ensures
+
+  looked : count_by (may_be c.args.hash) (lanes_of c.args.slots.now c.base_of-base.result)
+      + count_by (λ d. eqb (chain_of m d.kept) (c.args.hash % m)) c.args.cells.now
+      ≤ count_by (λ k. eqb (k.hash % m) (c.args.hash % m))
+      (nodes_in c.args.slots.now ++ nodes_in c.args.cells.now)
+  looked =
+      looked_at c.args.slots.now c.args.cells.now c.args.hash c.base_of-base.result c.requires.masked
+      c.requires.whole c.requires.arranged.1.in_place group
 
 -- a node of the group with the tag of the hash is of its bucket
 pub seek_slots-requires-clause-callable : goal.seek_slots-requires-clause-callable
@@ -28,10 +42,9 @@ seek_slots-requires-clause-callable g c at kept from to is same =
     let slots = c.args.slots.now in
     let m = length slots in
     let b = c.args.hash % m in
-    let some = positive_by_power m c.requires.masked in
-    let base = group_is c.args.hash _ _ _ c.len-buckets.ensures c.base_of-base.ensures in
-    let own = tag_agrees m b c.args.hash at (kept_at slots at) some c.requires.whole refl
-    (c.requires.arranged.1.in_place at)
+    let base = group g (goal.at.seek_slots-requires-clause-callable g c).After-base_of-base in
+    let own = tag_agrees m b c.args.hash at (kept_at slots at) (positive_by_power m c.requires.masked)
+    c.requires.whole refl (c.requires.arranged.1.in_place at)
     (grouped_in b at (omega (arith, base, from)) (omega (arith, base, to)))
     (rw is (eq-eqb (tag_of kept.hash) (tag_of c.args.hash) same)) in
     c.requires.callable kept.hash kept.node (contains_found slots c.args.cells.now (Slot at) kept is)
@@ -39,36 +52,35 @@ seek_slots-requires-clause-callable g c at kept from to is same =
 
 pub seek_slots-requires-clause-telling : goal.seek_slots-requires-clause-telling
 seek_slots-requires-clause-telling g c at kept is =
-    c.requires.telling kept.hash kept.node (contains_found c.args.slots.now c.args.cells.now (Slot at) kept is)
+    c.requires.telling kept.hash kept.node
+    (contains_found c.args.slots.now c.args.cells.now (Slot at) kept is)
 
 pub seek_overflow-requires-clause-callable : goal.seek_overflow-requires-clause-callable
 seek_overflow-requires-clause-callable g c cell node is =
-    c.requires.callable c.args.hash node (contains_found c.args.slots.now c.args.cells.now (Overflow cell) _ is) refl
+    c.requires.callable c.args.hash node
+    (contains_found c.args.slots.now c.args.cells.now (Overflow cell) _ is) refl
 
 -- what none of the group has no slot has
-none_in_slots : {N : Type 0} (slots : List (Cell N)) (hash len base : ℕ) (refused : N → Type 0) → IsInPlace slots
-    → len ≡ length slots → base ≡ hash % len - hash % len % 16
-    → ((at : ℕ) (node : N) → base ≤ at → at < base + 16
-    → kept_at slots at ≡ Some (record { hash = hash; node = node }) → refused node)
-    → (at : ℕ) (node : N) → kept_at slots at ≡ Some (record { hash = hash; node = node })
-    → refused node
-none_in_slots slots hash len base refused in_place n is none at node kept =
-    let b = hash % length slots in
-    let first = group_is hash _ _ _ n is in
-    let same = in_place at _ kept in
-    none at node (omega (arith, first, from_base b at same)) (omega (arith, first, to_base b at same)) kept
+none_in_slots : (g : given.Over) (c : In_default g) (at : ℕ) (node : g.row.N.Denot)
+    → kept_at c.args.slots.now at ≡ Some (record { hash = c.args.hash; node = node })
+    → g.F.Fn.post c.args.is_match.now (node, tt) false
+none_in_slots g c at node kept =
+    let b = c.args.hash % length c.args.slots.now in
+    let first = c.base_of-base.ensures
+    ∙ ap (λ k. c.args.hash % k - c.args.hash % k % 16) c.len-buckets.ensures in
+    let same = c.requires.arranged.1.in_place at _ kept in
+    c.in_default.ensures.none at node (omega (arith, first, from_base b at same))
+    (omega (arith, first, to_base b at same)) kept
 
 pub returns-then-free-ne0-clause-none : goal.returns-then-free-ne0-clause-none
 returns-then-free-ne0-clause-none g c =
     none_left c.args.slots.now c.args.cells.now c.args.hash _
-    (none_in_slots c.args.slots.now c.args.hash _ _ _ c.requires.arranged.1.in_place c.len-buckets.ensures
-    c.base_of-base.ensures c.in_default.ensures.none)
+    (none_in_slots g (goal.at.returns-then-free-ne0-clause-none g c).In_default)
     (λ cell node is.
     let slots = c.args.slots.now in let cells = c.args.cells.now in
     let m = length slots in let b = c.args.hash % m in
-    let some = positive_by_power m c.requires.masked in
-    let low : b < m = omega (arith, some) in
-    let base = group_is c.args.hash _ _ _ c.len-buckets.ensures c.base_of-base.ensures in
+    let low : b < m = omega (arith, positive_by_power m c.requires.masked) in
+    let base = group g (goal.at.returns-then-free-ne0-clause-none g c).After-base_of-base in
     let none = no_chain slots c.base_of-base.result b base
     (omega (arith, group_within b m low c.requires.whole, base)) c.requires.arranged.1.filled
     (λ e. c.if-free-ne0.true (c.free.ensures.lanes ∙ e)) in
@@ -80,38 +92,20 @@ returns-then-free-ne0-clause-none g c =
 pub returns-in-None-clause-none : goal.returns-in-None-clause-none
 returns-in-None-clause-none g c =
     none_left c.args.slots.now c.args.cells.now c.args.hash _
-    (none_in_slots c.args.slots.now c.args.hash _ _ _ c.requires.arranged.1.in_place c.len-buckets.ensures
-    c.base_of-base.ensures c.in_default.ensures.none)
-    c.in-None.ensures.none
+    (none_in_slots g (goal.at.returns-in-None-clause-none g c).In_default) c.in-None.ensures.none
 
 pub returns-in-Some-clause-cost : goal.returns-in-Some-clause-cost
 returns-in-Some-clause-cost g c =
-    omega (
-      arith,
-      looked_at c.args.slots.now c.args.cells.now c.args.hash _ c.requires.masked c.requires.whole
-          c.requires.arranged.1.in_place (group_is c.args.hash _ _ _ c.len-buckets.ensures c.base_of-base.ensures),
-    )
+    omega (arith, looked g (goal.at.returns-in-Some-clause-cost g c).After-base_of-base)
 
 pub returns-then-free-ne0-clause-cost : goal.returns-then-free-ne0-clause-cost
 returns-then-free-ne0-clause-cost g c =
-    omega (
-      arith,
-      looked_at c.args.slots.now c.args.cells.now c.args.hash _ c.requires.masked c.requires.whole
-          c.requires.arranged.1.in_place (group_is c.args.hash _ _ _ c.len-buckets.ensures c.base_of-base.ensures),
-    )
+    omega (arith, looked g (goal.at.returns-then-free-ne0-clause-cost g c).After-base_of-base)
 
 pub returns-in-Some-seek_overflow-clause-cost : goal.returns-in-Some-seek_overflow-clause-cost
 returns-in-Some-seek_overflow-clause-cost g c =
-    omega (
-      arith,
-      looked_at c.args.slots.now c.args.cells.now c.args.hash _ c.requires.masked c.requires.whole
-          c.requires.arranged.1.in_place (group_is c.args.hash _ _ _ c.len-buckets.ensures c.base_of-base.ensures),
-    )
+    omega (arith, looked g (goal.at.returns-in-Some-seek_overflow-clause-cost g c).After-base_of-base)
 
 pub returns-in-None-clause-cost : goal.returns-in-None-clause-cost
 returns-in-None-clause-cost g c =
-    omega (
-      arith,
-      looked_at c.args.slots.now c.args.cells.now c.args.hash _ c.requires.masked c.requires.whole
-          c.requires.arranged.1.in_place (group_is c.args.hash _ _ _ c.len-buckets.ensures c.base_of-base.ensures),
-    )
+    omega (arith, looked g (goal.at.returns-in-None-clause-cost g c).After-base_of-base)

@@ -12,7 +12,8 @@ use Rattle.hashlink_table.proofs.Walks.{steps_left, steps_left-falls, IsAt}
 use Rattle.hashlink_table.proofs.search.seek_overflow.Given as given
 use Rattle.hashlink_table.proofs.search.seek_overflow.Goals as goal
 use Rattle.hashlink_table.proofs.search.seek_overflow.Goals.{else-kept-hash-via-then-kept-hash+else-is_match}
-use Rattle.hashlink_table.proofs.search.seek_overflow.Goals.{else-kept-hash-via-else-kept-hash, After-index-cells-at}
+use Rattle.hashlink_table.proofs.search.seek_overflow.Goals.{else-kept-hash-via-else-kept-hash}
+use Rattle.hashlink_table.proofs.search.seek_overflow.Goals.{After-index-cells-at}
 
 -- the bucket is one of the buckets
 low : (m bucket hash : ℕ) → IsPowerOfTwo m → bucket ≡ hash % m → bucket < m
@@ -57,7 +58,8 @@ is_match-requires g c =
 
 pub returns-then-is_match-clause-found : goal.returns-then-is_match-clause-found
 returns-then-is_match-clause-found g c = (
-  (here g (goal.at.returns-then-is_match-clause-found g c).After-index-cells-at).kept ∙ c.look-kept.ensures.value
+  (here g (goal.at.returns-then-is_match-clause-found g c).After-index-cells-at).kept
+      ∙ c.look-kept.ensures.value
       ∙ ap (λ h. let k : Hashed g.row.N.Denot = record { hash = h; node = c.look-kept.result.node } in
       Some k)
       c.if-kept-hash.true,
@@ -74,21 +76,23 @@ loop-at-smaller g c =
     let cells = c.args.cells.now in
     subst (λ n. steps_left (next_at cells) (length cells) n < steps_left (next_at cells)
     (length cells) c.loop-at.at)
-    ((here g (goal.at.loop-at-smaller g c).After-index-cells-at).next ∙ sym c.next-at-in-loop-at.ensures.value)
+    ((here g (goal.at.loop-at-smaller g c).After-index-cells-at).next
+    ∙ sym c.next-at-in-loop-at.ensures.value)
     (steps_left-falls c.loop-at.invariant.walk c.loop-at-test.true)
 
 pub loop-at-preserved : goal.loop-at-preserved
 loop-at-preserved g c =
+    let read = here g (goal.at.loop-at-preserved g c).After-index-cells-at in
     search_on c.loop-at.invariant c.loop-at-test.true
     (λ node sought.
-    let same = same_Some _ _ (sym c.look-kept.ensures.value ∙ sym (here g (goal.at.loop-at-preserved g c).After-index-cells-at).kept ∙ sought) in
+    let same = same_Some _ _ (sym c.look-kept.ensures.value ∙ sym read.kept ∙ sought) in
     elim c.else-kept-hash.branch as (λ _. g.F.Fn.post c.args.is_match.now (node, tt) false) [
       | else-kept-hash-via-then-kept-hash+else-is_match w ↦
           subst (λ (k : Hashed g.row.N.Denot). g.F.Fn.post c.args.is_match.now (k.node, tt) false) same
           w.if-is_match.ensures
       | else-kept-hash-via-else-kept-hash w ↦
           absurd (w.if-kept-hash.false (ap (λ (k : Hashed g.row.N.Denot). k.hash) same))
-    ]) _ _ ((here g (goal.at.loop-at-preserved g c).After-index-cells-at).next ∙ sym c.next-at-in-loop-at.ensures.value) c.look-kept.ensures.step
+    ]) _ _ (read.next ∙ sym c.next-at-in-loop-at.ensures.value) c.look-kept.ensures.step
 
 pub returns-clause-none : goal.returns-clause-none
 returns-clause-none g c = λ cell node sought.

@@ -38,7 +38,8 @@ loop-cells-init g c =
       to_come = to_come;
       apart = rw c.next-at.ensures.value at c.if-at-cell.false;
       within =
-          on_within m cells _ c.args.bucket (walk_at w.0 (walk_goes w.0 c.args.cell to_come)) c.requires.within;
+          on_within m cells _ c.args.bucket (walk_at w.0 (walk_goes w.0 c.args.cell to_come))
+          c.requires.within;
     })
 
 pub loop-cells-smaller : goal.loop-cells-smaller

@@ -4,7 +4,8 @@ use Rattle.hashlink_table.proofs.Storing.{agrees_free, group_tests, sizes}
 use Rattle.hashlink_table.proofs.store.slots.Slots.free.Goals as goal
 
 pub lanes_with-requires : goal.lanes_with-requires
-lanes_with-requires g c = omega (arith, ap length c.deref.ensures.value, sizes c.self.invariant c.self.view_is)
+lanes_with-requires g c =
+    omega (arith, ap length c.deref.ensures.value, sizes c.self.invariant c.self.view_is)
 
 pub returns-clause-lanes : goal.returns-clause-lanes
 returns-clause-lanes g c =

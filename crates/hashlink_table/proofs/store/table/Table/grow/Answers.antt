@@ -8,7 +8,8 @@ use Rattle.hashlink_table.specs.Contents.{Contents}
 use Rattle.hashlink_table.specs.Chains.{nodes_in}
 use Rattle.hashlink_table.proofs.Sound.{sound-doubled, sound-moved}
 use Rattle.hashlink_table.proofs.store.table.Table.grow.Goals as goal
-use Rattle.hashlink_table.proofs.store.table.Table.grow.Goals.{then-buckets-now, else-buckets-now, After-double, In_ok-chained}
+use Rattle.hashlink_table.proofs.store.table.Table.grow.Goals.{then-buckets-now, else-buckets-now}
+use Rattle.hashlink_table.proofs.store.table.Table.grow.Goals.{After-double, In_ok-chained}
 use Rattle.hashlink_table.proofs.store.table.Table.grow.Given as given
 
 -- no node is lost where the buckets double
@@ -42,7 +43,7 @@ twice_as_many g c =
 -- the overflow cells may keep the block that they were moved to
 pub invariant_of-self-in_err-chained : goal.invariant_of-self-in_err-chained
 invariant_of-self-in_err-chained g c =
-    let s = c.self.invariant in let failed = c.in_err-chained.ensures in
+    let s = c.self.invariant in let z = s.sizes in let failed = c.in_err-chained.ensures in
     let twice = twice_as_many g (goal.at.invariant_of-self-in_err-chained g c).After-double in
     let exact = c.in_ok-block.ensures.exact in
     sound-moved c.double.new.slots c.double.new.cells.items _ s failed.slots_same failed.cells_same
@@ -50,12 +51,12 @@ invariant_of-self-in_err-chained g c =
       arith,
       failed.least,
       exact,
-      s.sizes.reserved,
+      z.reserved,
       c.requires.more,
       ap (λ (u : Contents g.row.N.Denot). u.room) c.self.view_is,
     ))
-    (omega (arith, failed.most, exact, s.sizes.spare, s.sizes.bounded, c.requires.headed, twice, c.len-now.ensures))
-    (λ e. absurd (omega (arith, (s.sizes.none e).0, c.requires.some, c.requires.headed, twice, c.len-now.ensures)))
+    (omega (arith, failed.most, exact, z.spare, z.bounded, c.requires.headed, twice, c.len-now.ensures))
+    (λ e. absurd (omega (arith, (z.none e).0, c.requires.some, c.requires.headed, twice, c.len-now.ensures)))
 
 pub invariant_of-self-2 : goal.invariant_of-self-2
 invariant_of-self-2 g c =
