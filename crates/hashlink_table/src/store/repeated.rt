@@ -1,5 +1,4 @@
-ghost use Rattle.std.specs.Prelude.{◌≡◌, ◌+◌, ◌^◌, ◌<◌, ◌++◌, IfOk, OnErr, OnOk, replicate};
-ghost use Rattle.std.specs.Prelude.{vec_capacity, vec_len};
+ghost use Rattle.std.specs.Prelude.{◌≡◌, ◌+◌, ◌≤◌, ◌++◌, IfOk, replicate, vec_capacity, vec_len};
 
 use std::alloc::{AllocError, Global};
 
@@ -14,12 +13,11 @@ pub fn repeated<T: Copy>(alloc: Global, value: T, count: usize) -> Result<Vec<T>
     Ok(list)
 }
 
-/// Adds this value so many times. It fails only if the list has to grow for it.
-pub fn add_repeated<T: Copy>(list: &mut Vec<T>, value: T, count: usize) -> Result<(), AllocError>
-    requires small { vec_len list.old + count < 2 ^ 64 }
-    ensures ok { OnOk result (list.new.items ≡ list.old.items ++ replicate count value) }
-    ensures err { OnErr result (vec_capacity list.old < vec_len list.old + count) }
+/// Adds this value so many times, for which there is room.
+pub fn add_repeated<T: Copy>(list: &mut Vec<T>, value: T, count: usize)
+    requires roomy { vec_len list.old + count ≤ vec_capacity list.old }
+    ensures { list.new.items ≡ list.old.items ++ replicate count value }
 {
     let all = list.len() + count;
-    list.resize(all, value)
+    list.resize(all, value).unwrap();
 }

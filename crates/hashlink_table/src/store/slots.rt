@@ -146,9 +146,9 @@ impl<N: Copy> Slots<N> {
             hash: 0,
             link: END as u32,
         };
-        add_repeated(&mut self.rests, bare, count)?;
-        add_repeated(&mut self.nodes, filler, count)?;
-        add_repeated(&mut self.tags, 0, count)?;
+        add_repeated(&mut self.rests, bare, count);
+        add_repeated(&mut self.nodes, filler, count);
+        add_repeated(&mut self.tags, 0, count);
         Ok(())
     }
 

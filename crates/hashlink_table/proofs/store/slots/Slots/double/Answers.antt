@@ -11,23 +11,18 @@ use Rattle.hashlink_table.proofs.store.slots.Slots.double.Given as given
 use Rattle.hashlink_table.proofs.store.slots.Slots.double.Goals as goal
 
 pub loop-at-init : goal.loop-at-init
-loop-at-init g c = record {
-  tagged =
-      rw (
-        c.as_mut_slice-tags.ensures.value,
-        c.as_mut_slice-nodes.ensures.value,
-        c.as_mut_slice-rests.ensures.value,
-      )
-      c.self.invariant;
-  halves =
-      rw (
-        c.as_mut_slice-tags.ensures.value,
-        c.as_mut_slice-nodes.ensures.value,
-        c.as_mut_slice-rests.ensures.value,
-      )
-      (c.self.view_is ∙ c.in_ok-widen.ensures.ok
-      ∙ ap (λ n. c.args.self.now ++ replicate n bare_cell) c.len-count.ensures);
-}
+loop-at-init g c =
+    rw (
+      c.as_mut_slice-tags.ensures.value,
+      c.as_mut_slice-nodes.ensures.value,
+      c.as_mut_slice-rests.ensures.value,
+    )
+    (record {
+      tagged = c.self.invariant;
+      halves =
+          c.self.view_is ∙ c.in_ok-widen.ensures.ok
+          ∙ ap (λ n. c.args.self.now ++ replicate n bare_cell) c.len-count.ensures;
+    })
 
 pub part-requires-clause-power : goal.part-requires-clause-power
 part-requires-clause-power g c =

@@ -1,4 +1,4 @@
--- The additions cannot fail, and each list grows by as many.
+-- Each list grows by as many.
 use Rattle.std.proofs.Common.{◌++◌, replicate, refl}
 use Rattle.std.proofs.lemmas.List.{length-replicate}
 use Rattle.hashlink_table.specs.Stored.{bare_cell}
@@ -7,16 +7,16 @@ use Rattle.hashlink_table.proofs.store.slots.Slots.widen.Given as given
 use Rattle.hashlink_table.proofs.store.slots.Slots.widen.Goals as goal
 
 -- what the lists are then
-wider : (g : given.Over) (c : goal.In_ok-add_repeated-3 g)
+wider : (g : given.Over) (c : goal.After-add_repeated-3 g)
     → AreCells c.add_repeated-3.new.list.items c.add_repeated-2.new.list.items c.add_repeated.new.list.items
     (c.args.self.now ++ replicate c.args.count bare_cell)
 wider g c =
     more_cells c.self.invariant c.self.view_is _ _ _ _ _ _ _
     (bare_cells (replicate c.args.count c.args.filler) _ _ c.args.count
     (length-replicate c.args.count c.args.filler) refl refl)
-    (rw c.in_ok-reserve_exact-3.ensures.items at c.in_ok-add_repeated-3.ensures.ok)
-    (rw c.in_ok-reserve_exact-2.ensures.items at c.in_ok-add_repeated-2.ensures.ok)
-    (rw c.in_ok-reserve_exact.ensures.items at c.in_ok-add_repeated.ensures.ok)
+    (rw c.in_ok-reserve_exact-3.ensures.items at c.add_repeated-3.ensures)
+    (rw c.in_ok-reserve_exact-2.ensures.items at c.add_repeated-2.ensures)
+    (rw c.in_ok-reserve_exact.ensures.items at c.add_repeated.ensures)
 
 pub invariant_of-self-2 : goal.invariant_of-self-2
 invariant_of-self-2 g c = (wider g c).0
