@@ -7,9 +7,7 @@ pub fn repeated<T: Copy>(alloc: Global, value: T, count: usize) -> Result<Vec<T>
     ensures { IfOk result (λ list. list.items ≡ replicate count value) }
 {
     let mut list = Vec::with_capacity(alloc, count)?;
-    for _ in 0..count {
-        list.push_reserved(value);
-    }
+    add_repeated(&mut list, value, count);
     Ok(list)
 }
 
