@@ -44,6 +44,7 @@ module _ {N : Type 0} where
   zipped [] = refl
   zipped (row ∷ rows) = ap (λ rest. slot row ∷ rest) (zipped rows)
 
+  -- the parts of a list of rows hold the rows' cells
   by_rows : (rows : List (Row N)) (ts : List ℕ) (ns : List N) (rs : List Rest) (v : List (Cell N))
       → All IsStored rows → ts ≡ map (λ row. row.tag) rows → ns ≡ map (λ row. row.node) rows
       → rs ≡ map (λ row. row.rest) rows → v ≡ map slot rows

@@ -40,9 +40,6 @@ part-requires-clause-within g c =
       sizes c.loop-at.invariant.tagged refl,
     )
 
-pub part-requires-clause-tagged : goal.part-requires-clause-tagged
-part-requires-clause-tagged g c = c.loop-at.invariant.tagged
-
 pub loop-at-preserved : goal.loop-at-preserved
 loop-at-preserved g c = record {
   tagged = c.part.ensures.tagged;
