@@ -1,9 +1,10 @@
 -- What a write to the cells does to their chains.
 use Rattle.std.proofs.Common.{◌≡◌, ◌≢◌, ℕ, zero, suc, ◌+◌, ◌<◌, ◌≤◌, inl, inr, List, [], ◌∷◌, ◌++◌, map}
-use Rattle.std.proofs.Common.{IsSome, length, get_or, set, refl, sym, ap, ◌∙◌, subst, arith}
-use Rattle.std.proofs.lemmas.Bool.{cases_eq, cases_lt, false≢true}
+use Rattle.std.proofs.Common.{IsSome, length, get_or, set, refl, ap, ◌∙◌, subst, arith}
+use Rattle.std.proofs.lemmas.Bool.{cases_lt, false≢true}
 use Rattle.std.proofs.lemmas.List.{get_or-set_same, get_or-set_other, get_or_push, get_or-map, get_or_past}
-use Rattle.std.proofs.lemmas.List.{get_or_default, length-map, map-set, map_push}
+use Rattle.std.proofs.lemmas.List.{get_or_default, length-map, length-set, length_push, map-set, map_push}
+use Rattle.std.proofs.Math.Seq.{map-set_same}
 use Rattle.hashlink_table.specs.declared.store.cell.Cell.{Cell}
 use Rattle.hashlink_table.specs.Chains.{kept_at, next_at, chain_of, chain_at}
 use Rattle.hashlink_table.specs.Stored.{bare_cell}
@@ -47,12 +48,16 @@ module _ {N : Type 0} where
       → (get_or cells i d).next ≡ next_at cells i
   next_at_read cells i d h = ap (λ (c : Cell N). c.next) (get_or_default cells i d bare_cell h)
 
+  -- the chain of a cell is that of what it has
+  pub chain_at_within : (buckets : ℕ) (cells : List (Cell N)) (i : ℕ) → i < length cells
+      → chain_at buckets cells i ≡ chain_of buckets (kept_at cells i)
+  chain_at_within buckets cells i h = get_or-map (label buckets) cells i bare_cell (suc buckets) h
+
   pub chain_at-set : (buckets : ℕ) (cells : List (Cell N)) (i : ℕ) (c : Cell N) → i < length cells
       → chain_at buckets (set cells i c) i ≡ chain_of buckets c.kept
   chain_at-set buckets cells i c h =
-      ap (λ ls. get_or ls i (suc buckets)) (map-set (label buckets) cells i c)
-      ∙ get_or-set_same (map (label buckets) cells) i (label buckets c) (suc buckets)
-      (omega (arith, length-map cells (label buckets)))
+      chain_at_within buckets (set cells i c) i (omega (arith, h, length-set cells i c))
+      ∙ ap (chain_of buckets) (kept_at-set cells i c h)
 
   pub chain_at-set_other : (buckets : ℕ) (cells : List (Cell N)) (i : ℕ) (c : Cell N)
       → SameBut i (chain_at buckets cells) (chain_at buckets (set cells i c))
@@ -61,17 +66,12 @@ module _ {N : Type 0} where
       ∙ get_or-set_other (map (label buckets) cells) i j (label buckets c) (suc buckets) ne
 
   -- a write that changes no node changes no chain
-  pub chain_at-set_same : (buckets : ℕ) (cells : List (Cell N)) (i : ℕ) (c : Cell N) → i < length cells
+  pub chain_at-set_same : (buckets : ℕ) (cells : List (Cell N)) (i : ℕ) (c : Cell N)
       → c.kept ≡ kept_at cells i → (j : ℕ)
       → chain_at buckets (set cells i c) j ≡ chain_at buckets cells j
-  chain_at-set_same buckets cells i c h same j =
-      elim (cases_eq j i) as (λ _. chain_at buckets (set cells i c) j ≡ chain_at buckets cells j) [
-        | inl e ↦ ap (chain_at buckets (set cells i c)) e ∙ chain_at-set buckets cells i c h
-            ∙ ap (chain_of buckets) same
-            ∙ sym (get_or-map (label buckets) cells i bare_cell (suc buckets) h)
-            ∙ ap (chain_at buckets cells) (sym e)
-        | inr ne ↦ chain_at-set_other buckets cells i c j ne
-      ]
+  chain_at-set_same buckets cells i c same j =
+      ap (λ ls. get_or ls j (suc buckets))
+      (map-set_same (label buckets) cells i c bare_cell (ap (chain_of buckets) same))
 
   -- after a push
   pub next_at-push : (cells : List (Cell N)) (c : Cell N) → next_at (cells ++ c ∷ []) (length cells) ≡ c.next
@@ -84,9 +84,8 @@ module _ {N : Type 0} where
   pub chain_at-push : (buckets : ℕ) (cells : List (Cell N)) (c : Cell N)
       → chain_at buckets (cells ++ c ∷ []) (length cells) ≡ chain_of buckets c.kept
   chain_at-push buckets cells c =
-      ap (λ ls. get_or ls (length cells) (suc buckets)) (map_push (label buckets) cells c)
-      ∙ get_or_push (map (label buckets) cells) (label buckets c) (suc buckets) (length cells)
-      (length-map cells (label buckets))
+      chain_at_within buckets (cells ++ c ∷ []) (length cells) (omega (arith, length_push cells c))
+      ∙ ap (label buckets) (get_or_push cells c bare_cell (length cells) refl)
 
   pub chain_at-push_other : (buckets : ℕ) (cells : List (Cell N)) (c : Cell N)
       → SameBut (length cells) (chain_at buckets cells) (chain_at buckets (cells ++ c ∷ []))
@@ -101,10 +100,6 @@ module _ {N : Type 0} where
   chain_at_past buckets cells i h =
       get_or_past (map (label buckets) cells) i (suc buckets)
       (omega (arith, length-map cells (label buckets)))
-
-  pub chain_at_within : (buckets : ℕ) (cells : List (Cell N)) (i : ℕ) → i < length cells
-      → chain_at buckets cells i ≡ chain_of buckets (kept_at cells i)
-  chain_at_within buckets cells i h = get_or-map (label buckets) cells i bare_cell (suc buckets) h
 
   pub within_by_chain : (buckets : ℕ) (cells : List (Cell N)) (i b : ℕ) → chain_at buckets cells i
       ≡ b → b ≤ buckets

@@ -1,7 +1,7 @@
 -- The slots are doubled: where each node is then, and that no bucket has a chain.
-use Rattle.std.proofs.Common.{◌≡◌, ℕ, ◌+◌, ◌-◌, ◌*◌, ◌/◌, ◌%◌, ◌<◌, ◌≤◌, ltb, Bool, true, false, cond, inl}
-use Rattle.std.proofs.Common.{inr, List, [], ◌∷◌, ◌++◌, length, map, get_or, Option, None, Some, refl, sym}
-use Rattle.std.proofs.Common.{ap, ◌∙◌, subst, arith}
+use Rattle.std.proofs.Common.{◌≡◌, ℕ, ◌+◌, ◌-◌, ◌*◌, ◌/◌, ◌%◌, ◌<◌, ◌≤◌, ◌⊎◌, ltb, Bool, true, false, inl}
+use Rattle.std.proofs.Common.{cond, inr, List, [], ◌∷◌, ◌++◌, length, map, get_or, Option, None, Some, refl}
+use Rattle.std.proofs.Common.{sym, ap, ◌∙◌, subst, arith}
 use Rattle.std.specs.Prelude.{IsPermutation}
 use Rattle.std.proofs.Math.Arith.{mod-mul}
 use Rattle.std.proofs.Math.ListN.{get_or-map}
@@ -14,8 +14,8 @@ use Rattle.std.proofs.lemmas.Option.{same_Some}
 use Rattle.hashlink_table.specs.declared.hashed.Hashed.{Hashed}
 use Rattle.hashlink_table.specs.declared.store.cell.Cell.{Cell}
 use Rattle.hashlink_table.specs.declared.store.cell.TheConstants.{END}
-use Rattle.hashlink_table.specs.Chains.{next_at, links_of, nodes_in, with_node, AreGrouped, IsFilled}
-use Rattle.hashlink_table.specs.Chains.{IsInPlace, IsLinked}
+use Rattle.hashlink_table.specs.Chains.{next_at, nodes_in, with_node, AreGrouped, IsArranged}
+use Rattle.hashlink_table.specs.Chains.{IsInPlace}
 use Rattle.hashlink_table.specs.Stored.{bare_cell}
 use Rattle.hashlink_table.specs.Slots.{doubled, high_half, high_kept, low_half, low_kept}
 use Rattle.hashlink_table.proofs.Moving.{within_kept}
@@ -23,31 +23,25 @@ use Rattle.hashlink_table.proofs.Nodes.{nodes_in-append}
 use Rattle.hashlink_table.proofs.Sound.{filled-none, linked-none}
 
 -- a hash's bucket among twice as many: the same, or so many further on
+doubled_bucket : (h m : ℕ) → 0 < m → (h % (2 * m) ≡ h % m) ⊎ (h % (2 * m) ≡ h % m + m)
+doubled_bucket h m some =
+    let split : h % (2 * m) ≡ h / m % 2 * m + h % m = mod-mul h {m = 2} (omega arith) some in
+    elim (cases_lt (h / m % 2) 1) as (λ _. (h % (2 * m) ≡ h % m) ⊎ (h % (2 * m) ≡ h % m + m)) [
+      | inl none ↦
+          let e : h / m % 2 ≡ 0 = omega (arith, none) in
+          inl (omega (arith, split ∙ ap (λ q. q * m + h % m) e))
+      | inr one ↦
+          let e : h / m % 2 ≡ 1 = omega (arith, one) in
+          inr (omega (arith, split ∙ ap (λ q. q * m + h % m) e))
+    ]
+
 bucket_low : (h m : ℕ) → 0 < m → h % (2 * m) < m → h % (2 * m) ≡ h % m
-bucket_low h m some low = elim (cases_lt (h / m % 2) 1) as (λ _. h % (2 * m) ≡ h % m) [
-  | inl none ↦
-      let e : h / m % 2 ≡ 0 = omega (arith, none) in
-      omega (arith, mod-mul h {m = 2} (omega arith) some ∙ ap (λ q. q * m + h % m) e)
-  | inr one ↦
-      let e : h / m % 2 ≡ 1 = omega (arith, one) in
-      absurd (omega (arith, low, mod-mul h {m = 2} (omega arith) some ∙ ap (λ q. q * m + h % m) e))
-]
+bucket_low h m some low = elim (doubled_bucket h m some) as (λ _. h % (2 * m) ≡ h % m)
+    [ inl e ↦ e | inr e ↦ absurd (omega (arith, low, e)) ]
 
 bucket_high : (h m : ℕ) → 0 < m → m ≤ h % (2 * m) → h % (2 * m) ≡ h % m + m
-bucket_high h m some high = elim (cases_lt (h / m % 2) 1) as (λ _. h % (2 * m) ≡ h % m + m) [
-  | inl none ↦
-      let e : h / m % 2 ≡ 0 = omega (arith, none) in
-      absurd (omega (
-        arith,
-        high,
-        mod_below h m some,
-        mod-mul h {m = 2} (omega arith) some
-            ∙ ap (λ q. q * m + h % m) e,
-      ))
-  | inr one ↦
-      let e : h / m % 2 ≡ 1 = omega (arith, one) in
-      omega (arith, mod-mul h {m = 2} (omega arith) some ∙ ap (λ q. q * m + h % m) e)
-]
+bucket_high h m some high = elim (doubled_bucket h m some) as (λ _. h % (2 * m) ≡ h % m + m)
+    [ inl e ↦ absurd (omega (arith, high, e, mod_below h m some)) | inr e ↦ e ]
 
 module _ {N : Type 0} where
   -- a node that stays, and one that moves
@@ -131,27 +125,25 @@ module _ {N : Type 0} where
       | inr high ↦ ap (λ (c : Cell N). c.next) (read_high b high)
     ]
 
-    pub linked-doubled : IsLinked {N = N} (links_of (doubled cells)) [] END
-    linked-doubled = linked-none (doubled cells) none-doubled
-
-    pub filled-doubled : IsFilled (doubled cells)
-    filled-doubled = filled-none (doubled cells) none-doubled
-
     -- each node is still in the group of its bucket
-    pub in_place-doubled : length cells % 16 ≡ 0 → IsInPlace cells → IsInPlace (doubled cells)
-    in_place-doubled whole p at k is =
-        subst (λ n. AreGrouped (k.hash % n) at) (sym length-doubled)
-        (elim (cases_lt at (length cells)) as (λ _. AreGrouped (k.hash % (2 * length cells)) at) [
-          | inl low ↦
-              let s = stays (length cells) _ k (sym (ap (λ (c : Cell N). c.kept) (read_low at low)) ∙ is) in
-              let bucket = bucket_low k.hash (length cells) (omega (arith, low)) s.1 in
-              ap (λ b. b / 16) bucket ∙ p at k s.0
-          | inr high ↦
-              let s = moves (length cells) _ k (sym (ap (λ (c : Cell N). c.kept) (read_high at high)) ∙ is) in
-              let within = within_kept cells (at - length cells) k s.0 in
-              let bucket = bucket_high k.hash (length cells) (omega (arith, within)) s.1 in
-              omega (arith, whole, high, bucket, p (at - length cells) k s.0)
-        ])
+    pub arranged-doubled : length cells % 16 ≡ 0 → IsInPlace cells → IsArranged (doubled cells) [] END
+    arranged-doubled whole p = record {
+      linked = linked-none (doubled cells) none-doubled;
+      filled = filled-none (doubled cells) none-doubled;
+      in_place = λ at k is. rw length-doubled
+          (elim (cases_lt at (length cells)) as (λ _. AreGrouped (k.hash % (2 * length cells)) at) [
+            | inl low ↦
+                let s = stays (length cells) _ k (sym (ap (λ (c : Cell N). c.kept) (read_low at low)) ∙ is) in
+                let bucket = bucket_low k.hash (length cells) (omega (arith, low)) s.1 in
+                ap (λ b. b / 16) bucket ∙ p at k s.0
+            | inr high ↦
+                let s = moves (length cells) _ k
+                (sym (ap (λ (c : Cell N). c.kept) (read_high at high)) ∙ is) in
+                let within = within_kept cells (at - length cells) k s.0 in
+                let bucket = bucket_high k.hash (length cells) (omega (arith, within)) s.1 in
+                omega (arith, whole, high, bucket, p (at - length cells) k s.0)
+          ]);
+    }
 
     -- and it is the same nodes
     pub nodes_in-doubled : IsPermutation (nodes_in cells) (nodes_in (doubled cells))

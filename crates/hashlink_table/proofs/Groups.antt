@@ -1,32 +1,19 @@
 -- Groups of sixteen.
 use Rattle.std.proofs.Common.{◌≡◌, ℕ, zero, suc, ◌+◌, ◌-◌, ◌/◌, ◌%◌, ◌^◌, ◌<◌, ◌≤◌, ap, ◌∙◌, arith}
-use Rattle.std.proofs.Math.Nat.{pow-succ'}
+use Rattle.std.proofs.lemmas.Nat.{pow-add}
 use Rattle.std.specs.Int.{IsPowerOfTwo}
 
 -- a power of two that is not small is whole groups
-pub whole_power : (m : ℕ) → IsPowerOfTwo m → 16 ≤ m → m % 16 ≡ 0
-whole_power m (zero, e) h = absurd (omega (arith, e, h))
-whole_power m (suc zero, e) h = absurd (omega (arith, e, h))
-whole_power m (suc (suc zero), e) h = absurd (omega (arith, e, h))
-whole_power m (suc (suc (suc zero)), e) h = absurd (omega (arith, e, h))
-whole_power m (suc (suc (suc (suc k))), e) h =
-    omega (
-      arith,
-      e,
-      pow-succ' 2 (suc (suc (suc k))),
-      pow-succ' 2 (suc (suc k)),
-      pow-succ' 2 (suc k),
-      pow-succ' 2 k,
-    )
-
--- and whole groups that are a power of two are sixteen or more of them
-pub groups_of : (m : ℕ) → IsPowerOfTwo m → m % 16 ≡ 0 → (k : ℕ) × (m ≡ 2 ^ (k + 4))
+pub groups_of : (m : ℕ) → IsPowerOfTwo m → 16 ≤ m → (k : ℕ) × (m ≡ 2 ^ (k + 4))
 groups_of m (zero, e) h = absurd (omega (arith, e, h))
 groups_of m (suc zero, e) h = absurd (omega (arith, e, h))
 groups_of m (suc (suc zero), e) h = absurd (omega (arith, e, h))
 groups_of m (suc (suc (suc zero)), e) h = absurd (omega (arith, e, h))
 groups_of m (suc (suc (suc (suc k))), e) h =
     let n : suc (suc (suc (suc k))) ≡ k + 4 = omega arith in (k, e ∙ ap (λ j. 2 ^ j) n)
+
+pub whole_power : (m : ℕ) → IsPowerOfTwo m → 16 ≤ m → m % 16 ≡ 0
+whole_power m power h = let g = groups_of m power h in omega (arith, g.1, pow-add 2 g.0 4)
 
 -- the group of a bucket lies among the buckets
 pub group_within : (b m : ℕ) → b < m → m % 16 ≡ 0 → b - b % 16 + 16 ≤ m

@@ -1,268 +1,194 @@
 -- Where the buckets are doubled: a cell in parts, and all cells, one after the other.
-use Rattle.std.proofs.Common.{◌≡◌, ℕ, zero, suc, ◌+◌, ◌*◌, ◌%◌, ◌<◌, ◌≤◌, ◌⊎◌, inl, inr, Bool, true, false}
-use Rattle.std.proofs.Common.{cond, eqb, ltb, List, [], ◌∷◌, ◌++◌, length, map, get_or, set, replicate}
-use Rattle.std.proofs.Common.{Option, Some, None, refl, sym, ap, ◌∙◌, subst, arith}
+use Rattle.std.proofs.Common.{◌≡◌, ℕ, suc, ◌+◌, ◌-◌, ◌*◌, ◌%◌, ◌<◌, inl, Bool, true, false, cond}
+use Rattle.std.proofs.Common.{ltb, List, [], ◌∷◌, ◌++◌, length, map, take, drop, get_or, set, replicate, Some}
+use Rattle.std.proofs.Common.{Option, None, refl, sym, ap, ◌∙◌, arith, append_assoc}
 use Rattle.std.specs.Int.{IsPowerOfTwo}
 use Rattle.std.proofs.Math.Nat.{pow-succ'}
-use Rattle.std.proofs.lemmas.Bool.{lt-ltb, le-ltb}
-use Rattle.std.proofs.lemmas.List.{set-get_or, set-append_left, set-append_right, get_or_append_left}
-use Rattle.std.proofs.lemmas.List.{length-append, length-replicate}
+use Rattle.std.proofs.lemmas.List.{append-nil, drop_all, drop_more, get_or_append_left, get_or-append_right}
+use Rattle.std.proofs.lemmas.List.{get_or-drop, get_or-map, length-take-le}
+use Rattle.std.proofs.lemmas.List.{length-append, length-drop, length-map, length-replicate, length-take}
+use Rattle.std.proofs.lemmas.List.{set-append_left, set-append_right, set_at, take_all, take_more}
 use Rattle.hashlink_table.specs.declared.hashed.Hashed.{Hashed}
 use Rattle.hashlink_table.specs.declared.store.cell.Cell.{Cell}
 use Rattle.hashlink_table.specs.declared.store.cell.TheConstants.{END}
 use Rattle.hashlink_table.specs.declared.store.slots.Rest.{Rest}
-use Rattle.hashlink_table.specs.Stored.{bare_cell, tag_of}
+use Rattle.hashlink_table.specs.Stored.{bare_cell}
 use Rattle.hashlink_table.specs.Slots.{slot, cells_in, low_kept, high_kept, low_half, high_half, doubled}
-use Rattle.hashlink_table.specs.Slots.{parted, IsStored, IsTagged}
-use Rattle.hashlink_table.proofs.Storing.{cell_at, stored_at, cells-set, tagged-set}
+use Rattle.hashlink_table.specs.Slots.{parted, IsStored, IsTagged, Row}
+use Rattle.hashlink_table.proofs.Storing.{AreCells, cell_at, node_at, node_stays, rest_at, row}
+use Rattle.hashlink_table.proofs.Storing.{stored, tag_at, written}
 
 -- so many buckets twice are a power of two again
 pub twice_power : (n : ℕ) → IsPowerOfTwo n → IsPowerOfTwo (2 * n)
 twice_power n power = (suc power.0, ap (λ (m : ℕ). 2 * m) power.1 ∙ sym (pow-succ' 2 power.0))
 
 -- the tags of both halves, where the node stays, or goes to the upper one
-abbrev pub IsApart : (count hash tag low high : ℕ) → Type 0
-IsApart count hash tag low high =
-    ((ltb (hash % (2 * count)) count ≡ true) × (low ≡ tag) × (high ≡ 0))
-    ⊎ ((ltb (hash % (2 * count)) count ≡ false) × (low ≡ 0) × (high ≡ tag))
-
-module _ (count hash tag bucket : ℕ) (halves : ℕ × ℕ) (is : bucket ≡ hash % (2 * count)) where
-  pub low_apart : bucket < count → halves ≡ (tag, 0) → IsApart count hash tag halves.0 halves.1
-  low_apart low e =
-      inl (lt-ltb (hash % (2 * count)) count (omega (arith, low, is)), ap (λ h. h.0) e, ap (λ h. h.1) e)
-
-  pub high_apart : count ≤ bucket → halves ≡ (0, tag) → IsApart count hash tag halves.0 halves.1
-  high_apart high e =
-      inr (le-ltb (hash % (2 * count)) count (omega (arith, high, is)), ap (λ h. h.0) e, ap (λ h. h.1) e)
-
--- the rest of both halves
-abbrev ended : Rest → Rest
-ended r = record { hash = r.hash; link = END }
-
-module _ {N : Type 0} where
-  -- what the halves of a cell are
-  module _ (count : ℕ) (k : Hashed N) where
-    -- a node where the test and whether there is a node are known
-    abbrev some_if : Bool → Option (Hashed N)
-    some_if none = cond none None (Some k)
-
-    low_some : (b none : Bool) → ltb (k.hash % (2 * count)) count ≡ b
-        → low_kept count (some_if none) ≡ cond b (some_if none) None
-    low_some true true is = refl
-    low_some false true is = refl
-    low_some true false is = ap (λ t. cond t (Some k) None) is
-    low_some false false is = ap (λ t. cond t (Some k) None) is
-
-    high_some : (b none : Bool) → ltb (k.hash % (2 * count)) count ≡ b
-        → high_kept count (some_if none) ≡ cond b None (some_if none)
-    high_some true true is = refl
-    high_some false true is = refl
-    high_some true false is = ap (λ t. cond t None (Some k)) is
-    high_some false false is = ap (λ t. cond t None (Some k)) is
-
-  low_cell : (count tag low high : ℕ) (n : N) (r : Rest) → IsApart count r.hash tag low high
-      → slot low n (ended r) ≡ low_half count (slot tag n r)
-  low_cell count tag low high n r parts =
-      ap (λ (o : Option (Hashed N)). let d : Cell N = record { kept = o; hash = r.hash; next = END } in d)
-      (by parts)
-    where
-      k : Hashed N
-      k = record { hash = r.hash; node = n }
-
-      by : IsApart count r.hash tag low high
-          → cond (eqb low 0) None (Some k) ≡ low_kept count (cond (eqb tag 0) None (Some k))
-      by (inl h) = ap (λ t. cond (eqb t 0) None (Some k)) h.1 ∙ sym (low_some count k true (eqb tag 0) h.0)
-      by (inr h) = ap (λ t. cond (eqb t 0) None (Some k)) h.1 ∙ sym (low_some count k false (eqb tag 0) h.0)
-
-  high_cell : (count tag low high : ℕ) (n : N) (r : Rest) → IsApart count r.hash tag low high
-      → slot high n (ended r) ≡ high_half count (slot tag n r)
-  high_cell count tag low high n r parts =
-      ap (λ (o : Option (Hashed N)). let d : Cell N = record { kept = o; hash = r.hash; next = END } in d)
-      (by parts)
-    where
-      k : Hashed N
-      k = record { hash = r.hash; node = n }
-
-      by : IsApart count r.hash tag low high
-          → cond (eqb high 0) None (Some k) ≡ high_kept count (cond (eqb tag 0) None (Some k))
-      by (inl h) = ap (λ t. cond (eqb t 0) None (Some k)) h.2 ∙ sym (high_some count k true (eqb tag 0) h.0)
-      by (inr h) = ap (λ t. cond (eqb t 0) None (Some k)) h.2 ∙ sym (high_some count k false (eqb tag 0) h.0)
+abbrev pub IsApart : (count hash tag : ℕ) → ℕ × ℕ → Type 0
+IsApart count hash tag tags =
+    (low : Bool) × (ltb (hash % (2 * count)) count ≡ low) × (tags ≡ cond low (tag, 0) (0, tag))
 
 -- one cell is doubled
-module _ {N : Type 0} (ts : List ℕ) (ns : List N) (rs : List Rest) (tagged : IsTagged ts ns rs) (at count : ℕ)
-    (within : at < length ts) (n : N) (at_n : n ≡ get_or ns at n) (d : Rest) (low high : ℕ)
-    (parts : IsApart count (get_or rs at d).hash (get_or ts at 0) low high) where
-  abbrev rest : Rest
-  rest = get_or rs at d
+module _ {N : Type 0} {ts : List ℕ} {ns : List N} {rs : List Rest} (tagged : IsTagged ts ns rs)
+    (at count : ℕ) (within : at < length (cells_in ts ns rs)) (d : Rest) (tags : ℕ × ℕ)
+    (parts : IsApart count (get_or rs at d).hash (get_or ts at 0) tags) where
+  was : Row N
+  was = row tagged refl at within
 
-  -- the node is put where it was
-  node_stays : set ns at n ≡ ns
-  node_stays = ap (set ns at) at_n ∙ set-get_or ns at n
+  -- what is stored of a half with this tag
+  abbrev half : ℕ → Row N
+  half tag = record { tag = tag; node = was.node; rest = record was.rest { link = END } }
 
-  stored_low : IsStored (ended rest) low
-  stored_low = record {
-    tagged = by parts (stored_at ts ns rs at d tagged within).tagged;
-    small = omega arith;
-  }
+  -- the node of a cell with a tag, or without
+  abbrev kept_if : Bool → Option (Hashed N)
+  kept_if none = cond none None (Some (record { hash = was.rest.hash; node = was.node }))
+
+  low_if : (b none : Bool) → ltb (was.rest.hash % (2 * count)) count ≡ b
+      → low_kept count (kept_if none) ≡ cond b (kept_if none) None
+  low_if true true is = refl
+  low_if false true is = refl
+  low_if b false is = rw is refl
+
+  high_if : (b none : Bool) → ltb (was.rest.hash % (2 * count)) count ≡ b
+      → high_kept count (kept_if none) ≡ cond b None (kept_if none)
+  high_if true true is = refl
+  high_if false true is = refl
+  high_if b false is = rw is refl
+
+  halves : IsStored (half tags.0) × IsStored (half tags.1) × (low_half count (slot was) ≡ slot (half tags.0))
+      × (high_half count (slot was) ≡ slot (half tags.1))
+  unfolding was
+  halves = by (rw (tag_at tagged refl at within 0, rest_at tagged refl at within d) at parts)
     where
-      by : IsApart count rest.hash (get_or ts at 0) low high
-          → (get_or ts at 0 ≡ 0) ⊎ (get_or ts at 0 ≡ tag_of rest.hash)
-          → (low ≡ 0) ⊎ (low ≡ tag_of rest.hash)
-      by (inl h) (inl e) = inl (h.1 ∙ e)
-      by (inl h) (inr e) = inr (h.1 ∙ e)
-      by (inr h) e = inl h.1
+      empty : IsStored (half 0)
+      empty = record { tagged = inl refl; small = omega arith }
 
-  stored_high : IsStored (ended rest) high
-  stored_high = record {
-    tagged = by parts (stored_at ts ns rs at d tagged within).tagged;
-    small = omega arith;
-  }
-    where
-      by : IsApart count rest.hash (get_or ts at 0) low high
-          → (get_or ts at 0 ≡ 0) ⊎ (get_or ts at 0 ≡ tag_of rest.hash)
-          → (high ≡ 0) ⊎ (high ≡ tag_of rest.hash)
-      by (inl h) e = inl h.2
-      by (inr h) (inl e) = inl (h.2 ∙ e)
-      by (inr h) (inr e) = inr (h.2 ∙ e)
+      full : IsStored (half was.tag)
+      full = record { tagged = (stored tagged refl at within).tagged; small = omega arith }
 
-  tagged-low : IsTagged (set ts at low) (set ns at n) (set rs at (ended rest))
-  tagged-low = tagged-set ts ns rs at low n (ended rest) tagged stored_low
+      cell : Option (Hashed N) → Cell N
+      cell kept = record { kept = kept; hash = was.rest.hash; next = END }
 
-  pub tagged-parted : IsTagged (set (set ts at low) (at + count) high) (set ns (at + count) n)
-      (set (set rs at (ended rest)) (at + count) (ended rest))
-  tagged-parted =
-      subst (λ (ms : List N). IsTagged (set (set ts at low) (at + count) high) (set ms (at + count) n)
-      (set (set rs at (ended rest)) (at + count) (ended rest)))
-      node_stays
-      (tagged-set (set ts at low) (set ns at n) (set rs at (ended rest)) (at + count) high n (ended rest)
-      tagged-low stored_high)
+      by : IsApart count was.rest.hash was.tag tags
+          → IsStored (half tags.0) × IsStored (half tags.1) × (low_half count (slot was) ≡ slot (half tags.0))
+          × (high_half count (slot was) ≡ slot (half tags.1))
+      by (true, test, e) = rw e (full, empty, ap cell (low_if true _ test), ap cell (high_if true _ test))
+      by (false, test, e) = rw e (empty, full, ap cell (low_if false _ test), ap cell (high_if false _ test))
 
-  pub parted_in : cells_in (set (set ts at low) (at + count) high) (set ns (at + count) n)
-      (set (set rs at (ended rest)) (at + count) (ended rest))
-      ≡ parted (cells_in ts ns rs) at count
-  parted_in =
-      let C : Type 0 = Cell N in
-      let cells : List C = cells_in ts ns rs in
-      let cell : slot (get_or ts at 0) n rest ≡ get_or cells at bare_cell
-      = ap (λ (m : N). slot (get_or ts at 0) m rest) at_n ∙ sym (cell_at ts ns rs at n d tagged within) in
-      let low_is : slot low n (ended rest) ≡ low_half count (get_or cells at bare_cell)
-      = low_cell count (get_or ts at 0) low high n rest parts ∙ ap (low_half count) cell in
-      let high_is : slot high n (ended rest) ≡ high_half count (get_or cells at bare_cell)
-      = high_cell count (get_or ts at 0) low high n rest parts ∙ ap (high_half count) cell in
-      ap (λ (ms : List N). cells_in (set (set ts at low) (at + count) high) (set ms (at + count) n)
-      (set (set rs at (ended rest)) (at + count) (ended rest))) (sym node_stays)
-      ∙ cells-set (set ts at low) (set ns at n) (set rs at (ended rest)) (at + count) high n (ended rest)
-      tagged-low
-      ∙ ap (λ (cs : List C). set cs (at + count) (slot high n (ended rest)))
-      (cells-set ts ns rs at low n (ended rest) tagged)
-      ∙ ap (λ (c : C). set (set cells at c) (at + count) (slot high n (ended rest))) low_is
-      ∙ ap (λ (c : C). set (set cells at (low_half count (get_or cells at bare_cell))) (at + count) c) high_is
+  pub parted_in : (n : N) → n ≡ get_or ns at n → (r : Rest) → r ≡ record (get_or rs at d) { link = END }
+      → AreCells (set (set ts at tags.0) (at + count) tags.1) (set ns (at + count) n)
+      (set (set rs at r) (at + count) r) (parted (cells_in ts ns rs) at count)
+  unfolding was
+  parted_in n at_n r is =
+      let node : n ≡ was.node = at_n ∙ node_at tagged refl at within n in
+      let rest : r ≡ record was.rest { link = END }
+      = is ∙ ap (λ (s : Rest). record s { link = END }) (rest_at tagged refl at within d) in
+      let cell : get_or (cells_in ts ns rs) at bare_cell ≡ slot was = cell_at tagged refl at within in
+      let first = written tagged refl at (half tags.0) (set ts at tags.0) ns (set rs at r)
+      (low_half count (get_or (cells_in ts ns rs) at bare_cell)) halves.0 refl
+      (node_stays tagged refl at within) (ap (set rs at) rest) (ap (low_half count) cell ∙ halves.2) in
+      written first.0 first.1 (at + count) (half tags.1) _ _ _ _ halves.1 refl (ap (set ns (at + count)) node)
+      (ap (set (set rs at r) (at + count)) rest) (ap (high_half count) cell ∙ halves.3)
 
--- the first so many of a list, each as the function makes it, and then those of another list
-abbrev pub so_far : {X Y : Type 0} → (X → Y) → ℕ → List X → List Y → List Y
-so_far f zero xs ys = ys
-so_far f (suc i) [] ys = ys
-so_far f (suc i) (x ∷ xs) [] = []
-so_far f (suc i) (x ∷ xs) (y ∷ ys) = f x ∷ so_far f i xs ys
+-- the first so many of a list, and then those of another list
+abbrev pub so_far : {X : Type 0} → ℕ → List X → List X → List X
+so_far i xs ys = take i xs ++ drop i ys
 
-module _ {X Y : Type 0} (f : X → Y) where
-  length-so_far : (i : ℕ) (xs : List X) (ys : List Y) → length (so_far f i xs ys) ≡ length ys
-  length-so_far zero xs ys = refl
-  length-so_far (suc i) [] ys = refl
-  length-so_far (suc i) (x ∷ xs) [] = refl
-  length-so_far (suc i) (x ∷ xs) (y ∷ ys) = ap suc (length-so_far i xs ys)
+module _ {X : Type 0} (xs ys : List X) (long : length ys ≡ length xs) (i : ℕ) where
+  length-so_far : length (so_far i xs ys) ≡ length xs
+  length-so_far =
+      omega (arith, length-append (take i xs) (drop i ys), length-take i xs, length-drop i ys, long)
 
-  -- the next is still to be made
-  so_far-next : (i : ℕ) (xs : List X) (ys : List Y) (d : Y) → get_or (so_far f i xs ys) i d ≡ get_or ys i d
-  so_far-next zero xs ys d = refl
-  so_far-next (suc i) [] ys d = refl
-  so_far-next (suc i) (x ∷ xs) [] d = refl
-  so_far-next (suc i) (x ∷ xs) (y ∷ ys) d = so_far-next i xs ys d
+  -- the next is still that of the other list
+  so_far-next : (d : X) → i < length xs → get_or (so_far i xs ys) i d ≡ get_or ys i d
+  so_far-next d low =
+      get_or-append_right (take i xs) (drop i ys) i i d (length-take-le i xs (omega arith)) (omega arith)
+      ∙ get_or-drop i ys (i - i) d ∙ ap (λ k. get_or ys k d) (omega arith)
 
-  -- it is made
-  so_far-on : (i : ℕ) (xs : List X) (ys : List Y) (d : X) → i < length xs
-      → set (so_far f i xs ys) i (f (get_or xs i d)) ≡ so_far f (suc i) xs ys
-  so_far-on i [] ys d low = absurd (omega (arith, low))
-  so_far-on zero (x ∷ xs) [] d low = refl
-  so_far-on zero (x ∷ xs) (y ∷ ys) d low = refl
-  so_far-on (suc i) (x ∷ xs) [] d low = refl
-  so_far-on (suc i) (x ∷ xs) (y ∷ ys) d low = ap (λ rest. f x ∷ rest)
-      (so_far-on i xs ys d (omega (arith, low)))
+  -- and is written
+  so_far-on : (d : X) → i < length xs → set (so_far i xs ys) i (get_or xs i d) ≡ so_far (i + 1) xs ys
+  so_far-on d low =
+      ap (λ rest. set (take i xs ++ rest) i (get_or xs i d)) (drop_more ys i d (omega arith))
+      ∙ set_at (take i xs) (get_or ys i d) (drop (i + 1) ys) (get_or xs i d) i
+      (length-take-le i xs (omega arith))
+      ∙ sym (ap (λ zs. zs ++ drop (i + 1) ys) (take_more xs i d low)
+      ∙ append_assoc (take i xs) (get_or xs i d ∷ []) (drop (i + 1) ys))
 
-  -- all are made
-  so_far-all : (i : ℕ) (xs : List X) (ys : List Y) → i ≡ length xs → length ys ≡ length xs
-      → so_far f i xs ys ≡ map f xs
-  so_far-all zero [] [] e long = refl
-  so_far-all zero [] (y ∷ ys) e long = absurd (omega (arith, long))
-  so_far-all zero (x ∷ xs) ys e long = absurd (omega (arith, e))
-  so_far-all (suc i) [] ys e long = absurd (omega (arith, e))
-  so_far-all (suc i) (x ∷ xs) [] e long = absurd (omega (arith, long))
-  so_far-all (suc i) (x ∷ xs) (y ∷ ys) e long =
-      ap (λ rest. f x ∷ rest) (so_far-all i xs ys (omega (arith, e)) (omega (arith, long)))
+  so_far-all : i ≡ length xs → so_far i xs ys ≡ xs
+  so_far-all e =
+      rw (take_all i xs (omega arith), drop_all i ys (omega arith)) (append-nil xs)
 
 -- the first so many cells are doubled
-abbrev pub doubled_to : {N : Type 0} → ℕ → List (Cell N) → List (Cell N)
-doubled_to at cells =
-    so_far (low_half (length cells)) at cells cells
-    ++ so_far (high_half (length cells)) at cells (replicate (length cells) bare_cell)
-
 module _ {N : Type 0} (cells : List (Cell N)) where
   abbrev count : ℕ
   count = length cells
 
-  abbrev bares : List (Cell N)
-  bares = replicate count bare_cell
+  abbrev lower : List (Cell N)
+  lower = map (low_half count) cells
+
+  abbrev upper : List (Cell N)
+  upper = map (high_half count) cells
 
   lows : ℕ → List (Cell N)
-  lows at = so_far (low_half count) at cells cells
+  lows at = so_far at lower cells
 
   highs : ℕ → List (Cell N)
-  highs at = so_far (high_half count) at cells bares
+  highs at = so_far at upper (replicate count bare_cell)
 
-  length-lows : (at : ℕ) → length (lows at) ≡ count
-  unfolding lows
-  length-lows at = length-so_far (low_half count) at cells cells
+  low_long : length cells ≡ length lower
+  low_long = sym (length-map cells (low_half count))
+
+  high_long : length (replicate count (bare_cell {N = N})) ≡ length upper
+  high_long = length-replicate count bare_cell ∙ sym (length-map cells (high_half count))
+
+  abbrev pub doubled_to : ℕ → List (Cell N)
+  doubled_to at = so_far at lower cells ++ so_far at upper (replicate count bare_cell)
 
   -- the next cell is doubled
-  on_here : (at : ℕ) → at < count → parted (lows at ++ highs at) at count ≡ lows (suc at) ++ highs (suc at)
-  unfolding lows highs
-  on_here at low =
-      let C : Type 0 = Cell N in
-      let x : C = get_or cells at bare_cell in
-      let read : get_or (lows at ++ highs at) at bare_cell ≡ x
-      = get_or_append_left (lows at) (highs at) bare_cell at (omega (arith, low, length-lows at))
-      ∙ so_far-next (low_half count) at cells cells bare_cell in
-      ap (λ (y : C). set (set (lows at ++ highs at) at (low_half count y)) (at + count) (high_half count y))
-      read
-      ∙ ap (λ (ys : List C). set ys (at + count) (high_half count x))
-      (set-append_left (lows at) (highs at) at (low_half count x) (omega (arith, low, length-lows at))
-      ∙ ap (λ (ys : List C). ys ++ highs at) (so_far-on (low_half count) at cells cells bare_cell low))
-      ∙ set-append_right (lows (suc at)) (highs at) count (at + count) (high_half count x)
-      (length-lows (suc at))
-      (omega arith)
-      ∙ ap (λ i. lows (suc at) ++ set (highs at) i (high_half count x)) (omega arith)
-      ∙ ap (λ (ys : List C). lows (suc at) ++ ys) (so_far-on (high_half count) at cells bares bare_cell low)
-
-  pub doubled-on : (at n : ℕ) → n ≡ count → at < count
-      → parted (doubled_to at cells) at n ≡ doubled_to (at + 1) cells
+  pub doubled-on : (at n : ℕ) → n ≡ count → at < count → parted (doubled_to at) at n ≡ doubled_to (at + 1)
   unfolding lows highs
   doubled-on at n is low =
-      let next : suc at ≡ at + 1 = omega arith in
-      ap (parted (doubled_to at cells) at) is ∙ on_here at low ∙ ap (λ i. doubled_to i cells) next
+      let C : Type 0 = Cell N in
+      let x : C = get_or cells at bare_cell in
+      let in_low : at < length lower = omega (arith, low_long) in
+      let in_high : at < length upper = omega (arith, length-map cells (high_half count)) in
+      let long : length (lows at) ≡ count = length-so_far lower cells low_long at ∙ sym low_long in
+      let next : length (lows (at + 1)) ≡ count
+      = length-so_far lower cells low_long (at + 1) ∙ sym low_long in
+      let read : get_or (lows at ++ highs at) at bare_cell ≡ x
+      = get_or_append_left (lows at) (highs at) bare_cell at (omega arith)
+      ∙ so_far-next lower cells low_long at bare_cell in_low in
+      let low_is : set (lows at) at (low_half count x) ≡ lows (at + 1)
+      = ap (set (lows at) at) (sym (get_or-map (low_half count) cells at bare_cell bare_cell low))
+      ∙ so_far-on lower cells low_long at bare_cell in_low in
+      let high_is : set (highs at) at (high_half count x) ≡ highs (at + 1)
+      = ap (set (highs at) at) (sym (get_or-map (high_half count) cells at bare_cell bare_cell low))
+      ∙ so_far-on upper (replicate count bare_cell) high_long at bare_cell in_high in
+      ap (parted (lows at ++ highs at) at) is
+      ∙ ap (λ (y : C). set (set (lows at ++ highs at) at (low_half count y)) (at + count) (high_half count y))
+      read
+      ∙ ap (λ (ys : List C). set ys (at + count) (high_half count x))
+      (set-append_left (lows at) (highs at) at (low_half count x) (omega arith)
+      ∙ ap (λ (ys : List C). ys ++ highs at) low_is)
+      ∙ set-append_right (lows (at + 1)) (highs at) count (at + count) (high_half count x) next (omega arith)
+      ∙ ap (λ i. lows (at + 1) ++ set (highs at) i (high_half count x)) (omega arith)
+      ∙ ap (λ (ys : List C). lows (at + 1) ++ ys) high_is
 
-  pub length-doubled_to : (at : ℕ) → length (doubled_to at cells) ≡ count + count
+  pub length-doubled_to : (at : ℕ) → length (doubled_to at) ≡ count + count
   length-doubled_to at =
-      length-append (so_far (low_half count) at cells cells) (so_far (high_half count) at cells bares)
-      ∙ ap (λ i. i + length (so_far (high_half count) at cells bares))
-      (length-so_far (low_half count) at cells cells)
-      ∙ ap (λ i. count + i) (length-so_far (high_half count) at cells bares
-      ∙ length-replicate count bare_cell)
+      omega (
+        arith,
+        length-append (so_far at lower cells) (so_far at upper (replicate count bare_cell)),
+        length-so_far lower cells low_long at,
+        length-so_far upper (replicate count bare_cell) high_long at,
+        low_long,
+        length-map cells (high_half count),
+      )
 
   -- all cells are doubled
-  pub doubled-all : (at : ℕ) → at ≡ count → doubled_to at cells ≡ doubled cells
+  pub doubled-all : (at : ℕ) → at ≡ count → doubled_to at ≡ doubled cells
   doubled-all at is =
-      let C : Type 0 = Cell N in
-      ap (λ (ys : List C). ys ++ so_far (high_half count) at cells bares)
-      (so_far-all (low_half count) at cells cells is refl)
-      ∙ ap (λ (ys : List C). map (low_half count) cells ++ ys)
-      (so_far-all (high_half count) at cells bares is (length-replicate count bare_cell))
+      rw (
+        so_far-all lower cells low_long at (is ∙ low_long),
+        so_far-all upper (replicate count bare_cell) high_long at
+            (is ∙ sym (length-map cells (high_half count))),
+      ) refl

@@ -5,7 +5,7 @@ use Rattle.std.proofs.Common.{IsSome, inl, inr, Option, refl, sym, ap, ◌∙◌
 use Rattle.std.specs.Prelude.{is_none}
 use Rattle.std.specs.List.{prefix_len}
 use Rattle.std.proofs.lemmas.Bool.{cases_eq, false≢true, true≢false}
-use Rattle.std.proofs.lemmas.List.{drop-drop, get_or-drop, length-drop}
+use Rattle.std.proofs.lemmas.List.{drop-drop, get_or-drop, length-drop, take_all}
 use Rattle.std.proofs.lemmas.List.Sums.{sum_by-cons}
 use Rattle.std.proofs.lemmas.Simd.{length-chunk, get_or-chunk, trailing_mask_l, none_from_empty_mask}
 use native.Mathlib.Numerals.{one-add}
@@ -86,81 +86,88 @@ module _ {X : Type 0} (p : X → Bool) where
 none_pass : {X : Type 0} (p : X → Bool) (xs : List X) → mask_l (map p xs) ≡ 0 → (k : ℕ) (d : X)
     → k < length xs
     → p (get_or xs k d) ≡ false
-none_pass p [] e k d low = absurd (omega arith)
-none_pass p (x ∷ xs) e zero d low = by (p x) (mask_l (map p xs)) e
-  where
-    by : (b : Bool) (m : ℕ) → cond b 1 0 + 2 * m ≡ 0 → b ≡ false
-    by true m e = absurd (omega (arith, e))
-    by false m e = refl
-none_pass p (x ∷ xs) e (suc k) d low =
-    none_pass p xs (by (p x) (mask_l (map p xs)) e) k d (omega (arith, low))
-  where
-    by : (b : Bool) (m : ℕ) → cond b 1 0 + 2 * m ≡ 0 → m ≡ 0
-    by true m e = absurd (omega (arith, e))
-    by false m e = omega (arith, e)
+none_pass p xs e k d low =
+    none_from_empty_mask p xs 0 (length xs) d (omega arith)
+    (ap (λ ys. mask_l (map p ys)) (take_all (length xs) xs (omega arith)) ∙ e) k (omega arith)
+    (omega (arith, low))
 
--- the cells of a group from one on, by a mask of those that pass a test
-module _ {N : Type 0} (cells : List (Cell N)) (base : ℕ) (room : base + 16 ≤ length cells)
-    (q : Cell N → Bool) where
+-- the cells of a group from one on
+module _ {N : Type 0} (cells : List (Cell N)) (base : ℕ) where
   abbrev from : ℕ → List (Cell N)
   from at = drop (at - base) (lanes_of cells base)
 
-  -- the lowest bit is that of the first that passes
-  pub record IsHit (at hits : ℕ) : Type 0 where
-    pub to : at + count_trailing_zeros 64 hits < base + 16
-    pub before : (i : ℕ) → at ≤ i → i < at + count_trailing_zeros 64 hits → q (get_or cells i bare_cell)
-        ≡ false
-    pub here : q (get_or cells (at + count_trailing_zeros 64 hits) bare_cell) ≡ true
-    pub rest : hits / 2 ^ count_trailing_zeros 64 hits / 2
-        ≡ mask_l (map q (from (at + count_trailing_zeros 64 hits + 1)))
-    pub count : count_by q (from at) ≡ 1 + count_by q (from (at + count_trailing_zeros 64 hits + 1))
-
-  from_long : (at : ℕ) → base ≤ at → length (from at) ≡ base + 16 - at
-  from_long at low =
+  from_long : base + 16 ≤ length cells → (at : ℕ) → base ≤ at → length (from at) ≡ base + 16 - at
+  from_long room at low =
       omega (arith, low, length-drop (at - base) (lanes_of cells base), length-chunk base 16 cells room)
 
-  from_at : (at k : ℕ) → base ≤ at → k < length (from at)
+  from_at : base + 16 ≤ length cells → (at k : ℕ) → base ≤ at → k < length (from at)
       → get_or (from at) k bare_cell ≡ get_or cells (at + k) bare_cell
-  from_at at k low within =
+  from_at room at k low within =
       let n = at - base in
       let index : base + (n + k) ≡ at + k = omega (arith, low) in
       get_or-drop n (lanes_of cells base) k bare_cell
-      ∙ get_or-chunk base 16 cells (n + k) bare_cell (omega (arith, low, within, from_long at low))
+      ∙ get_or-chunk base 16 cells (n + k) bare_cell (omega (arith, low, within, from_long room at low))
       ∙ ap (λ i. get_or cells i bare_cell) index
 
-  pub hit : (at hits : ℕ) → base ≤ at → hits ≡ mask_l (map q (from at)) → (hits ≡ 0 → ⊥) → IsHit at hits
-  hit at hits low is some = subst (IsHit at) (sym is) here
+  -- by a mask of those that pass a test
+  module _ (q : Cell N → Bool) where
+    -- the bits that are left are those of the cells from this one on
+    pub record IsLeft (at hits : ℕ) : Type 0 where
+      pub low : base ≤ at
+      pub high : at ≤ base + 16
+      pub bits : hits ≡ mask_l (map q (from at))
+
+    -- the lowest bit is that of the first that passes
+    pub record IsHit (at hits : ℕ) : Type 0 where
+      pub to : at + count_trailing_zeros 64 hits < base + 16
+      pub before : (i : ℕ) → at ≤ i → i < at + count_trailing_zeros 64 hits
+          → q (get_or cells i bare_cell) ≡ false
+      pub here : q (get_or cells (at + count_trailing_zeros 64 hits) bare_cell) ≡ true
+      pub rest : IsLeft (at + count_trailing_zeros 64 hits + 1) (hits / 2 ^ count_trailing_zeros 64 hits / 2)
+      pub count : count_by q (from at) ≡ 1 + count_by q (from (at + count_trailing_zeros 64 hits + 1))
+
+module _ {N : Type 0} {cells : List (Cell N)} {base : ℕ} {q : Cell N → Bool}
+    (room : base + 16 ≤ length cells) where
+  pub hit : {at hits : ℕ} → IsLeft cells base q at hits → (hits ≡ 0 → ⊥) → IsHit cells base q at hits
+  hit {at} left some = subst (IsHit cells base q at) (sym left.bits) here
     where
-      here : IsHit at (mask_l (map q (from at)))
+      here : IsHit cells base q at (mask_l (map q (from cells base at)))
       here =
-          let xs = from at in
-          let f = first_set q xs (omega (arith, from_long at low)) (λ e. some (is ∙ e)) in
+          let xs = from cells base at in
+          let long = from_long cells base room at left.low in
+          let f = first_set q xs (omega (arith, long)) (λ e. some (left.bits ∙ e)) in
           let t = count_trailing_zeros 64 (mask_l (map q xs)) in
           let n = at - base in
-          let index : n + (t + 1) ≡ at + t + 1 - base = omega (arith, low) in
-          let later : drop (t + 1) xs ≡ from (at + t + 1)
+          let index : n + (t + 1) ≡ at + t + 1 - base = omega (arith, left.low) in
+          let later : drop (t + 1) xs ≡ from cells base (at + t + 1)
           = drop-drop (t + 1) n (lanes_of cells base) ∙ ap (λ j. drop j (lanes_of cells base)) index in
+          let to : at + t < base + 16 = omega (arith, f.within, from_long cells base room at left.low) in
           record {
-            to = omega (arith, f.within, from_long at low);
+            to = to;
             before = λ i from_i to_i.
                 let k = i - at in
                 let index : at + k ≡ i = omega (arith, from_i) in
-                ap q (sym (from_at at k low (omega (arith, f.within, from_i, to_i))
+                ap q (sym (from_at cells base room at k left.low (omega (arith, f.within, from_i, to_i))
                 ∙ ap (λ j. get_or cells j bare_cell) index))
                 ∙ f.before k bare_cell (omega (arith, from_i, to_i));
-            here = ap q (sym (from_at at t low f.within)) ∙ f.here bare_cell;
-            rest = f.rest ∙ ap (λ (ys : List (Cell N)). mask_l (map q ys)) later;
+            here = ap q (sym (from_at cells base room at t left.low f.within)) ∙ f.here bare_cell;
+            rest = record {
+              low = omega (arith, left.low);
+              high = omega (arith, to);
+              bits = f.rest ∙ ap (λ (ys : List (Cell N)). mask_l (map q ys)) later;
+            };
             count = f.count ∙ ap (λ (ys : List (Cell N)). 1 + count_by q ys) later;
           }
 
-  pub no_hit : (at : ℕ) → base ≤ at → mask_l (map q (from at)) ≡ 0 → (i : ℕ) → at ≤ i → i < base + 16
+  pub no_hit : {at hits : ℕ} → IsLeft cells base q at hits → hits ≡ 0 → (i : ℕ) → at ≤ i → i < base + 16
       → q (get_or cells i bare_cell) ≡ false
-  no_hit at low empty i from_i to_i =
+  no_hit {at} left empty i from_i to_i =
       let k = i - at in
       let index : at + k ≡ i = omega (arith, from_i) in
-      let within : k < length (from at) = omega (arith, from_long at low, from_i, to_i) in
-      ap q (sym (from_at at k low within ∙ ap (λ j. get_or cells j bare_cell) index))
-      ∙ none_pass q (from at) empty k bare_cell within
+      let within : k < length (from cells base at)
+      = omega (arith, from_long cells base room at left.low, from_i, to_i) in
+      ap q (sym (from_at cells base room at k left.low within ∙ ap (λ j. get_or cells j bare_cell) index))
+      ∙ none_pass q (from cells base at) (sym left.bits ∙ empty) k bare_cell within
 
 module _ {N : Type 0} where
   -- where the mask of a group's free cells is empty, each cell of it has a node

@@ -3,8 +3,7 @@ use Rattle.std.proofs.Common.{◌≡◌, ℕ, zero, suc, ◌+◌, ◌<◌, ◌�
 use Rattle.std.proofs.Common.{replicate, take, drop, true, Option, Some, None, is_some, refl, sym, ap, ◌∙◌}
 use Rattle.std.proofs.Common.{subst, arith, append_assoc}
 use Rattle.std.specs.Prelude.{Contains, IsPermutation}
-use Rattle.std.proofs.lemmas.List.{get_or_default, take_more, take-append-drop, length-append}
-use Rattle.std.proofs.lemmas.Option.{same_Some}
+use Rattle.std.proofs.lemmas.List.{take_more, take-append-drop, length-append}
 use Rattle.std.proofs.lemmas.List.Sorted.{IsPermutation-refl, IsPermutation-trans, IsPermutation-cons}
 use Rattle.std.proofs.lemmas.List.Sorted.{IsPermutation-middle, IsPermutation-to_front}
 use Rattle.hashlink_table.specs.declared.hashed.Hashed.{Hashed}
@@ -69,17 +68,11 @@ module _ {N : Type 0} where
       [ None ↦ rest | Some k ↦ ap (λ ks. k ∷ ks) rest ]
 
   -- the nodes of the first cells: one cell more, and no more than of all
-  pub nodes_in-more : (cells : List (Cell N)) (i : ℕ) (c : Cell N) → i < length cells → c ≡ get_or cells i c
-      → nodes_in (take (i + 1) cells) ≡ nodes_in (take i cells) ++ with_node c.kept []
-  nodes_in-more cells i c h read =
-      ap nodes_in (take_more cells i c h) ∙ nodes_in-append (take i cells) (get_or cells i c ∷ [])
-      ∙ ap (λ (d : Cell N). nodes_in (take i cells) ++ with_node d.kept []) (sym read)
-
   pub nodes_in-more_at : (cells : List (Cell N)) (i : ℕ) → i < length cells
       → nodes_in (take (i + 1) cells) ≡ nodes_in (take i cells) ++ with_node (kept_at cells i) []
   nodes_in-more_at cells i h =
-      let c = get_or cells i bare_cell in
-      nodes_in-more cells i c h (get_or_default cells i bare_cell c h)
+      ap nodes_in (take_more cells i bare_cell h)
+      ∙ nodes_in-append (take i cells) (get_or cells i bare_cell ∷ [])
 
   pub nodes_in-part : (cells : List (Cell N)) (i : ℕ) → length (nodes_in (take i cells)) ≤ length
       (nodes_in cells)
@@ -159,7 +152,3 @@ module _ {N : Type 0} where
       by rest None is there = let r = rest there in (suc r.0, r.1)
       by rest (Some j) is (zero, h, e) = (zero, is ∙ ap Some e)
       by rest (Some j) is (suc n, h, e) = let r = rest (n, omega arith, e) in (suc r.0, r.1)
-
-  -- a cell has one node
-  pub same_node : (j k : Hashed N) → Some j ≡ Some k → j.node ≡ k.node
-  same_node j k e = ap (λ (m : Hashed N). m.node) (same_Some j k e)

@@ -1,37 +1,28 @@
 -- The fields of a table agree.
-use Rattle.std.proofs.Common.{◌≡◌, ◌≢◌, ℕ, zero, suc, ◌+◌, ◌-◌, ◌*◌, ◌%◌, ◌^◌, ◌<◌, ◌≤◌, true, inl, inr, List}
+use Rattle.std.proofs.Common.{◌≡◌, ◌≢◌, ℕ, zero, suc, ◌+◌, ◌-◌, ◌*◌, ◌%◌, ◌<◌, ◌≤◌, true, inl, inr, List}
 use Rattle.std.proofs.Common.{[], ◌∷◌, ◌++◌, length, max, get_or, replicate, Option, Some, None, is_some}
-use Rattle.std.proofs.Common.{refl, sym, ap, ◌∙◌, subst, arith}
+use Rattle.std.proofs.Common.{refl, sym, ap, ◌∙◌, arith}
 use Rattle.std.specs.Prelude.{IsPermutation}
-use Rattle.std.specs.Int.{IsPowerOfTwo}
 use Rattle.std.proofs.lemmas.Bool.{cases_eq, cases_lt}
-use Rattle.std.proofs.Math.ListN.{get_or-map}
-use Rattle.std.proofs.lemmas.List.{get_or_at, get_or_append_left, length_push, length-append}
+use Rattle.std.proofs.lemmas.List.{length-append}
 use Rattle.std.proofs.lemmas.List.{length-replicate}
 use Rattle.std.proofs.lemmas.List.Sorted.{length_permutation}
 use Rattle.hashlink_table.specs.declared.hashed.Hashed.{Hashed}
 use Rattle.hashlink_table.specs.declared.store.cell.Cell.{Cell}
 use Rattle.hashlink_table.specs.declared.store.cell.TheConstants.{END}
-use Rattle.hashlink_table.specs.Chains.{kept_at, next_at, chain_of, nodes_in, links_of, Among, IsPath}
-use Rattle.hashlink_table.specs.Chains.{contents, IsFilled, IsInPlace, IsLinked, IsSound}
+use Rattle.hashlink_table.specs.Chains.{kept_at, next_at, chain_of, nodes_in, links_of}
+use Rattle.hashlink_table.specs.Chains.{contents, AreSizes, IsArranged, IsFilled, IsLinked, IsSound}
 use Rattle.hashlink_table.specs.Stored.{bare_cell}
 use Rattle.hashlink_table.specs.Contents.{Contents}
 use Rattle.hashlink_table.proofs.Cells.{chain_at_within}
-use Rattle.hashlink_table.proofs.Chaining.{length-links, link_read}
+use Rattle.hashlink_table.proofs.Linking.{bucket_start, free_start, length-starts}
 use Rattle.hashlink_table.proofs.Nodes.{nodes_in-full, nodes_in-bare, two_nodes}
-use Rattle.hashlink_table.proofs.Walks.{walk_of, walk_goes}
+use Rattle.hashlink_table.proofs.Walks.{begun, walk_of, walk_goes}
 
 -- what a cell with a node has
 of_kept : {N : Type 0} (o : Option (Hashed N)) → is_some o ≡ true → (k : Hashed N) × (o ≡ Some k)
 of_kept None some = absurd (cc some)
 of_kept (Some k) some = (k, refl)
-
--- no path that leads over a cell begins at the end
-none_from_end : (next : ℕ → ℕ) (from : ℕ) (path : List ℕ) → IsPath next from path → from ≡ END → (j : ℕ)
-    → Among path j
-    → ⊥
-none_from_end next from [] linked e j m = m
-none_from_end next from (x ∷ xs) linked e j m = linked.1 (sym linked.0 ∙ e)
 
 -- each bare cell reads as one past the last
 bare_read : (N : Type 0) (n i : ℕ) → (kept_at (replicate n (bare_cell {N = N})) i ≡ None)
@@ -43,36 +34,35 @@ bare_read N (suc n) (suc i) = bare_read N n i
 module _ {N : Type 0} where
   -- no bucket has a chain: no link leads anywhere, and each cell may be free
   pub linked-none : (slots : List (Cell N)) → ((b : ℕ) → next_at slots b ≡ END)
-      → IsLinked {N = N} (links_of slots) [] END
+      → IsLinked {N = N} slots [] END
   linked-none slots none b h =
-      let heads = links_of slots in
-      let first : get_or (heads ++ END ∷ []) b END ≡ END
-      = elim (cases_lt b (length heads)) as (λ _. get_or (heads ++ END ∷ []) b END ≡ END) [
-        | inl low ↦ get_or_append_left heads (END ∷ []) END b low
-            ∙ get_or-map (λ (c : Cell N). c.next) slots b bare_cell ∙ none b
-        | inr high ↦ get_or_at heads END [] END b (omega (arith, high, h, length_push heads END))
-      ] in
+      let n = length-starts slots END in
       record {
         path = [];
-        linked = first;
+        linked =
+            elim (cases_lt b (length slots)) as (λ _. get_or (links_of slots ++ END ∷ []) b END ≡ END) [
+              | inl low ↦ bucket_start slots END b low ∙ none b
+              | inr high ↦
+                  ap (λ i. get_or (links_of slots ++ END ∷ []) i END) (omega (arith, high, h, n))
+                  ∙ free_start slots END
+            ];
         inside = λ i m. absurd m;
-        whole = λ i e. absurd (omega (arith, e, h, length_push heads END));
+        whole = λ i e. absurd (omega (arith, e, h, n));
       }
 
   pub filled-none : (slots : List (Cell N)) → ((b : ℕ) → next_at slots b ≡ END) → IsFilled slots
   filled-none slots none b low ne = absurd (ne (none b))
 
   -- where no cell is free, each has a node
-  all_taken : (heads : List ℕ) (cells : List (Cell N)) (free : ℕ) → IsLinked heads cells free
-      → free ≡ END → (i : ℕ)
+  all_taken : (slots cells : List (Cell N)) (free : ℕ) → IsLinked slots cells free → free ≡ END → (i : ℕ)
       → i < length cells
       → is_some (kept_at cells i) ≡ true
-  all_taken heads cells free linked e i h =
-      let c = linked (length heads) (omega (arith, length_push heads free)) in
-      let first = get_or_at heads free [] END (length heads) refl in
+  all_taken slots cells free linked e i h =
+      let c = linked (length slots) (omega (arith, length-starts slots free)) in
       let free_chain : kept_at cells i ≡ None → ⊥ = λ none.
-      none_from_end (next_at cells) _ c.path c.linked (first ∙ e) i
-      (c.whole i (chain_at_within (length heads) cells i h ∙ ap (chain_of (length heads)) none)) in
+      begun (next_at cells) _ c.path c.linked i
+      (c.whole i (chain_at_within (length slots) cells i h ∙ ap (chain_of (length slots)) none))
+      (free_start slots free ∙ e) in
       elim (kept_at cells i) as (λ k. (k ≡ None → ⊥) → is_some k ≡ true) [
         | None ↦ λ no. absurd (no refl)
         | Some k ↦ λ no. refl
@@ -87,7 +77,7 @@ module _ {N : Type 0} where
         arith,
         s.counted,
         length-append (nodes_in slots) (nodes_in overflow),
-        nodes_in-full overflow (all_taken (links_of slots) overflow free s.linked e),
+        nodes_in-full overflow (all_taken slots overflow free s.arranged.linked e),
       )
 
   -- and if there is one, two nodes at least have a slot: its bucket has a chain, so its group is full
@@ -95,69 +85,53 @@ module _ {N : Type 0} where
       → IsSound slots overflow capacity free len room → free ≡ END → 0 < length overflow
       → length overflow + 2 ≤ len
   full_group {slots} {overflow} {free = free} s e some =
-      let heads = links_of slots in
-      let taken = all_taken heads overflow free s.linked e in
+      let m = length slots in
+      let taken = all_taken slots overflow free s.arranged.linked e in
       let all = nodes_in-full overflow taken in
       let both = length-append (nodes_in slots) (nodes_in overflow) in
       let first = of_kept (kept_at overflow 0) (taken 0 some) in
-      let n = length-links slots in
-      let b = first.0.hash % length heads in
-      let low : b < length slots = omega (arith, n, s.counted, s.held, s.headed, all, both, some) in
-      let on = chain_at_within (length heads) overflow 0 some ∙ ap (chain_of (length heads)) first.1 in
-      let w = walk_of heads overflow free b s.linked (omega (arith, low, n)) in
-      let full = s.filled b low (λ end. walk_goes w.0 0 (w.1 0 on) (link_read slots b low ∙ end)) in
+      let b = first.0.hash % m in
+      let low : b < m = omega (arith, s.counted, s.held, s.sizes.headed, all, both, some) in
+      let on = chain_at_within m overflow 0 some ∙ ap (chain_of m) first.1 in
+      let w = walk_of slots overflow free b s.arranged.linked low in
+      let full = s.arranged.filled b low (walk_goes w.0 0 (w.1 0 on)) in
       let base = b - b % 16 in
       let two = two_nodes slots base (base + 1) (omega arith) (full base (omega arith) (omega arith))
       (full (base + 1) (omega arith) (omega arith)) in
       omega (arith, s.counted, all, both, two)
 
   -- a table without nodes
-  pub sound-bare : (n capacity room : ℕ) → room ≤ n → n ≤ 4 * max 8 room → room ≤ capacity
-      → capacity ≤ 8 * max 8 room → (room ≡ 0 → (n ≡ 0) × (capacity ≡ 0)) → n ≤ 2 ^ 31
-      → (0 < n → IsPowerOfTwo n) → n % 16 ≡ 0
+  pub sound-bare : (n capacity room : ℕ) → AreSizes n capacity room
       → IsSound (replicate n (bare_cell {N = N})) [] capacity END 0 room
-  sound-bare n capacity room headed bounded reserved spare none small masked whole =
-      let same = length-replicate n (bare_cell {N = N}) in
+  sound-bare n capacity room sizes =
       record {
-        linked = linked-none (replicate n bare_cell) (λ b. (bare_read N n b).1);
-        in_place = λ at k is. absurd (cc (sym (bare_read N n at).0 ∙ is));
-        filled = filled-none (replicate n bare_cell) (λ b. (bare_read N n b).1);
+        arranged = record {
+          linked = linked-none (replicate n bare_cell) (λ b. (bare_read N n b).1);
+          in_place = λ at k is. absurd (cc (sym (bare_read N n at).0 ∙ is));
+          filled = filled-none (replicate n bare_cell) (λ b. (bare_read N n b).1);
+        };
+        sizes = rw (length-replicate n (bare_cell {N = N})) sizes;
         counted = rw (nodes_in-bare {N = N} n) refl;
         held = omega arith;
-        headed = omega (arith, headed, same);
-        bounded = omega (arith, bounded, same);
-        reserved = reserved;
-        spare = spare;
-        none = λ e. (same ∙ (none e).0, (none e).1);
-        small = omega (arith, small, same);
         overflow_few = omega arith;
         overflow_small = omega arith;
-        masked = λ h. subst IsPowerOfTwo (sym same) (masked (omega (arith, h, same)));
-        whole = ap (λ m. m % 16) same ∙ whole;
       }
 
   -- one node more
   pub sound-put : {slots overflow : List (Cell N)} {capacity free len room : ℕ}
       (later more : List (Cell N)) (now next : ℕ) (k : Hashed N)
       → IsSound slots overflow capacity free len room → len < room → now ≡ capacity
-      → length later ≡ length slots → IsLinked (links_of later) more next → IsInPlace later → IsFilled later
+      → length later ≡ length slots → IsArranged later more next
       → IsPermutation (k ∷ nodes_in slots ++ nodes_in overflow) (nodes_in later ++ nodes_in more)
       → (free ≡ END → length more ≤ length overflow + 1) → (free ≢ END → length more ≤ length overflow)
       → IsSound later more now next (len + 1) room
   sound-put {slots} {overflow} {free = free} {len} {room} later more now next k
-      s room_left capacity buckets linked in_place filled nodes full reused =
+      s room_left capacity buckets arranged nodes full reused =
       record {
-        linked = linked;
-        in_place = in_place;
-        filled = filled;
+        arranged = arranged;
+        sizes = rw (buckets, capacity) s.sizes;
         counted = omega (arith, s.counted, length_permutation _ _ nodes);
         held = omega arith;
-        headed = omega (arith, s.headed, buckets);
-        bounded = omega (arith, s.bounded, buckets);
-        reserved = omega (arith, s.reserved, capacity);
-        spare = omega (arith, s.spare, capacity);
-        none = λ e. absurd (omega (arith, room_left, e));
-        small = omega (arith, s.small, buckets);
         overflow_few = elim (cases_eq free END) as (λ _. length more ≤ room) [
           | inl e ↦ omega (arith, full e, full_overflow s e, room_left)
           | inr ne ↦ omega (arith, reused ne, s.overflow_few)
@@ -165,40 +139,29 @@ module _ {N : Type 0} where
         overflow_small = elim (cases_eq free END) as (λ _. length more < END) [
           | inl e ↦
               elim (cases_lt 0 (length overflow)) as (λ _. length more < END) [
-                | inl some ↦ omega (arith, full e, full_group s e some, room_left, s.headed, s.small)
+                | inl some ↦
+                    omega (arith, full e, full_group s e some, room_left, s.sizes.headed, s.sizes.small)
                 | inr none ↦ omega (arith, full e, none)
               ]
           | inr ne ↦ omega (arith, reused ne, s.overflow_small)
         ];
-        masked = λ h. subst IsPowerOfTwo (sym buckets) (s.masked (omega (arith, h, buckets)));
-        whole = ap (λ m. m % 16) buckets ∙ s.whole;
       }
 
   -- one node less
   pub sound-take : {slots overflow : List (Cell N)} {capacity free len room : ℕ}
       (later less : List (Cell N)) (next : ℕ) (k : Hashed N)
       → IsSound slots overflow capacity free len room
-      → length later ≡ length slots → length less ≡ length overflow
-      → IsLinked (links_of later) less next → IsInPlace later → IsFilled later
+      → length later ≡ length slots → length less ≡ length overflow → IsArranged later less next
       → IsPermutation (nodes_in slots ++ nodes_in overflow) (k ∷ nodes_in later ++ nodes_in less)
       → IsSound later less capacity next (len - 1) room
-  sound-take {slots} {overflow} {len = len} later less next k s buckets cells linked in_place filled nodes =
+  sound-take {slots} {overflow} {len = len} later less next k s buckets cells arranged nodes =
       record {
-        linked = linked;
-        in_place = in_place;
-        filled = filled;
+        arranged = arranged;
+        sizes = rw buckets s.sizes;
         counted = omega (arith, s.counted, length_permutation _ _ nodes);
         held = omega (arith, s.held);
-        headed = omega (arith, s.headed, buckets);
-        bounded = omega (arith, s.bounded, buckets);
-        reserved = s.reserved;
-        spare = s.spare;
-        none = λ e. (buckets ∙ (s.none e).0, (s.none e).1);
-        small = omega (arith, s.small, buckets);
         overflow_few = omega (arith, s.overflow_few, cells);
         overflow_small = omega (arith, s.overflow_small, cells);
-        masked = λ h. subst IsPowerOfTwo (sym buckets) (s.masked (omega (arith, h, buckets)));
-        whole = ap (λ m. m % 16) buckets ∙ s.whole;
       }
 
   -- the memory of the overflow cells is of another size
@@ -208,22 +171,23 @@ module _ {N : Type 0} where
       → room ≤ block → block ≤ 8 * max 8 room → (room ≡ 0 → block ≡ 0)
       → IsSound later more block free len room
   sound-moved later more block s same kept reserved spare none =
+      let z = s.sizes in
       rw (same, kept) (record {
-        linked = s.linked;
-        in_place = s.in_place;
-        filled = s.filled;
+        arranged = s.arranged;
+        sizes = record {
+          headed = z.headed;
+          bounded = z.bounded;
+          reserved = reserved;
+          spare = spare;
+          none = λ e. ((z.none e).0, none e);
+          small = z.small;
+          masked = z.masked;
+          whole = z.whole;
+        };
         counted = s.counted;
         held = s.held;
-        headed = s.headed;
-        bounded = s.bounded;
-        reserved = reserved;
-        spare = spare;
-        none = λ e. ((s.none e).0, none e);
-        small = s.small;
         overflow_few = s.overflow_few;
         overflow_small = s.overflow_small;
-        masked = s.masked;
-        whole = s.whole;
       })
 
 -- and a contract sees none
@@ -236,19 +200,16 @@ contents-bare N n room = ap (λ (ks : List (Hashed N)). let t : Contents N = rec
 module _ {N : Type 0} where
   -- the buckets were doubled, and the nodes of the overflow cells taken out
   pub sound-doubled : {slots overflow : List (Cell N)} {capacity free len room : ℕ}
-      (later less : List (Cell N)) (taken : List (Hashed N)) (buckets block count more : ℕ)
-      → IsSound slots overflow capacity free len room
-      → IsPowerOfTwo buckets → buckets % 16 ≡ 0 → buckets ≤ 2 ^ 31 → buckets ≤ 4 * max 8 more
-      → room ≤ more → 0 < more → more ≤ buckets → more ≡ block → length later ≡ buckets
-      → IsLinked (links_of later) less END → IsInPlace later → IsFilled later → less ≡ []
-      → count ≡ length taken → IsPermutation (nodes_in slots ++ nodes_in overflow) (nodes_in later ++ taken)
+      (later less : List (Cell N)) (taken : List (Hashed N)) (block count more : ℕ)
+      → IsSound slots overflow capacity free len room → AreSizes (length later) block more
+      → room ≤ more → IsArranged later less END → less ≡ [] → count ≡ length taken
+      → IsPermutation (nodes_in slots ++ nodes_in overflow) (nodes_in later ++ taken)
       → IsSound later less block END (len - count) more
-  sound-doubled {slots} {overflow} {len = len} later less taken buckets block count more
-      s power whole small bounded grown some headed reserved size linked in_place filled none counted nodes =
+  sound-doubled {slots} {overflow} {len = len} later less taken block count more
+      s sizes grown arranged none counted nodes =
       record {
-        linked = linked;
-        in_place = in_place;
-        filled = filled;
+        arranged = arranged;
+        sizes = sizes;
         counted =
             omega (
               arith,
@@ -260,14 +221,6 @@ module _ {N : Type 0} where
               ap (λ (cs : List (Cell N)). length (nodes_in cs)) none,
             );
         held = omega (arith, s.held, grown);
-        headed = omega (arith, headed, size);
-        bounded = omega (arith, bounded, size);
-        reserved = omega (arith, reserved);
-        spare = omega (arith, reserved);
-        none = λ e. absurd (omega (arith, some, e));
-        small = omega (arith, small, size);
         overflow_few = omega (arith, ap length none);
         overflow_small = omega (arith, ap length none);
-        masked = λ _. subst IsPowerOfTwo (sym size) power;
-        whole = ap (λ m. m % 16) size ∙ whole;
       }

@@ -1,7 +1,7 @@
 -- What a contract sees of the cells: which nodes there are, and how many agree with a hash.
 use Rattle.std.proofs.Common.{◌≡◌, ℕ, zero, suc, ◌+◌, ◌-◌, ◌%◌, ◌<◌, ◌≤◌, inl, inr, Bool, true, false, cond}
 use Rattle.std.proofs.Common.{eqb, List, [], ◌∷◌, ◌++◌, length, get_or, take, drop, Option, Some, None}
-use Rattle.std.proofs.Common.{count_by, refl, sym, ap, ◌∙◌, subst, arith}
+use Rattle.std.proofs.Common.{count_by, refl, sym, ap, ◌∙◌, arith}
 use Rattle.std.specs.Prelude.{Contains}
 use Rattle.std.specs.Int.{IsPowerOfTwo}
 use Rattle.std.proofs.Math.Nat.{mod-mod_of_dvd}
@@ -16,13 +16,13 @@ use Rattle.hashlink_table.specs.declared.hashed.Hashed.{Hashed}
 use Rattle.hashlink_table.specs.declared.store.cell.Cell.{Cell}
 use Rattle.hashlink_table.specs.declared.store.spot.Spot.{Spot}
 use Rattle.hashlink_table.specs.declared.store.spot.Spot.TheVariants.{Slot, Overflow}
-use Rattle.hashlink_table.specs.declared.store.table.Table.TheInside.{Inside}
-use Rattle.hashlink_table.specs.Contents.{Contents, agreeing, AcceptsOnly, AreBuckets, CanAsk, Keeps}
+use Rattle.hashlink_table.specs.Contents.{Contents, agreeing, AreBuckets, CanAsk}
 use Rattle.hashlink_table.specs.Chains.{kept_at, kept_by, chain_of, with_node, nodes_in, contents, AreGrouped}
-use Rattle.hashlink_table.specs.Chains.{IsInPlace}
+use Rattle.hashlink_table.specs.Chains.{IsInPlace, IsSound}
 use Rattle.hashlink_table.specs.Slots.{kept_may_be, lanes_of, may_be}
 use Rattle.hashlink_table.specs.Stored.{bare_cell, tag_of}
 use Rattle.hashlink_table.proofs.Groups.{group_within, grouped_in}
+use Rattle.hashlink_table.proofs.Linking.{positive_by_power}
 use Rattle.hashlink_table.proofs.Nodes.{contains-at, at-contains}
 
 -- how many of the list pass, one element more
@@ -102,124 +102,86 @@ module _ {N : Type 0} where
       ∙ ap (λ n. count_by q (take base cells) + n) (sum_by-append (λ c. cond (q c) 1 0) lanes rest) in
       omega (arith, fewer, all)
 
--- what is stored of a table, seen as v
-module _ {N : Type 0} (t : Inside N) (v : Contents N)
-    (view : contents t.slots t.overflow.items t.room ≡ v) where
-  -- the node in a cell is one that the table keeps
-  keeps_slot : (at : ℕ) (k : Hashed N) → kept_at t.slots at ≡ Some k → Keeps v k.hash k.node
-  keeps_slot at k is =
-      subst (λ (u : Contents N). Keeps u k.hash k.node) view
-      (Contains-append_left (nodes_in t.slots) (nodes_in t.overflow.items) k (contains-at t.slots at k is))
+  -- a search looks at nodes of the hash's bucket alone: those of its group that have the tag, and its chain
+  pub looked_at : (slots overflow : List (Cell N)) (hash base : ℕ) → IsPowerOfTwo (length slots)
+      → length slots % 16 ≡ 0 → IsInPlace slots → base ≡ hash % length slots - hash % length slots % 16
+      → count_by (may_be hash) (lanes_of slots base)
+      + count_by (λ c. eqb (chain_of (length slots) c.kept) (hash % length slots)) overflow
+      ≤ count_by (λ k. eqb (k.hash % length slots) (hash % length slots))
+      (nodes_in slots ++ nodes_in overflow)
+  looked_at slots overflow hash base power whole in_place first =
+      let m = length slots in let b = hash % m in
+      let some = positive_by_power m power in
+      let room : base + 16 ≤ m = omega (arith, first, group_within b m (omega arith) whole) in
+      let own = count_by-lanes (may_be hash) (λ c. eqb (chain_of m c.kept) b) slots base room
+      (λ k lane e. tag_agrees m b hash (base + k) (kept_at slots (base + k)) some whole refl
+      (in_place (base + k)) (grouped_in b (base + k) (omega (arith, first)) (omega (arith, first, lane)))
+      e) in
+      omega (
+        arith,
+        own,
+        sum_by-append (λ (k : Hashed N). cond (eqb (k.hash % m) b) 1 0) (nodes_in slots) (nodes_in overflow),
+        in_bucket-nodes slots hash m some,
+        in_bucket-nodes overflow hash m some,
+      )
 
-  keeps_overflow : (at : ℕ) (k : Hashed N) → kept_at t.overflow.items at ≡ Some k → Keeps v k.hash k.node
-  keeps_overflow at k is =
-      subst (λ (u : Contents N). Keeps u k.hash k.node) view
-      (Contains-append_right (nodes_in t.slots) (nodes_in t.overflow.items) k
-      (contains-at t.overflow.items at k is))
+  -- what it found is one of the nodes
+  pub contains_found : (slots overflow : List (Cell N)) (spot : Spot) (k : Hashed N)
+      → kept_by slots overflow spot ≡ Some k
+      → Contains (nodes_in slots ++ nodes_in overflow) k
+  contains_found slots overflow (Slot at) k is =
+      Contains-append_left (nodes_in slots) (nodes_in overflow) k (contains-at slots at k is)
+  contains_found slots overflow (Overflow at) k is =
+      Contains-append_right (nodes_in slots) (nodes_in overflow) k (contains-at overflow at k is)
 
-  -- so many buckets it has
-  buckets_are : (0 < length t.slots → IsPowerOfTwo (length t.slots)) → 0 < length t.slots
-      → t.room ≤ length t.slots
-      → AreBuckets v (length t.slots)
-  buckets_are masked some headed =
-      record { power = masked some; roomy = omega (arith, headed, ap (λ (u : Contents N). u.room) view) }
-
-  -- what a search that looks at nothing takes
-  pub no_cost : (0 < length t.slots → IsPowerOfTwo (length t.slots)) → t.room ≤ length t.slots
-      → (hash before : ℕ)
-      → (m : ℕ) × AreBuckets v m × (before ≤ before + agreeing v hash m)
-  no_cost masked headed hash before =
-      elim (cases_lt 0 (length t.slots)) as
-      (λ _. (m : ℕ) × AreBuckets v m × (before ≤ before + agreeing v hash m)) [
-        | inl some ↦ (length t.slots, buckets_are masked some headed, omega arith)
-        | inr none ↦
-            let room = ap (λ (u : Contents N). u.room) view in
-            (1, record { power = (0, refl); roomy = omega (arith, headed, none, room) }, omega arith)
+  -- what is so of the nodes of all cells is so of each node
+  pub none_left : (slots overflow : List (Cell N)) (hash : ℕ) (refused : N → Type 0)
+      → ((at : ℕ) (node : N) → kept_at slots at ≡ Some (record { hash = hash; node = node }) → refused node)
+      → ((at : ℕ) (node : N) → kept_at overflow at ≡ Some (record { hash = hash; node = node })
+      → refused node)
+      → (node : N) → Contains (nodes_in slots ++ nodes_in overflow) (record { hash = hash; node = node })
+      → refused node
+  none_left slots overflow hash refused own over node there =
+      elim (Contains-append_cases (nodes_in slots) (nodes_in overflow) _ there) as (λ _. refused node) [
+        | inl first ↦ let at = at-contains slots _ first in own at.0 node at.1
+        | inr later ↦ let at = at-contains overflow _ later in over at.0 node at.1
       ]
 
-  -- so a search may ask about it where the hashes agree, and accepts it for its hash alone
-  pub slot_asked : (asked : N → Type 0) (hash : ℕ) → CanAsk v hash asked
-      → (0 < length t.slots → IsPowerOfTwo (length t.slots)) → 0 < length t.slots → t.room ≤ length t.slots
-      → (at : ℕ) (k : Hashed N) → kept_at t.slots at ≡ Some k
-      → k.hash % length t.slots ≡ hash % length t.slots
-      → asked k.node
-  slot_asked asked hash can masked some headed at k is agree =
-      can k.hash k.node (keeps_slot at k is) (length t.slots, buckets_are masked some headed, agree)
+-- what is stored of a table, seen as v
+module _ {N : Type 0} {slots overflow : List (Cell N)} {capacity free len room : ℕ} {v : Contents N}
+    (s : IsSound slots overflow capacity free len room) (view : contents slots overflow room ≡ v) where
+  -- so many buckets it has, and some where it has nodes
+  buckets_are : 0 < length slots → AreBuckets v (length slots)
+  buckets_are some =
+      record {
+        power = s.sizes.masked some;
+        roomy = omega (arith, s.sizes.headed, ap (λ (u : Contents N). u.room) view);
+      }
 
-  pub slot_accepted : (hash : ℕ) (accepted : N → Type 0) → AcceptsOnly v hash accepted
-      → (at : ℕ) (k : Hashed N) → kept_at t.slots at ≡ Some k → accepted k.node → k.hash ≡ hash
-  slot_accepted hash accepted only at k is = only k.hash k.node (keeps_slot at k is)
+  some_buckets : (len ≡ 0 → ⊥) → 0 < length slots
+  some_buckets some = omega (arith, some, s.held, s.sizes.headed)
 
-  -- the overflow cells, as they were lent to the search
-  module _ (overflow : List (Cell N)) (lent : overflow ≡ t.overflow.items) (hash : ℕ) where
-    overflow_at : (at : ℕ) (node : N) → kept_at overflow at ≡ Some (record { hash = hash; node = node })
-        → kept_at t.overflow.items at ≡ Some (record { hash = hash; node = node })
-    overflow_at at node is = ap (λ (cs : List (Cell N)). kept_at cs at) (sym lent) ∙ is
+  -- so a search may ask about a node where the hashes agree
+  pub can_ask : (hash : ℕ) (asked : N → Type 0) → CanAsk v hash asked → (len ≡ 0 → ⊥) → (h : ℕ) (node : N)
+      → Contains (nodes_in slots ++ nodes_in overflow) (record { hash = h; node = node })
+      → h % length slots ≡ hash % length slots
+      → asked node
+  can_ask hash asked can some h node there agree =
+      can h node (rw (← view) there) (length slots, buckets_are (some_buckets some), agree)
 
-    pub overflow_asked : (asked : N → Type 0) → CanAsk v hash asked
-        → (0 < length t.slots → IsPowerOfTwo (length t.slots)) → 0 < length t.slots → t.room ≤ length t.slots
-        → (at : ℕ) (node : N) → kept_at overflow at ≡ Some (record { hash = hash; node = node })
-        → asked node
-    overflow_asked asked can masked some headed at node is =
-        can hash node (keeps_overflow at _ (overflow_at at node is))
-        (length t.slots, buckets_are masked some headed, refl)
+  -- what it takes, and what one takes that looks at nothing
+  pub search_cost : (hash before after : ℕ) → (len ≡ 0 → ⊥)
+      → after ≤ before + count_by (λ k. eqb (k.hash % length slots) (hash % length slots))
+      (nodes_in slots ++ nodes_in overflow)
+      → (m : ℕ) × AreBuckets v m × (after ≤ before + agreeing v hash m)
+  search_cost hash before after some cost = (length slots, buckets_are (some_buckets some), rw (← view) cost)
 
-    -- what it found is kept
-    pub keeps_found : (spot : Spot) (node : N)
-        → kept_by t.slots overflow spot ≡ Some (record { hash = hash; node = node })
-        → Keeps v hash node
-    keeps_found (Slot at) node is = keeps_slot at _ is
-    keeps_found (Overflow at) node is = keeps_overflow at _ (overflow_at at node is)
-
-    -- if it found none, it refused each node of the hash
-    pub none_left : (refused : N → Type 0)
-        → ((at : ℕ) (node : N) → kept_at t.slots at ≡ Some (record { hash = hash; node = node })
-        → refused node)
-        → ((at : ℕ) (node : N) → kept_at overflow at ≡ Some (record { hash = hash; node = node })
-        → refused node)
-        → (node : N) → Keeps v hash node → refused node
-    none_left refused own over node keeps =
-        let k : Hashed N = record { hash = hash; node = node } in
-        let there : Contains (nodes_in t.slots ++ nodes_in t.overflow.items) k =
-        subst (λ (u : Contents N). Contains u.nodes k) (sym view) keeps in
-        elim (Contains-append_cases (nodes_in t.slots) (nodes_in t.overflow.items) k there) as
-        (λ _. refused node) [
-          | inl first ↦ let at = at-contains t.slots k first in own at.0 node at.1
-          | inr later ↦
-              let at = at-contains t.overflow.items k later in
-              over at.0 node (ap (λ (cs : List (Cell N)). kept_at cs at.0) lent ∙ at.1)
-        ]
-
-    -- the cells that it looks at agree with the hash
-    pub search_cost : (0 < length t.slots → IsPowerOfTwo (length t.slots)) → 0 < length t.slots
-        → length t.slots % 16 ≡ 0 → IsInPlace t.slots → t.room ≤ length t.slots
-        → (before after : ℕ)
-        → after ≤ before
-        + count_by (may_be hash) (lanes_of t.slots (hash % length t.slots - hash % length t.slots % 16))
-        + count_by (λ c. eqb (chain_of (length t.slots) c.kept) (hash % length t.slots)) overflow
-        → (m : ℕ) × AreBuckets v m × (after ≤ before + agreeing v hash m)
-    search_cost masked some whole in_place headed before after cost =
-        let slots = t.slots in let m = length slots in let b = hash % m in
-        let low : b < m = omega arith in
-        let base = b - b % 16 in
-        let all : agreeing v hash m
-        ≡ count_by (λ k. eqb (k.hash % m) b) (nodes_in slots) + count_by (λ k. eqb (k.hash % m) b)
-        (nodes_in t.overflow.items) =
-        ap (λ (u : Contents N). agreeing u hash m) (sym view)
-        ∙ sum_by-append (λ (k : Hashed N). cond (eqb (k.hash % m) b) 1 0) (nodes_in slots)
-        (nodes_in t.overflow.items) in
-        let own = count_by-lanes (may_be hash) (λ c. eqb (chain_of m c.kept) b) slots base
-        (group_within b m low whole)
-        (λ k lane e. tag_agrees m b hash (base + k) (kept_at slots (base + k)) some whole refl
-        (λ j is. in_place (base + k) j is) (grouped_in b (base + k) (omega arith) (omega (arith, lane))) e) in
-        let over = ap (λ (cs : List (Cell N)). count_by (λ c. eqb (chain_of m c.kept) b) cs) lent in
-        let agree : after ≤ before + agreeing v hash m = omega (
-          arith,
-          all,
-          own,
-          over,
-          cost,
-          in_bucket-nodes slots hash m some,
-          in_bucket-nodes t.overflow.items hash m some,
-        ) in
-        (m, buckets_are masked some headed, agree)
+  pub no_cost : (hash before : ℕ) → (m : ℕ) × AreBuckets v m × (before ≤ before + agreeing v hash m)
+  no_cost hash before =
+      elim (cases_lt 0 (length slots)) as
+      (λ _. (m : ℕ) × AreBuckets v m × (before ≤ before + agreeing v hash m)) [
+        | inl some ↦ (length slots, buckets_are some, omega arith)
+        | inr none ↦
+            let room = ap (λ (u : Contents N). u.room) view in
+            (1, record { power = (0, refl); roomy = omega (arith, s.sizes.headed, none, room) }, omega arith)
+      ]

@@ -1,20 +1,20 @@
 -- A walk along a chain: it stays in the chain, and ends.
-use Rattle.std.proofs.Common.{◌≡◌, ◌≢◌, ℕ, zero, suc, ◌+◌, ◌%◌, ◌<◌, ◌≤◌, cond, eqb, IsSome, ◌⊎◌, inl, inr}
+use Rattle.std.proofs.Common.{◌≡◌, ◌≢◌, ℕ, zero, suc, ◌+◌, ◌<◌, ◌≤◌, cond, eqb, IsSome, ◌⊎◌, inl, inr}
 use Rattle.std.proofs.Common.{List, [], ◌∷◌, length, get_or, count_by, refl, sym, ap, ◌∙◌, subst, arith}
 use Rattle.std.proofs.lemmas.Bool.{eq-eqb, ne_eqb}
-use Rattle.std.proofs.lemmas.List.{get_or_append_left, get_or_read, length_push}
+use Rattle.std.proofs.lemmas.List.{get_or_read}
 use Rattle.std.proofs.lemmas.List.Sums.{count_by-le-length}
-use Rattle.std.specs.Int.{IsPowerOfTwo}
 use Rattle.hashlink_table.specs.declared.store.cell.Cell.{Cell}
 use Rattle.hashlink_table.specs.declared.store.cell.TheConstants.{END}
 use Rattle.hashlink_table.specs.Chains.{kept_at, next_at, chain_of, chain_at, Among, IsPath, IsLinked}
 use Rattle.hashlink_table.specs.Stored.{bare_cell}
 use Rattle.hashlink_table.proofs.Paths.{first_among, path_length}
 use Rattle.hashlink_table.proofs.Chaining.{on_within, on_some}
-use Rattle.hashlink_table.proofs.Linking.{positive_by_power}
+use Rattle.hashlink_table.proofs.Linking.{bucket_start, length-starts}
 use Rattle.hashlink_table.proofs.Cells.{within_by_chain, chain_at_within}
 
-begun : (next : ℕ → ℕ) (at : ℕ) (path : List ℕ) → IsPath next at path → (j : ℕ) → Among path j → at ≢ END
+-- a path that leads over a cell does not begin at the end
+pub begun : (next : ℕ → ℕ) (at : ℕ) (path : List ℕ) → IsPath next at path → (j : ℕ) → Among path j → at ≢ END
 begun next at [] linked j m = absurd m
 begun next at (x ∷ xs) linked j m = λ e. linked.1 (sym linked.0 ∙ e)
 
@@ -65,8 +65,7 @@ pub walk_goes : {next chain : ℕ → ℕ} {b at most : ℕ} (w : IsWalk next ch
 walk_goes {next} {at = at} w j m = begun next at w.path w.linked j m
 
 -- a walk of a chain that has passed over cells which are not what is sought: where none of those to come is,
--- none of the
--- chain is. It took a step for each cell
+-- none of the chain is. It took a step for each cell
 pub record IsSearch (next chain : ℕ → ℕ) (b at most : ℕ) (IsOther : ℕ → Type 0)
     (all before now : ℕ) : Type 0 where
   pub walk : IsWalk next chain b at most
@@ -130,73 +129,56 @@ module _ {N : Type 0} where
   in_bucket cells buckets b = count_by (λ c. eqb (chain_of buckets c.kept) b) cells
 
   -- the walk along a bucket's chain
-  pub walk_of : (heads : List ℕ) (cells : List (Cell N)) (free b : ℕ) → IsLinked heads cells free
-      → b < length heads
-      → (w : IsWalk (next_at cells) (chain_at (length heads) cells) b (get_or heads b END) (length cells))
-      × ((j : ℕ) → chain_at (length heads) cells j ≡ b → Among w.path j)
-      × (length w.path ≤ in_bucket cells (length heads) b)
-  walk_of heads cells free b linked h =
-      let c = linked b (omega (arith, length_push heads free)) in
+  pub walk_of : (slots cells : List (Cell N)) (free b : ℕ) → IsLinked slots cells free → b < length slots
+      → (w : IsWalk (next_at cells) (chain_at (length slots) cells) b (next_at slots b) (length cells))
+      × ((j : ℕ) → chain_at (length slots) cells j ≡ b → Among w.path j)
+      × (length w.path ≤ in_bucket cells (length slots) b)
+  walk_of slots cells free b linked h =
+      let m = length slots in
+      let c = linked b (omega (arith, h, length-starts slots free)) in
       let Path : ℕ → Type 0 = λ n. IsPath (next_at cells) n c.path in
-      let path = subst Path (get_or_append_left heads (free ∷ []) END b h) c.linked in
-      let few : length c.path ≤ in_bucket cells (length heads) b =
-      path_length (λ d. eqb (chain_of (length heads) d.kept) b) (next_at cells) _ c.path cells bare_cell path
-      (ne_eqb (length heads) b (λ e. omega arith))
-      (λ j m. let e = c.inside j m in
-      eq-eqb _ b
-      (sym (chain_at_within (length heads) cells j (within_by_chain (length heads) cells j b e (omega arith)))
-      ∙ e))
-      in
-      let short : length c.path ≤ length cells
-      = omega (
-        arith,
+      let path = subst Path (bucket_start slots free b h) c.linked in
+      let few : length c.path ≤ in_bucket cells m b =
+      path_length (λ d. eqb (chain_of m d.kept) b) (next_at cells) _ c.path cells bare_cell path
+      (ne_eqb m b (λ e. omega arith))
+      (λ j i. let e = c.inside j i in
+      eq-eqb _ b (sym (chain_at_within m cells j (within_by_chain m cells j b e (omega arith))) ∙ e)) in
+      let short = count_by-le-length (λ (d : Cell N). eqb (chain_of m d.kept) b) cells in (
+        record { path = c.path; linked = path; inside = c.inside; short = omega (arith, few, short) },
+        c.whole,
         few,
-        count_by-le-length
-            (λ (d : Cell N). eqb (chain_of (length heads) d.kept) b) cells,
-      ) in
-      (record { path = c.path; linked = path; inside = c.inside; short = short }, c.whole, few)
+      )
 
   -- a search from a bucket's head
-  pub search_start : (heads : List ℕ) (cells : List (Cell N)) (free b at : ℕ)
-      {IsOther : ℕ → Type 0} (before : ℕ)
-      → IsLinked heads cells free → b < length heads → get_or heads b END ≡ at
-      → IsSearch (next_at cells) (chain_at (length heads) cells) b at (length cells) IsOther
-      (in_bucket cells (length heads) b) before before
-  search_start heads cells free b at {IsOther = IsOther} before linked h e =
-      let w = walk_of heads cells free b linked h in
-      let Search : ℕ → Type 0
-      = λ n. IsSearch (next_at cells) (chain_at (length heads) cells) b n (length cells) IsOther
-      (in_bucket cells (length heads) b) before before in
-      subst Search e
-      (record {
+  pub search_start : (slots cells : List (Cell N)) (free b : ℕ) {IsOther : ℕ → Type 0} (before : ℕ)
+      → IsLinked slots cells free → b < length slots
+      → IsSearch (next_at cells) (chain_at (length slots) cells) b (next_at slots b) (length cells) IsOther
+      (in_bucket cells (length slots) b) before before
+  search_start slots cells free b before linked h =
+      let w = walk_of slots cells free b linked h in
+      record {
         walk = w.0;
         none = λ other j q. other j (w.1 j q);
         goes_on = omega arith;
-        cost =
-            omega (arith, w.2);
-      })
+        cost = omega (arith, w.2);
+      }
 
-  -- a walk along a hash's bucket that has not ended is at a cell, which has a node
-  pub walk_within : (heads : List ℕ) (cells : List (Cell N)) (hash : ℕ) {at most : ℕ}
-      → IsWalk (next_at cells) (chain_at (length heads) cells) (hash % length heads) at most
-      → IsPowerOfTwo (length heads) → at ≢ END
-      → at < length cells
-  walk_within heads cells hash {at} w power ne =
-      let some = positive_by_power (length heads) power in
-      on_within (length heads) cells at (hash % length heads) (walk_at w ne) (omega arith)
+  -- a walk along a bucket's chain that has not ended is at a cell, which has a node
+  pub record IsAt (cells : List (Cell N)) (at : ℕ) (read : Cell N) : Type 0 where
+    pub within : at < length cells
+    pub kept : kept_at cells at ≡ read.kept
+    pub next : next_at cells at ≡ read.next
+    pub some : IsSome read.kept
 
-  pub walk_read : (heads : List ℕ) (cells : List (Cell N)) (hash : ℕ) {at most : ℕ}
-      → IsWalk (next_at cells) (chain_at (length heads) cells) (hash % length heads) at most
-      → IsPowerOfTwo (length heads) → at ≢ END → (read : Cell N) → read ≡ get_or cells at read
-      → (kept_at cells at ≡ read.kept) × (next_at cells at ≡ read.next)
-  walk_read heads cells hash {at} w power ne read is =
-      let same = get_or_read cells at read (walk_within heads cells hash w power ne) is bare_cell in
-      (ap (λ (c : Cell N). c.kept) (sym same), ap (λ (c : Cell N). c.next) (sym same))
-
-  pub walk_some : (heads : List ℕ) (cells : List (Cell N)) (hash : ℕ) {at most : ℕ}
-      → IsWalk (next_at cells) (chain_at (length heads) cells) (hash % length heads) at most
-      → IsPowerOfTwo (length heads) → at ≢ END
-      → IsSome (kept_at cells at)
-  walk_some heads cells hash {at} w power ne =
-      let some = positive_by_power (length heads) power in
-      on_some (length heads) cells at (hash % length heads) (walk_at w ne) (omega arith)
+  pub walk_read : (cells : List (Cell N)) (m : ℕ) {b at most : ℕ} (read : Cell N)
+      → IsWalk (next_at cells) (chain_at m cells) b at most → b < m → at ≢ END → read ≡ get_or cells at read
+      → IsAt cells at read
+  walk_read cells m {b} {at} read w low ne is =
+      let within = on_within m cells at b (walk_at w ne) low in
+      let same : get_or cells at bare_cell ≡ read = sym (get_or_read cells at read within is bare_cell) in
+      record {
+        within = within;
+        kept = ap (λ (c : Cell N). c.kept) same;
+        next = ap (λ (c : Cell N). c.next) same;
+        some = subst (λ (c : Cell N). IsSome c.kept) same (on_some m cells at b (walk_at w ne) low);
+      }

@@ -70,17 +70,17 @@ abbrev pub IsThreaded : List ℕ → (ℕ → ℕ) → (ℕ → ℕ) → Type 0
 IsThreaded starts next chain =
     (b : ℕ) → b < length starts → IsChain next chain (slice_index_or starts b END) b
 
--- the heads start the buckets' chains, and `free` the chain of the free cells
-abbrev pub IsLinked : {N : Type 0} → List ℕ → List (Cell N) → ℕ → Type 0
-IsLinked heads cells free =
-    IsThreaded (heads ++ free ∷ []) (next_at cells) (chain_at (length heads) cells)
+-- the links of the slots start the buckets' chains, and `free` the chain of the free cells
+abbrev pub IsLinked : {N : Type 0} → List (Cell N) → List (Cell N) → ℕ → Type 0
+IsLinked slots cells free =
+    IsThreaded (links_of slots ++ free ∷ []) (next_at cells) (chain_at (length slots) cells)
 
 -- the same, but that the cell i is on no chain, whatever else is said of it
-abbrev pub IsLinkedBut : {N : Type 0} → List ℕ → List (Cell N) → ℕ → ℕ → Type 0
-IsLinkedBut heads cells free i =
-    (now : ℕ → ℕ) → ((b : ℕ) → b < length heads + 1 → now i ≢ b)
-    → ((j : ℕ) → j ≢ i → now j ≡ chain_at (length heads) cells j)
-    → IsThreaded (heads ++ free ∷ []) (next_at cells) now
+abbrev pub IsLinkedBut : {N : Type 0} → List (Cell N) → List (Cell N) → ℕ → ℕ → Type 0
+IsLinkedBut slots cells free i =
+    (now : ℕ → ℕ) → ((b : ℕ) → b < length slots + 1 → now i ≢ b)
+    → ((j : ℕ) → j ≢ i → now j ≡ chain_at (length slots) cells j)
+    → IsThreaded (links_of slots ++ free ∷ []) (next_at cells) now
 
 -- each cell keeps its node and the hash that it stores
 abbrev pub SameNodes : {N : Type 0} → List (Cell N) → List (Cell N) → Type 0
@@ -110,24 +110,32 @@ abbrev pub IsFilled : {N : Type 0} → List (Cell N) → Type 0
 IsFilled slots =
     (b : ℕ) → b < length slots → next_at slots b ≢ END → AreTaken slots (b - b % 16)
 
+-- the nodes are where a search looks for them
+pub record IsArranged {N : Type 0} (slots overflow : List (Cell N)) (free : ℕ) : Type 0 where
+  pub linked : IsLinked slots overflow free
+  pub in_place : IsInPlace slots
+  pub filled : IsFilled slots
+
+-- a table with this room has so many buckets, and so much memory for overflow cells
+pub record AreSizes (buckets capacity room : ℕ) : Type 0 where
+  pub headed : room ≤ buckets
+  pub bounded : buckets ≤ 4 * max 8 room
+  pub reserved : room ≤ capacity
+  pub spare : capacity ≤ 8 * max 8 room
+  pub none : room ≡ 0 → (buckets ≡ 0) × (capacity ≡ 0)
+  pub small : buckets ≤ 2 ^ 31
+  pub masked : 0 < buckets → IsPowerOfTwo buckets
+  pub whole : buckets % 16 ≡ 0
+
 -- the fields of a table agree
 pub record IsSound {N : Type 0} (slots overflow : List (Cell N))
     (capacity free len room : ℕ) : Type 0 where
-  pub linked : IsLinked (links_of slots) overflow free
-  pub in_place : IsInPlace slots
-  pub filled : IsFilled slots
+  pub arranged : IsArranged slots overflow free
+  pub sizes : AreSizes (length slots) capacity room
   pub counted : len ≡ length (nodes_in slots ++ nodes_in overflow)
   pub held : len ≤ room
-  pub headed : room ≤ length slots
-  pub bounded : length slots ≤ 4 * max 8 room
-  pub reserved : room ≤ capacity
-  pub spare : capacity ≤ 8 * max 8 room
-  pub none : room ≡ 0 → (length slots ≡ 0) × (capacity ≡ 0)
-  pub small : length slots ≤ 2 ^ 31
   pub overflow_few : length overflow ≤ room
   pub overflow_small : length overflow < END
-  pub masked : 0 < length slots → IsPowerOfTwo (length slots)
-  pub whole : length slots % 16 ≡ 0
 
 -- the node that a search found
 abbrev pub kept_by : {N : Type 0} → List (Cell N) → List (Cell N) → Spot → Option (Hashed N)

@@ -1,6 +1,7 @@
 -- The slots, as they are stored and as contracts see them.
-use Rattle.std.specs.Prelude.{◌≡◌, ℕ, ◌+◌, ◌*◌, ◌%◌, ◌≤◌, ◌==◌, ◌⊎◌, Bool, false, cond, ltb, List, [], ◌∷◌}
+use Rattle.std.specs.Prelude.{◌≡◌, ℕ, ◌+◌, ◌*◌, ◌%◌, ◌≤◌, ◌==◌, ◌⊎◌, Bool, false, cond, ltb, List}
 use Rattle.std.specs.Prelude.{◌++◌, slice_index_or, slice_set, length, map, Option, None, Some}
+use Rattle.std.specs.List.{zip, All}
 use Rattle.std.specs.Simd.Lanes.{chunk}
 use Rattle.hashlink_table.specs.declared.hashed.Hashed.{Hashed}
 use Rattle.hashlink_table.specs.declared.store.cell.Cell.{Cell}
@@ -8,10 +9,16 @@ use Rattle.hashlink_table.specs.declared.store.cell.TheConstants.{END}
 use Rattle.hashlink_table.specs.declared.store.slots.Rest.{Rest}
 use Rattle.hashlink_table.specs.Stored.{bare_cell, tag_of}
 
--- what is stored of a cell: a tag that is the hash's, or none, and a link
-pub record IsStored (rest : Rest) (tag : ℕ) : Type 0 where
-  pub tagged : (tag ≡ 0) ⊎ (tag ≡ tag_of rest.hash)
-  pub small : rest.link ≤ END
+-- what is stored of a cell
+pub record Row (N : Type 0) : Type 0 where
+  pub tag : ℕ
+  pub node : N
+  pub rest : Rest
+
+-- the tag is the hash's, or none
+pub record IsStored {N : Type 0} (row : Row N) : Type 0 where
+  pub tagged : (row.tag ≡ 0) ⊎ (row.tag ≡ tag_of row.rest.hash)
+  pub small : row.rest.link ≤ END
 
 -- the cell may have a node of this hash
 abbrev pub kept_may_be : {N : Type 0} → ℕ → Option (Hashed N) → Bool
@@ -22,28 +29,25 @@ abbrev pub may_be : {N : Type 0} → ℕ → Cell N → Bool
 may_be hash c = kept_may_be hash c.kept
 
 module _ {N : Type 0} where
-  -- a cell of which these are the tag, the node and the rest
-  abbrev pub slot : ℕ → N → Rest → Cell N
-  slot tag node rest = record {
-    kept = cond (tag == 0) None (Some (record { hash = rest.hash; node = node }));
-    hash = rest.hash;
-    next = rest.link;
+  -- a cell of which this is stored
+  abbrev pub slot : Row N → Cell N
+  slot row = record {
+    kept = cond (row.tag == 0) None (Some (record { hash = row.rest.hash; node = row.node }));
+    hash = row.rest.hash;
+    next = row.rest.link;
   }
 
   abbrev pub cells_in : List ℕ → List N → List Rest → List (Cell N)
-  cells_in [] ns rs = []
-  cells_in (t ∷ ts) [] rs = []
-  cells_in (t ∷ ts) (n ∷ ns) [] = []
-  cells_in (t ∷ ts) (n ∷ ns) (r ∷ rs) = slot t n r ∷ cells_in ts ns rs
+  cells_in ts ns rs =
+      map (λ p. slot (record { tag = p.0; node = p.1.0; rest = p.1.1 })) (zip ts (zip ns rs))
 
-  -- there are as many of each, and what is stored of each cell agrees
-  abbrev pub IsTagged : List ℕ → List N → List Rest → Type 0
-  IsTagged [] [] [] = Unit {0}
-  IsTagged [] [] (r ∷ rs) = ⊥
-  IsTagged [] (n ∷ ns) rs = ⊥
-  IsTagged (t ∷ ts) [] rs = ⊥
-  IsTagged (t ∷ ts) (n ∷ ns) [] = ⊥
-  IsTagged (t ∷ ts) (n ∷ ns) (r ∷ rs) = IsStored r t × IsTagged ts ns rs
+  -- the lists are the parts of one list, of what is stored of each cell
+  pub record IsTagged (ts : List ℕ) (ns : List N) (rs : List Rest) : Type 0 where
+    pub rows : List (Row N)
+    pub tags : ts ≡ map (λ row. row.tag) rows
+    pub nodes : ns ≡ map (λ row. row.node) rows
+    pub rests : rs ≡ map (λ row. row.rest) rows
+    pub stored : All IsStored rows
 
   -- the sixteen cells from this one on
   abbrev pub lanes_of : List (Cell N) → ℕ → List (Cell N)

@@ -1,12 +1,12 @@
 //! Searches. What they read of a node they read by `look`, which counts it.
-ghost use Rattle.std.specs.Prelude.{◌≡◌, ℕ, ◌+◌, ◌-◌, ◌%◌, ◌<◌, ◌≤◌, ◌==◌};
-ghost use Rattle.std.specs.Prelude.{IfNone, IfSome, Some, count_by, false, length, true};
+ghost use Rattle.std.specs.Prelude.{◌≡◌, ℕ, ◌+◌, ◌%◌, ◌<◌, ◌≤◌, ◌==◌, ◌++◌};
+ghost use Rattle.std.specs.Prelude.{Contains, IfNone, IfSome, Some, count_by, false, length, true};
 ghost use Rattle.std.specs.Int.{IsPowerOfTwo};
 ghost use Rattle.hashlink_table.specs.declared.hashed.Hashed.{Hashed};
 ghost use Rattle.hashlink_table.specs.Stored.{tag_of};
 ghost use Rattle.hashlink_table.specs.Slots.{lanes_of, may_be};
-ghost use Rattle.hashlink_table.specs.Chains.{chain_of, kept_at, kept_by, links_of, IsFilled, IsInPlace};
-ghost use Rattle.hashlink_table.specs.Chains.{IsLinked};
+ghost use Rattle.hashlink_table.specs.Chains.{chain_of, kept_at, kept_by, nodes_in};
+ghost use Rattle.hashlink_table.specs.Chains.{IsArranged, IsLinked};
 
 use super::steps::Steps;
 use super::store::bucket::{base_of, bucket_of};
@@ -69,7 +69,7 @@ fn seek_overflow<N: Copy, F: Fn(N) -> bool, L: Ledger>(
 ) -> Option<(usize, N)>
     requires masked { IsPowerOfTwo (length slots.now) }
     requires bucket { bucket ≡ hash % length slots.now }
-    requires linked { (free : ℕ) × IsLinked (links_of slots.now) cells.now free }
+    requires linked { (free : ℕ) × IsLinked slots.now cells.now free }
     requires callable { (cell : ℕ) (node : N) → kept_at cells.now cell ≡ Some
         (record { hash = hash; node = node })
         → F.pre is_match.now node }
@@ -107,30 +107,23 @@ pub fn seek<N: Copy, F: Fn(N) -> bool, L: Ledger>(
 ) -> Option<Found<N>>
     requires masked { IsPowerOfTwo (length slots.now) }
     requires whole { length slots.now % LANES ≡ 0 }
-    requires in_place { IsInPlace slots.now }
-    requires filled { IsFilled slots.now }
-    requires linked { (free : ℕ) × IsLinked (links_of slots.now) cells.now free }
-    requires callable_slots { (at : ℕ) (kept : Hashed N) → kept_at slots.now at ≡ Some kept
-        → kept.hash % length slots.now ≡ hash % length slots.now
-        → F.pre is_match.now kept.node }
-    requires telling { (at : ℕ) (kept : Hashed N) → kept_at slots.now at ≡ Some kept
-        → F.post is_match.now kept.node true → kept.hash ≡ hash }
-    requires callable { (cell : ℕ) (node : N) → kept_at cells.now cell ≡ Some
-        (record { hash = hash; node = node })
+    requires arranged { (free : ℕ) × IsArranged slots.now cells.now free }
+    requires callable { (h : ℕ) (node : N)
+        → Contains (nodes_in slots.now ++ nodes_in cells.now) (record { hash = h; node = node })
+        → h % length slots.now ≡ hash % length slots.now
         → F.pre is_match.now node }
+    requires telling { (h : ℕ) (node : N)
+        → Contains (nodes_in slots.now ++ nodes_in cells.now) (record { hash = h; node = node })
+        → F.post is_match.now node true → h ≡ hash }
     ensures found { IfSome result
         (λ f. (kept_by slots.now cells.now f.spot ≡ Some (record { hash = hash; node = f.node }))
         × F.post is_match.now f.node true) }
-    ensures none_slots { IfNone result
-        ((at : ℕ) (node : N) → kept_at slots.now at ≡ Some (record { hash = hash; node = node })
-        → F.post is_match.now node false) }
-    ensures none { IfNone result
-        ((cell : ℕ) (node : N) → kept_at cells.now cell ≡ Some (record { hash = hash; node = node })
+    ensures none { IfNone result ((node : N)
+        → Contains (nodes_in slots.now ++ nodes_in cells.now) (record { hash = hash; node = node })
         → F.post is_match.now node false) }
     ensures goes_on { steps.old ≤ steps.new }
-    ensures cost { let m = length slots.now in let b = hash % m in steps.new
-        ≤ steps.old + count_by (may_be hash) (lanes_of slots.now (b - b % LANES))
-        + count_by (λ c. chain_of m c.kept == b) cells.now }
+    ensures cost { let m = length slots.now in steps.new
+        ≤ steps.old + count_by (λ k. k.hash % m == hash % m) (nodes_in slots.now ++ nodes_in cells.now) }
 {
     let buckets = slots.len();
     let base = base_of(hash, buckets);

@@ -3,8 +3,7 @@ ghost use Rattle.std.specs.Prelude.{◌≡◌, ◌+◌, ◌*◌, ◌%◌, ◌^�
 ghost use Rattle.std.specs.Prelude.{IfOk, IsPermutation, OnErr, OnOk, Some};
 ghost use Rattle.std.specs.Prelude.{length, max, min, vec_capacity, vec_len};
 ghost use Rattle.std.specs.Int.{IsPowerOfTwo};
-ghost use Rattle.hashlink_table.specs.Chains.{links_of};
-ghost use Rattle.hashlink_table.specs.Chains.{nodes_in, IsFilled, IsInPlace, IsLinked};
+ghost use Rattle.hashlink_table.specs.Chains.{nodes_in, IsArranged, IsInPlace};
 
 use super::cell::{END, Stored};
 use super::lanes::LANES;
@@ -56,9 +55,7 @@ pub fn double<N: Copy>(
     requires in_place { IsInPlace slots.old }
     requires empty { block.items ≡ [] }
     requires roomy { vec_len cells.old ≤ vec_capacity block }
-    ensures in_place { OnOk result (IsInPlace slots.new) }
-    ensures filled { OnOk result (IsFilled slots.new) }
-    ensures linked { OnOk result (IsLinked (links_of slots.new) cells.new.items END) }
+    ensures arranged { OnOk result (IsArranged slots.new cells.new.items END) }
     ensures no_overflow { OnOk result (cells.new.items ≡ []) }
     ensures len { OnOk result (length slots.new ≡ 2 * length slots.old) }
     ensures nodes { IfOk result (λ list. IsPermutation (nodes_in slots.old ++ nodes_in cells.old.items)

@@ -1,10 +1,8 @@
 //! How a node comes in.
-ghost use Rattle.std.specs.Prelude.{◌≡◌, ◌≢◌, ℕ, ◌+◌, ◌*◌, ◌%◌, ◌<◌, ◌≤◌, ◌∷◌, ◌++◌};
+ghost use Rattle.std.specs.Prelude.{◌≡◌, ◌≢◌, ◌+◌, ◌-◌, ◌%◌, ◌<◌, ◌≤◌, ◌∷◌, ◌++◌};
 ghost use Rattle.std.specs.Prelude.{IsPermutation};
 ghost use Rattle.std.specs.Prelude.{length, vec_capacity, vec_len};
-ghost use Rattle.hashlink_table.specs.Chains.{links_of, next_at};
-ghost use Rattle.hashlink_table.specs.Chains.{nodes_in, IsFilled, IsInPlace, IsLinked};
-ghost use Rattle.hashlink_table.specs.Chains.{IsPlaced, SameNodes};
+ghost use Rattle.hashlink_table.specs.Chains.{nodes_in, AreTaken, IsArranged, IsPlaced};
 
 use super::bucket::group_of;
 use super::cell::{END, Stored};
@@ -42,13 +40,14 @@ fn chain<N: Copy>(
 )
     requires within { bucket < length slots.old }
     requires bucket { bucket ≡ kept.hash % length slots.old }
-    requires linked { IsLinked (links_of slots.old) cells.old.items free.old }
+    requires taken { AreTaken slots.old (bucket - bucket % LANES) }
+    requires arranged { IsArranged slots.old cells.old.items free.old }
     requires reserved { free.old ≡ END → vec_len cells.old < vec_capacity cells.old }
     requires small { vec_len cells.old < END }
-    ensures linked { IsLinked (links_of slots.new) cells.new.items free.new }
-    ensures slots { SameNodes slots.old slots.new }
-    ensures others { (b : ℕ) → b ≢ bucket → next_at slots.new b ≡ next_at slots.old b }
-    ensures nodes { IsPermutation (kept ∷ nodes_in cells.old.items) (nodes_in cells.new.items) }
+    ensures arranged { IsArranged slots.new cells.new.items free.new }
+    ensures len { length slots.new ≡ length slots.old }
+    ensures nodes { IsPermutation (kept ∷ nodes_in slots.old ++ nodes_in cells.old.items)
+        (nodes_in slots.new ++ nodes_in cells.new.items) }
     ensures capacity { vec_capacity cells.new ≡ vec_capacity cells.old }
     ensures full { free.old ≡ END → vec_len cells.new ≡ vec_len cells.old + 1 }
     ensures reused { free.old ≢ END → vec_len cells.new ≡ vec_len cells.old }
@@ -70,14 +69,10 @@ pub fn put<N: Copy>(
     requires within { bucket < length slots.old }
     requires bucket { bucket ≡ kept.hash % length slots.old }
     requires whole { length slots.old % LANES ≡ 0 }
-    requires linked { IsLinked (links_of slots.old) cells.old.items free.old }
-    requires in_place { IsInPlace slots.old }
-    requires filled { IsFilled slots.old }
+    requires arranged { IsArranged slots.old cells.old.items free.old }
     requires reserved { free.old ≡ END → vec_len cells.old < vec_capacity cells.old }
     requires small { vec_len cells.old < END }
-    ensures linked { IsLinked (links_of slots.new) cells.new.items free.new }
-    ensures in_place { IsInPlace slots.new }
-    ensures filled { IsFilled slots.new }
+    ensures arranged { IsArranged slots.new cells.new.items free.new }
     ensures len { length slots.new ≡ length slots.old }
     ensures nodes { IsPermutation (kept ∷ nodes_in slots.old ++ nodes_in cells.old.items)
         (nodes_in slots.new ++ nodes_in cells.new.items) }

@@ -4,8 +4,8 @@ ghost use Rattle.std.specs.Prelude.{IfNone, IfSome, IsPermutation, IsSome, Some}
 ghost use Rattle.std.specs.Prelude.{length};
 ghost use Rattle.std.specs.Int.{IsPowerOfTwo};
 ghost use Rattle.hashlink_table.specs.declared.store.spot.Spot.TheVariants.{Overflow};
-ghost use Rattle.hashlink_table.specs.Chains.{chain_at, kept_at, kept_by, links_of, next_at};
-ghost use Rattle.hashlink_table.specs.Chains.{nodes_in, IsFilled, IsInPlace, IsLinked, IsLinkedBut};
+ghost use Rattle.hashlink_table.specs.Chains.{chain_at, kept_at, kept_by, next_at};
+ghost use Rattle.hashlink_table.specs.Chains.{nodes_in, IsArranged, IsFilled, IsLinked, IsLinkedBut};
 ghost use Rattle.hashlink_table.specs.Chains.{SameNodes};
 
 use super::bucket::{bucket_of, group_of};
@@ -19,10 +19,10 @@ use crate::hashed::Hashed;
 fn unlink<N: Copy>(slots: &mut Slots<N>, cells: &mut [Stored<N>], bucket: usize, cell: usize)
     requires within { bucket < length slots.old }
     requires on_chain { chain_at (length slots.old) cells.old cell ≡ bucket }
-    requires linked { (free : ℕ) × IsLinked (links_of slots.old) cells.old free }
+    requires linked { (free : ℕ) × IsLinked slots.old cells.old free }
     requires small { length cells.old < END }
-    ensures unlinked { (free : ℕ) → IsLinked (links_of slots.old) cells.old free
-        → IsLinkedBut (links_of slots.new) cells.new free cell }
+    ensures unlinked { (free : ℕ) → IsLinked slots.old cells.old free
+        → IsLinkedBut slots.new cells.new free cell }
     ensures slots { SameNodes slots.old slots.new }
     ensures begun { (b : ℕ) → next_at slots.new b ≢ END → next_at slots.old b ≢ END }
     ensures nodes { SameNodes cells.old cells.new }
@@ -49,13 +49,13 @@ pub fn take_out<N: Copy>(
 ) -> Hashed<N>
     requires within { bucket < length slots.old }
     requires on_chain { chain_at (length slots.old) cells.old cell ≡ bucket }
-    requires linked { IsLinked (links_of slots.old) cells.old free.old }
+    requires arranged { IsArranged slots.old cells.old free.old }
     requires small { length cells.old < END }
-    ensures linked { IsLinked (links_of slots.new) cells.new free.new }
+    ensures arranged { IsArranged slots.new cells.new free.new }
     ensures slots { SameNodes slots.old slots.new }
-    ensures begun { (b : ℕ) → next_at slots.new b ≢ END → next_at slots.old b ≢ END }
     ensures kept { kept_at cells.old cell ≡ Some result }
-    ensures nodes { IsPermutation (nodes_in cells.old) (result ∷ nodes_in cells.new) }
+    ensures nodes { IsPermutation (nodes_in slots.old ++ nodes_in cells.old)
+        (result ∷ nodes_in slots.new ++ nodes_in cells.new) }
 {
     unlink(slots, cells, bucket, cell);
     let kept = cells[cell].known();
@@ -96,13 +96,9 @@ pub fn take<N: Copy>(
     requires masked { IsPowerOfTwo (length slots.old) }
     requires whole { length slots.old % LANES ≡ 0 }
     requires there { IsSome (kept_by slots.old cells.old spot) }
-    requires linked { IsLinked (links_of slots.old) cells.old free.old }
-    requires in_place { IsInPlace slots.old }
-    requires filled { IsFilled slots.old }
+    requires arranged { IsArranged slots.old cells.old free.old }
     requires small { length cells.old < END }
-    ensures linked { IsLinked (links_of slots.new) cells.new free.new }
-    ensures in_place { IsInPlace slots.new }
-    ensures filled { IsFilled slots.new }
+    ensures arranged { IsArranged slots.new cells.new free.new }
     ensures len { length slots.new ≡ length slots.old }
     ensures kept { kept_by slots.old cells.old spot ≡ Some result }
     ensures nodes { IsPermutation (nodes_in slots.old ++ nodes_in cells.old)

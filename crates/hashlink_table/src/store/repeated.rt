@@ -1,4 +1,4 @@
-ghost use Rattle.std.specs.Prelude.{◌≡◌, IfOk, replicate};
+ghost use Rattle.std.specs.Prelude.{◌≡◌, ◌+◌, ◌≤◌, ◌++◌, IfOk, replicate, vec_capacity, vec_len};
 
 use std::alloc::{AllocError, Global};
 
@@ -7,8 +7,15 @@ pub fn repeated<T: Copy>(alloc: Global, value: T, count: usize) -> Result<Vec<T>
     ensures { IfOk result (λ list. list.items ≡ replicate count value) }
 {
     let mut list = Vec::with_capacity(alloc, count)?;
-    for _ in 0..count {
-        list.push_reserved(value);
-    }
+    add_repeated(&mut list, value, count);
     Ok(list)
+}
+
+/// Adds this value so many times, for which there is room.
+pub fn add_repeated<T: Copy>(list: &mut Vec<T>, value: T, count: usize)
+    requires roomy { vec_len list.old + count ≤ vec_capacity list.old }
+    ensures { list.new.items ≡ list.old.items ++ replicate count value }
+{
+    let all = list.len() + count;
+    list.resize(all, value).unwrap();
 }

@@ -12,7 +12,7 @@ ghost use Rattle.hashlink_table.specs.Slots.{cells_in, doubled, parted, IsTagged
 use super::bucket::bucket_of;
 use super::cell::END;
 use super::lanes::{LANES, lanes_with};
-use super::repeated::repeated;
+use super::repeated::{add_repeated, repeated};
 use crate::hashed::Hashed;
 use crate::steps::Steps;
 use std::alloc::{AllocError, Global};
@@ -142,14 +142,13 @@ impl<N: Copy> Slots<N> {
         self.rests.reserve_exact(count)?;
         self.nodes.reserve_exact(count)?;
         self.tags.reserve_exact(count)?;
-        let all = self.tags.len() + count;
         let bare = Rest {
             hash: 0,
             link: END as u32,
         };
-        self.rests.resize(all, bare)?;
-        self.nodes.resize(all, filler)?;
-        self.tags.resize(all, 0)?;
+        add_repeated(&mut self.rests, bare, count);
+        add_repeated(&mut self.nodes, filler, count);
+        add_repeated(&mut self.tags, 0, count);
         Ok(())
     }
 

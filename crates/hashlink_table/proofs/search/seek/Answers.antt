@@ -1,25 +1,40 @@
-use Rattle.std.proofs.Common.{ℕ, ◌-◌, ◌%◌, ◌<◌, ◌≡◌, length, refl, sym, ap, ◌∙◌, arith}
+use Rattle.std.proofs.Common.{ℕ, ◌+◌, ◌-◌, ◌%◌, ◌<◌, ◌≤◌, ◌≡◌, ◌++◌, count_by, eqb, false, length, Some}
+use Rattle.std.proofs.Common.{refl, ap, ◌∙◌, arith}
 use Rattle.std.proofs.lemmas.Bool.{eq-eqb, eqb-true}
-use Rattle.hashlink_table.specs.Chains.{chain_at, chain_of, kept_at, links_of}
+use Rattle.hashlink_table.specs.Chains.{chain_at, chain_of, kept_at, nodes_in}
+use Rattle.hashlink_table.specs.Slots.{lanes_of, may_be}
+use Rattle.hashlink_table.specs.declared.store.spot.Spot.TheVariants.{Slot, Overflow}
 use Rattle.hashlink_table.specs.Stored.{tag_of}
 use Rattle.hashlink_table.proofs.Cells.{chain_at_within}
-use Rattle.hashlink_table.proofs.Chaining.{length-links, link_read}
 use Rattle.hashlink_table.proofs.Groups.{from_base, group_within, grouped_in, to_base}
 use Rattle.hashlink_table.proofs.Linking.{positive_by_power}
 use Rattle.hashlink_table.proofs.Masks.{no_chain}
 use Rattle.hashlink_table.proofs.Moving.{within_kept}
-use Rattle.hashlink_table.proofs.Views.{tag_agrees}
+use Rattle.hashlink_table.proofs.Views.{contains_found, looked_at, none_left, tag_agrees}
 use Rattle.hashlink_table.proofs.Walks.{walk_of, walk_goes}
+use Rattle.hashlink_table.proofs.search.seek.Given as given
+use Rattle.hashlink_table.proofs.search.seek.Goals.{After-base_of-base, In_default}
 use Rattle.hashlink_table.proofs.search.seek.Goals as goal
 
 pub seek_overflow-requires-clause-bucket : goal.seek_overflow-requires-clause-bucket
 seek_overflow-requires-clause-bucket g c =
     c.bucket_of-bucket.ensures ∙ ap (λ m. c.args.hash % m) c.len-buckets.ensures
 
--- the group of a hash
-group_is : (hash m len base : ℕ) → len ≡ m → base ≡ hash % len - hash % len % 16 → base
-    ≡ hash % m - hash % m % 16
-group_is hash m len base n is = is ∙ ap (λ k. hash % k - hash % k % 16) n
+-- the group of the hash, and the nodes that are looked at there and in the chain
+module _ (g : given.Over) (c : After-base_of-base g) where
+  abbrev m : ℕ
+  m = length c.args.slots.now
+
+  group : c.base_of-base.result ≡ c.args.hash % m - c.args.hash % m % 16
+  group = c.base_of-base.ensures ∙ ap (λ k. c.args.hash % k - c.args.hash % k % 16) c.len-buckets.ensures
+
+  looked : count_by (may_be c.args.hash) (lanes_of c.args.slots.now c.base_of-base.result)
+      + count_by (λ d. eqb (chain_of m d.kept) (c.args.hash % m)) c.args.cells.now
+      ≤ count_by (λ k. eqb (k.hash % m) (c.args.hash % m))
+      (nodes_in c.args.slots.now ++ nodes_in c.args.cells.now)
+  looked =
+      looked_at c.args.slots.now c.args.cells.now c.args.hash c.base_of-base.result c.requires.masked
+      c.requires.whole c.requires.arranged.1.in_place group
 
 -- a node of the group with the tag of the hash is of its bucket
 pub seek_slots-requires-clause-callable : goal.seek_slots-requires-clause-callable
@@ -27,46 +42,70 @@ seek_slots-requires-clause-callable g c at kept from to is same =
     let slots = c.args.slots.now in
     let m = length slots in
     let b = c.args.hash % m in
-    let some = positive_by_power m c.requires.masked in
-    let base = group_is c.args.hash _ _ _ c.len-buckets.ensures c.base_of-base.ensures in
-    let own = tag_agrees m b c.args.hash at (kept_at slots at) some c.requires.whole refl
-    (c.requires.in_place at)
+    let base = group g (goal.at.seek_slots-requires-clause-callable g c).After-base_of-base in
+    let own = tag_agrees m b c.args.hash at (kept_at slots at) (positive_by_power m c.requires.masked)
+    c.requires.whole refl (c.requires.arranged.1.in_place at)
     (grouped_in b at (omega (arith, base, from)) (omega (arith, base, to)))
     (rw is (eq-eqb (tag_of kept.hash) (tag_of c.args.hash) same)) in
-    c.requires.callable_slots at kept is (eqb-true (kept.hash % m) b (rw is at own))
+    c.requires.callable kept.hash kept.node (contains_found slots c.args.cells.now (Slot at) kept is)
+    (eqb-true (kept.hash % m) b (rw is at own))
 
-pub returns-then-free-ne0-clause-none_slots : goal.returns-then-free-ne0-clause-none_slots
-returns-then-free-ne0-clause-none_slots g c = λ at node is.
+pub seek_slots-requires-clause-telling : goal.seek_slots-requires-clause-telling
+seek_slots-requires-clause-telling g c at kept is =
+    c.requires.telling kept.hash kept.node
+    (contains_found c.args.slots.now c.args.cells.now (Slot at) kept is)
+
+pub seek_overflow-requires-clause-callable : goal.seek_overflow-requires-clause-callable
+seek_overflow-requires-clause-callable g c cell node is =
+    c.requires.callable c.args.hash node
+    (contains_found c.args.slots.now c.args.cells.now (Overflow cell) _ is) refl
+
+-- what none of the group has no slot has
+none_in_slots : (g : given.Over) (c : In_default g) (at : ℕ) (node : g.row.N.Denot)
+    → kept_at c.args.slots.now at ≡ Some (record { hash = c.args.hash; node = node })
+    → g.F.Fn.post c.args.is_match.now (node, tt) false
+none_in_slots g c at node kept =
     let b = c.args.hash % length c.args.slots.now in
-    let base = group_is c.args.hash _ _ _ c.len-buckets.ensures c.base_of-base.ensures in
-    let same = c.requires.in_place at _ is in
-    c.in_default.ensures.none at node (omega (arith, base, from_base b at same))
-    (omega (arith, base, to_base b at same)) is
+    let first = c.base_of-base.ensures
+    ∙ ap (λ k. c.args.hash % k - c.args.hash % k % 16) c.len-buckets.ensures in
+    let same = c.requires.arranged.1.in_place at _ kept in
+    c.in_default.ensures.none at node (omega (arith, first, from_base b at same))
+    (omega (arith, first, to_base b at same)) kept
 
 pub returns-then-free-ne0-clause-none : goal.returns-then-free-ne0-clause-none
-returns-then-free-ne0-clause-none g c = λ cell node is.
+returns-then-free-ne0-clause-none g c =
+    none_left c.args.slots.now c.args.cells.now c.args.hash _
+    (none_in_slots g (goal.at.returns-then-free-ne0-clause-none g c).In_default)
+    (λ cell node is.
     let slots = c.args.slots.now in let cells = c.args.cells.now in
-    let heads = links_of slots in
-    let n = length-links slots in
-    let b = c.args.hash % length heads in
-    let some = positive_by_power (length slots) c.requires.masked in
-    let low : b < length heads = omega (arith, n, some) in
-    let bucket : b ≡ c.args.hash % length slots = ap (λ m. c.args.hash % m) n in
-    let base = group_is c.args.hash _ _ _ c.len-buckets.ensures c.base_of-base.ensures
-    ∙ ap (λ k. k - k % 16) (sym bucket) in
-    let room = group_within b (length slots) (omega (arith, low, n)) c.requires.whole in
-    let none = no_chain slots c.base_of-base.result b base (omega (arith, room, base)) c.requires.filled
+    let m = length slots in let b = c.args.hash % m in
+    let low : b < m = omega (arith, positive_by_power m c.requires.masked) in
+    let base = group g (goal.at.returns-then-free-ne0-clause-none g c).After-base_of-base in
+    let none = no_chain slots c.base_of-base.result b base
+    (omega (arith, group_within b m low c.requires.whole, base)) c.requires.arranged.1.filled
     (λ e. c.if-free-ne0.true (c.free.ensures.lanes ∙ e)) in
-    let on : chain_at (length heads) cells cell ≡ b
-    = chain_at_within (length heads) cells cell (within_kept cells cell _ is)
-    ∙ ap (chain_of (length heads)) is in
-    let w = walk_of heads cells c.requires.linked.0 b c.requires.linked.1 low in
-    absurd (walk_goes w.0 cell (w.1 cell on) (link_read slots b (omega (arith, low, n)) ∙ none))
+    let on : chain_at m cells cell ≡ b
+    = chain_at_within m cells cell (within_kept cells cell _ is) ∙ ap (chain_of m) is in
+    let w = walk_of slots cells c.requires.arranged.0 b c.requires.arranged.1.linked low in
+    absurd (walk_goes w.0 cell (w.1 cell on) none))
 
-pub returns-in-None-clause-none_slots : goal.returns-in-None-clause-none_slots
-returns-in-None-clause-none_slots g c = λ at node is.
-    let b = c.args.hash % length c.args.slots.now in
-    let base = group_is c.args.hash _ _ _ c.len-buckets.ensures c.base_of-base.ensures in
-    let same = c.requires.in_place at _ is in
-    c.in_default.ensures.none at node (omega (arith, base, from_base b at same))
-    (omega (arith, base, to_base b at same)) is
+pub returns-in-None-clause-none : goal.returns-in-None-clause-none
+returns-in-None-clause-none g c =
+    none_left c.args.slots.now c.args.cells.now c.args.hash _
+    (none_in_slots g (goal.at.returns-in-None-clause-none g c).In_default) c.in-None.ensures.none
+
+pub returns-in-Some-clause-cost : goal.returns-in-Some-clause-cost
+returns-in-Some-clause-cost g c =
+    omega (arith, looked g (goal.at.returns-in-Some-clause-cost g c).After-base_of-base)
+
+pub returns-then-free-ne0-clause-cost : goal.returns-then-free-ne0-clause-cost
+returns-then-free-ne0-clause-cost g c =
+    omega (arith, looked g (goal.at.returns-then-free-ne0-clause-cost g c).After-base_of-base)
+
+pub returns-in-Some-seek_overflow-clause-cost : goal.returns-in-Some-seek_overflow-clause-cost
+returns-in-Some-seek_overflow-clause-cost g c =
+    omega (arith, looked g (goal.at.returns-in-Some-seek_overflow-clause-cost g c).After-base_of-base)
+
+pub returns-in-None-clause-cost : goal.returns-in-None-clause-cost
+returns-in-None-clause-cost g c =
+    omega (arith, looked g (goal.at.returns-in-None-clause-cost g c).After-base_of-base)

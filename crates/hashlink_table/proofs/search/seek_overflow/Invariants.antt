@@ -1,5 +1,5 @@
-use Rattle.std.proofs.Common.{◌≡◌, ◌%◌, length, Some, false}
-use Rattle.hashlink_table.specs.Chains.{next_at, kept_at, chain_at, links_of}
+use Rattle.std.proofs.Common.{◌≡◌, length, Some, false}
+use Rattle.hashlink_table.specs.Chains.{next_at, kept_at, chain_at}
 use Rattle.hashlink_table.proofs.Walks.{IsSearch, steps_left, in_bucket}
 use Rattle.hashlink_table.proofs.search.seek_overflow.Given as goal
 
@@ -8,13 +8,13 @@ abbrev pub invariant-loop-at : goal.invariant-loop-at
 invariant-loop-at g l =
     IsSearch
     (next_at l.cells)
-    (chain_at (length (links_of l.slots)) l.cells)
-    (l.hash % length (links_of l.slots))
+    (chain_at (length l.slots) l.cells)
+    l.bucket
     l.at
     (length l.cells)
     (λ cell. (node : g.row.N.Denot) → kept_at l.cells cell ≡ Some (record { hash = l.hash; node = node })
     → goal.F-post g l.is_match node false)
-    (in_bucket l.cells (length (links_of l.slots)) (l.hash % length (links_of l.slots)))
+    (in_bucket l.cells (length l.slots) l.bucket)
     l.initial.steps
     l.steps
 

@@ -1,16 +1,14 @@
-use Rattle.std.proofs.Common.{◌≡◌, ℕ, ◌+◌, ◌-◌, ◌≤◌, true, false, inl, inr, List, length, map, drop, Option}
+use Rattle.std.proofs.Common.{◌≡◌, ℕ, ◌+◌, true, false, inl, inr, Option}
 use Rattle.std.proofs.Common.{None, Some, IsSome, refl, sym, ap, ◌∙◌, subst, arith}
 use Rattle.std.specs.Prelude.{IfSome}
 use Rattle.std.proofs.lemmas.Bool.{cases_eq, cases_lt, eq-eqb, eqb-true, true≢false, false≢true}
 use Rattle.std.proofs.lemmas.Option.{same_Some}
 use lib.Count.{count_trailing_zeros}
-use lib.Lanes.{mask_l}
 use Rattle.hashlink_table.specs.declared.hashed.Hashed.{Hashed}
-use Rattle.hashlink_table.specs.declared.store.cell.Cell.{Cell}
 use Rattle.hashlink_table.specs.Chains.{kept_at}
 use Rattle.hashlink_table.specs.Stored.{tag_of}
-use Rattle.hashlink_table.specs.Slots.{kept_may_be, lanes_of, may_be}
-use Rattle.hashlink_table.proofs.Masks.{hit, no_hit, IsHit}
+use Rattle.hashlink_table.specs.Slots.{kept_may_be}
+use Rattle.hashlink_table.proofs.Masks.{hit, no_hit}
 use Rattle.hashlink_table.proofs.search.seek_slots.Goals as goal
 
 -- a cell that may have a node has one
@@ -40,44 +38,26 @@ of_some : {X : Type 0} (P : X → Type 0) (o : Option X) → IsSome o → IfSome
 of_some P None some p = absurd (false≢true some)
 of_some P (Some x) some p = (x, refl, p)
 
-module _ {N : Type 0} (slots : List (Cell N)) (base hash : ℕ) (room : base + 16 ≤ length slots)
-    (at hits : ℕ) (low : base ≤ at)
-    (left : hits ≡ mask_l (map (may_be hash) (drop (at - base) (lanes_of slots base)))) where
-  found_at : (hits ≡ 0 → ⊥) → IsHit slots base room (may_be hash) at hits
-  found_at some = hit slots base room (may_be hash) at hits low left some
-
 pub overflow_add-at : goal.overflow_add-at
 overflow_add-at g c =
-    let v = c.loop-hits.invariant in
-    let h = found_at c.args.slots.now c.args.base c.args.hash c.requires.within c.loop-hits.at
-    c.loop-hits.hits
-    v.from v.left c.loop-hits-test.true in
+    let h = hit c.requires.within c.loop-hits.invariant.left c.loop-hits-test.true in
     record { fits = omega (arith, h.to, c.may_have-hits.ensures.small) }
 
 pub look-node-requires : goal.look-node-requires
 look-node-requires g c =
-    let v = c.loop-hits.invariant in
-    let h = found_at c.args.slots.now c.args.base c.args.hash c.requires.within c.loop-hits.at
-    c.loop-hits.hits
-    v.from v.left c.loop-hits-test.true in
-    there c.args.hash _ h.here
+    there c.args.hash _ (hit c.requires.within c.loop-hits.invariant.left c.loop-hits-test.true).here
 
 pub is_match-requires : goal.is_match-requires
 is_match-requires g c =
-    let slots = c.args.slots.now in
-    let v = c.loop-hits.invariant in
-    let h = found_at slots c.args.base c.args.hash c.requires.within c.loop-hits.at c.loop-hits.hits
-    v.from v.left c.loop-hits-test.true in
+    let left = c.loop-hits.invariant.left in
+    let h = hit c.requires.within left c.loop-hits-test.true in
     let k = of_some _ _ (there c.args.hash _ h.here) c.look-node.ensures.node in
     subst (λ (n : g.row.N.Denot). g.F.Fn.pre c.args.is_match.now (n, tt)) k.2
-    (c.requires.callable _ k.0 (omega (arith, v.from)) h.to k.1 (same_tag c.args.hash _ k.0 k.1 h.here))
+    (c.requires.callable _ k.0 (omega (arith, left.low)) h.to k.1 (same_tag c.args.hash _ k.0 k.1 h.here))
 
 pub returns-then-is_match-clause-found : goal.returns-then-is_match-clause-found
 returns-then-is_match-clause-found g c =
-    let slots = c.args.slots.now in
-    let v = c.loop-hits.invariant in
-    let h = found_at slots c.args.base c.args.hash c.requires.within c.loop-hits.at c.loop-hits.hits
-    v.from v.left c.loop-hits-test.true in
+    let h = hit c.requires.within c.loop-hits.invariant.left c.loop-hits-test.true in
     let k = of_some _ _ (there c.args.hash _ h.here) c.look-node.ensures.node in
     let matches = subst (λ (n : g.row.N.Denot). g.F.Fn.post c.args.is_match.now (n, tt) true) (sym k.2)
     c.if-is_match.ensures in
@@ -86,37 +66,28 @@ returns-then-is_match-clause-found g c =
 pub returns-then-is_match-clause-cost : goal.returns-then-is_match-clause-cost
 returns-then-is_match-clause-cost g c =
     let v = c.loop-hits.invariant in
-    let h = found_at c.args.slots.now c.args.base c.args.hash c.requires.within c.loop-hits.at
-    c.loop-hits.hits
-    v.from v.left c.loop-hits-test.true in
+    let h = hit c.requires.within v.left c.loop-hits-test.true in
     omega (arith, v.cost, h.count, c.look-node.ensures.step)
 
 pub overflow_add-at-in-loop-hits : goal.overflow_add-at-in-loop-hits
 overflow_add-at-in-loop-hits g c =
-    let v = c.loop-hits.invariant in
-    let h = found_at c.args.slots.now c.args.base c.args.hash c.requires.within c.loop-hits.at
-    c.loop-hits.hits
-    v.from v.left c.loop-hits-test.true in
+    let h = hit c.requires.within c.loop-hits.invariant.left c.loop-hits-test.true in
     record { fits = omega (arith, h.to, c.may_have-hits.ensures.small) }
 
 pub loop-hits-preserved : goal.loop-hits-preserved
 loop-hits-preserved g c =
-    let slots = c.args.slots.now in
     let v = c.loop-hits.invariant in
-    let h = found_at slots c.args.base c.args.hash c.requires.within c.loop-hits.at c.loop-hits.hits
-    v.from v.left c.loop-hits-test.true in
+    let h = hit c.requires.within v.left c.loop-hits-test.true in
     let k = of_some _ _ (there c.args.hash _ h.here) c.look-node.ensures.node in
     let now = c.loop-hits.at + count_trailing_zeros 64 c.loop-hits.hits in
     let Other : g.row.N.Denot → Type 0 = λ n. g.F.Fn.post c.args.is_match.now (n, tt) false in
     record {
-      from = omega (arith, v.from);
-      to = omega (arith, h.to);
       left = h.rest;
       seen = λ i node from to is. elim (cases_lt i c.loop-hits.at) as (λ _. Other node) [
         | inl early ↦ v.seen i node from early is
         | inr late ↦ elim (cases_eq i now) as (λ _. Other node) [
           | inl e ↦
-              let same = same_Some _ _ (sym k.1 ∙ ap (kept_at slots) (sym e) ∙ is) in
+              let same = same_Some _ _ (sym k.1 ∙ ap (kept_at c.args.slots.now) (sym e) ∙ is) in
               subst Other (sym k.2 ∙ ap (λ (j : Hashed g.row.N.Denot). j.node) same) c.if-is_match.ensures
           | inr ne ↦ absurd (true≢false (sym (slot_hash c.args.hash _ node is)
               ∙ h.before i late (omega (arith, to, ne))))
@@ -128,12 +99,10 @@ loop-hits-preserved g c =
 
 pub returns-clause-none : goal.returns-clause-none
 returns-clause-none g c = λ i node from to is.
-    let slots = c.args.slots.now in
     let v = c.loop-hits.invariant in
     let Other : g.row.N.Denot → Type 0 = λ n. g.F.Fn.post c.args.is_match.now (n, tt) false in
     elim (cases_lt i c.loop-hits.at) as (λ _. Other node) [
       | inl early ↦ v.seen i node from early is
       | inr late ↦ absurd (true≢false (sym (slot_hash c.args.hash _ node is)
-          ∙ no_hit slots c.args.base c.requires.within (may_be c.args.hash) c.loop-hits.at v.from
-          (sym v.left ∙ c.loop-hits-test.false) i late to))
+          ∙ no_hit c.requires.within v.left c.loop-hits-test.false i late to))
     ]

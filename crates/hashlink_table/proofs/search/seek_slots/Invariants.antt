@@ -1,16 +1,14 @@
-use Rattle.std.proofs.Common.{◌≡◌, ℕ, ◌+◌, ◌-◌, ◌<◌, ◌≤◌, false, Some, map, drop, count_by}
-use lib.Lanes.{mask_l}
+use Rattle.std.proofs.Common.{◌≡◌, ℕ, ◌+◌, ◌-◌, ◌<◌, ◌≤◌, false, Some, drop, count_by}
 use Rattle.hashlink_table.specs.Chains.{kept_at}
 use Rattle.hashlink_table.specs.Slots.{lanes_of, may_be}
+use Rattle.hashlink_table.proofs.Masks.{IsLeft}
 use Rattle.hashlink_table.proofs.search.seek_slots.Given as goal
 
 -- the cells before this one have not the node, the bits that are left are those of the cells from it on, and
 -- there was a step for each that may have had it
 abbrev pub invariant-loop-hits : goal.invariant-loop-hits
 invariant-loop-hits g l = record {
-  from : l.base ≤ l.at;
-  to : l.at ≤ l.base + 16;
-  left : l.hits ≡ mask_l (map (may_be l.hash) (drop (l.at - l.base) (lanes_of l.slots l.base)));
+  left : IsLeft l.slots l.base (may_be l.hash) l.at l.hits;
   seen : (i : ℕ) (node : g.row.N.Denot) → l.base ≤ i → i < l.at
       → kept_at l.slots i ≡ Some (record { hash = l.hash; node = node })
       → goal.F-post g l.is_match node false;

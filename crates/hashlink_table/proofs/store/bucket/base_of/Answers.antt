@@ -1,5 +1,6 @@
 -- A power of two less sixteen is a mask of the bits above the lowest four.
 use Rattle.std.proofs.Common.{◌≡◌, ℕ, ◌+◌, ◌-◌, ◌%◌, ◌^◌, bit_and, sym, subst, arith}
+use Rattle.std.proofs.lemmas.Nat.{pow_pos}
 use lib.Bits.{and_high}
 use lib.Pow.{mod-pow-add}
 use Rattle.hashlink_table.proofs.Groups.{groups_of}
@@ -11,5 +12,6 @@ masked hash k = omega (arith, and_high hash k 4, mod-pow-add hash k 4)
 pub returns : goal.returns
 returns c =
     let Masks : ℕ → Type 0 = λ n. bit_and c.args.hash (n - 16) ≡ c.args.hash % n - c.args.hash % n % 16 in
-    let k = groups_of c.args.buckets c.requires.power c.requires.whole in
+    let k = groups_of c.args.buckets c.requires.power
+    (omega (arith, c.requires.whole, c.requires.power.1, pow_pos c.requires.power.0)) in
     subst Masks (sym k.1) (masked c.args.hash k.0)

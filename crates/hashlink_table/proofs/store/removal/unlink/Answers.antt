@@ -1,56 +1,46 @@
-use Rattle.hashlink_table.specs.declared.store.cell.Cell.{Cell}
-use Rattle.std.proofs.Common.{ℕ, ◌<◌, ◌≢◌, List, length, sym, ap, ◌∙◌, subst, inl, inr, arith, rules}
+use Rattle.std.proofs.Common.{◌<◌, length, sym, ap, ◌∙◌, subst, inl, inr, arith}
 use Rattle.std.proofs.Math.Seq.{map-set_same}
-use Rattle.hashlink_table.specs.declared.store.cell.TheConstants.{END}
-use Rattle.hashlink_table.specs.Chains.{next_at, chain_at, links_of, Among, IsLinkedBut, SameNodes, stored_in}
-use Rattle.hashlink_table.proofs.Chaining.{length-links, link_read, link_set, on_within}
-use Rattle.hashlink_table.proofs.Cells.{within_by_chain, kept_at_read, next_at_read}
+use Rattle.hashlink_table.specs.declared.store.cell.Cell.{Cell}
+use Rattle.hashlink_table.specs.Chains.{next_at, Among, SameNodes, stored_in}
+use Rattle.hashlink_table.proofs.Chaining.{on_within}
+use Rattle.hashlink_table.proofs.Cells.{kept_at_read, next_at_read}
 use Rattle.hashlink_table.proofs.Linking.{unlinked_first, unlinked_next}
 use Rattle.hashlink_table.proofs.Moving.{next-same, next-begun}
-use Rattle.hashlink_table.proofs.Walks.{IsWalk, walk_of, walk_on, walk_at, walk_goes, steps_left}
-use Rattle.hashlink_table.proofs.Walks.{steps_left-falls}
+use Rattle.hashlink_table.proofs.Walks.{walk_of, walk_on, walk_at, walk_goes, steps_left, steps_left-falls}
+use Rattle.hashlink_table.proofs.store.removal.unlink.Given as given
+use Rattle.hashlink_table.proofs.store.removal.unlink.Goals.{Start}
 use Rattle.hashlink_table.proofs.store.removal.unlink.Goals as goal
 
+-- the cell is one of the cells
+within : (g : given.Over) (c : Start g) → c.args.cell < length c.args.cells.now
+within g c =
+    on_within (length c.args.slots.now) c.args.cells.now c.args.cell c.args.bucket c.requires.on_chain
+    c.requires.within
+
 pub returns-then-at-cell-clause-unlinked : goal.returns-then-at-cell-clause-unlinked
-returns-then-at-cell-clause-unlinked g c =
-    let C : Type 0 = Cell g.row.N.Denot in
-    let slots = c.args.slots.now in let cells = c.args.cells.now in
-    let heads = links_of slots in
-    let n = length-links slots in
-    let on = ap (λ m. chain_at m cells c.args.cell) n ∙ c.requires.on_chain in
-    let low : c.args.bucket < length heads = omega (arith, c.requires.within, n) in
-    let within : c.args.cell < length cells
-    = within_by_chain (length heads) cells c.args.cell c.args.bucket on (omega arith) in
-    let start = link_read slots c.args.bucket c.requires.within ∙ sym c.next-at.ensures.value in
-    let to = c.next-after.ensures.value ∙ next_at_read cells c.args.cell c.index-cells-cell.result within in
-    λ free linked.
-    subst (λ hs. IsLinkedBut hs cells free c.args.cell)
-    (sym (ap (λ (f : List C). links_of f) c.set_next.ensures
-    ∙ link_set slots c.args.bucket _ (next_at cells c.args.cell) to))
-    (unlinked_first heads cells free c.args.bucket c.args.cell low (start ∙ c.if-at-cell.true)
-    (λ e. omega (arith, within, c.requires.small, e)) on linked)
+returns-then-at-cell-clause-unlinked g c = λ free linked.
+    let cells = c.args.cells.now in
+    let there = within g (goal.at.returns-then-at-cell-clause-unlinked g c).Start in
+    rw c.set_next.ensures
+    (unlinked_first c.args.slots.now cells free c.args.bucket c.args.cell _ c.requires.within
+    (sym c.next-at.ensures.value ∙ c.if-at-cell.true)
+    (c.next-after.ensures.value ∙ next_at_read cells c.args.cell c.index-cells-cell.result there)
+    (λ e. omega (arith, there, c.requires.small, e)) c.requires.on_chain linked)
 
 pub loop-cells-init : goal.loop-cells-init
 loop-cells-init g c =
-    let slots = c.args.slots.now in let cells = c.args.cells.now in
-    let heads = links_of slots in
-    let n = length-links slots in
-    let on = ap (λ m. chain_at m cells c.args.cell) n ∙ c.requires.on_chain in
-    let low : c.args.bucket < length heads = omega (arith, c.requires.within, n) in
-    let start = link_read slots c.args.bucket c.requires.within ∙ sym c.next-at.ensures.value in
-    let w = walk_of heads cells c.requires.linked.0 c.args.bucket c.requires.linked.1 low in
-    let From : ℕ → Type 0
-    = λ at. (v : IsWalk (next_at cells) (chain_at (length heads) cells) c.args.bucket at (length cells))
-    × Among v.path c.args.cell in
-    let v = subst From start (w.0, w.1 c.args.cell on) in
-    record {
-      walk = v.0;
-      to_come = v.1;
-      apart = c.if-at-cell.false;
+    let m = length c.args.slots.now in let cells = c.args.cells.now in
+    let w = walk_of c.args.slots.now cells c.requires.linked.0 c.args.bucket c.requires.linked.1
+    c.requires.within in
+    let to_come = w.1 c.args.cell c.requires.on_chain in
+    rw c.next-at.ensures.value (record {
+      walk = w.0;
+      to_come = to_come;
+      apart = rw c.next-at.ensures.value at c.if-at-cell.false;
       within =
-          within_by_chain (length heads) cells _ c.args.bucket (walk_at v.0 (walk_goes v.0 c.args.cell v.1))
-          (omega arith);
-    }
+          on_within m cells _ c.args.bucket (walk_at w.0 (walk_goes w.0 c.args.cell to_come))
+          c.requires.within;
+    })
 
 pub loop-cells-smaller : goal.loop-cells-smaller
 loop-cells-smaller g c =
@@ -67,61 +57,40 @@ loop-cells-smaller g c =
 
 pub loop-cells-preserved : goal.loop-cells-preserved
 loop-cells-preserved g c =
-    let heads = links_of c.args.slots.now in let cells = c.args.cells.now in
-    let low : c.args.bucket < length heads = omega (
-      arith,
-      c.requires.within,
-      length-links
-          c.args.slots.now,
-    ) in
-    let w = c.loop-cells.invariant.walk in
-    let r = walk_on w (walk_goes w c.args.cell c.loop-cells.invariant.to_come) in
+    let m = length c.args.slots.now in let cells = c.args.cells.now in
+    let v = c.loop-cells.invariant in
+    let r = walk_on v.walk (walk_goes v.walk c.args.cell v.to_come) in
     let next = c.next-at-in-loop-cells.ensures.value
-    ∙ next_at_read cells c.loop-cells.at c.index-cells-at-in-loop-cells.result
-    c.loop-cells.invariant.within in
+    ∙ next_at_read cells c.loop-cells.at c.index-cells-at-in-loop-cells.result v.within in
     let to_come : Among r.rest.path c.args.cell
-    = elim (r.cases c.args.cell c.loop-cells.invariant.to_come) as (λ _. Among r.rest.path c.args.cell) [
-      | inl e ↦ absurd (c.loop-cells.invariant.apart e)
-      | inr m ↦ m
-    ] in
-    let From : ℕ → Type 0
-    = λ at. (v : IsWalk (next_at cells) (chain_at (length heads) cells) c.args.bucket at (length cells))
-    × Among v.path c.args.cell in
-    let v = subst From (sym next) (r.rest, to_come) in
-    record {
-      walk = v.0;
-      to_come = v.1;
+    = elim (r.cases c.args.cell v.to_come) as (λ _. Among r.rest.path c.args.cell)
+    [ inl e ↦ absurd (v.apart e) | inr m ↦ m ] in
+    rw next (record {
+      walk = r.rest;
+      to_come = to_come;
       apart =
-          λ e. c.loop-cells-test.true
-          (c.next.ensures.value
-          ∙ next_at_read cells c.loop-cells.at c.index-cells-at.result c.loop-cells.invariant.within
-          ∙ sym next ∙ e);
+          λ e. c.loop-cells-test.true (c.next.ensures.value
+          ∙ next_at_read cells c.loop-cells.at c.index-cells-at.result v.within ∙ e);
       within =
-          within_by_chain (length heads) cells _ c.args.bucket (walk_at v.0 (walk_goes v.0 c.args.cell v.1))
-          (omega arith);
-    }
+          on_within m cells _ c.args.bucket (walk_at r.rest (walk_goes r.rest c.args.cell to_come))
+          c.requires.within;
+    })
 
 pub returns-clause-unlinked : goal.returns-clause-unlinked
-returns-clause-unlinked g c =
-    let heads = links_of c.args.slots.now in let cells = c.args.cells.now in
-    let n = length-links c.args.slots.now in
-    let low : c.args.bucket < length heads = omega (arith, c.requires.within, n) in
-    let on = ap (λ m. chain_at m cells c.args.cell) n ∙ c.requires.on_chain in
-    let w = c.loop-cells.invariant.walk in
+returns-clause-unlinked g c = λ free linked.
+    let cells = c.args.cells.now in
+    let v = c.loop-cells.invariant in
     let C : Type 0 = Cell g.row.N.Denot in
-    let within = c.loop-cells.invariant.within in
-    let there : c.args.cell < length cells
-    = within_by_chain (length heads) cells c.args.cell c.args.bucket on (omega arith) in
-    λ free linked. unlinked_next heads cells free c.loop-cells.at c.args.cell _ within
-    (sym (c.next.ensures.value ∙ next_at_read cells c.loop-cells.at c.index-cells-at.result within)
+    let there = within g (goal.at.returns-clause-unlinked g c).Start in
+    unlinked_next c.args.slots.now cells free c.loop-cells.at c.args.cell _ v.within
+    (sym (c.next.ensures.value ∙ next_at_read cells c.loop-cells.at c.index-cells-at.result v.within)
     ∙ c.loop-cells-test.false)
     (ap (λ (d : C). d.next) c.set_next-2.ensures ∙ c.next-after.ensures.value
     ∙ next_at_read cells c.args.cell c.index-cells-cell.result there)
-    (ap (λ (d : C). d.kept) c.set_next-2.ensures ∙ kept_at_read cells c.loop-cells.at
-    c.index-cells-at-2.result within)
+    (ap (λ (d : C). d.kept) c.set_next-2.ensures
+    ∙ kept_at_read cells c.loop-cells.at c.index-cells-at-2.result v.within)
     (λ e. omega (arith, there, c.requires.small, e))
-    (on ∙ sym (walk_at w (walk_goes w c.args.cell c.loop-cells.invariant.to_come)))
-    linked
+    (c.requires.on_chain ∙ sym (walk_at v.walk (walk_goes v.walk c.args.cell v.to_come))) linked
 
 pub returns-then-at-cell-clause-slots : goal.returns-then-at-cell-clause-slots
 returns-then-at-cell-clause-slots g c =
@@ -130,13 +99,10 @@ returns-then-at-cell-clause-slots g c =
 
 pub returns-then-at-cell-clause-begun : goal.returns-then-at-cell-clause-begun
 returns-then-at-cell-clause-begun g c = λ b.
-    let within : c.args.cell < length c.args.cells.now
-    = on_within (length c.args.slots.now) c.args.cells.now c.args.cell c.args.bucket c.requires.on_chain
-    c.requires.within in
-    subst (λ (f : List (Cell g.row.N.Denot)). next_at f b ≢ END → next_at c.args.slots.now b ≢ END)
-    (sym c.set_next.ensures)
+    let there = within g (goal.at.returns-then-at-cell-clause-begun g c).Start in
+    rw c.set_next.ensures
     (next-begun c.args.slots.now c.args.bucket c.next-after.result b
-    (λ e. omega (arith, within, c.requires.small, c.if-at-cell.true, c.next-at.ensures.value, e)))
+    (λ e. omega (arith, there, c.requires.small, c.if-at-cell.true, c.next-at.ensures.value, e)))
 
 pub returns-clause-nodes : goal.returns-clause-nodes
 returns-clause-nodes g c =
@@ -146,12 +112,4 @@ returns-clause-nodes g c =
     (ap stored_in c.set_next-2.ensures)
 
 pub bounds-cells-cell : goal.bounds-cells-cell
-bounds-cells-cell g c =
-    on_within (length c.args.slots.now) c.args.cells.now c.args.cell c.args.bucket c.requires.on_chain
-    c.requires.within
-
-pub offset_bounds-cells-cell : goal.offset_bounds-cells-cell
-offset_bounds-cells-cell g c =
-    let within = on_within (length c.args.slots.now) c.args.cells.now c.args.cell c.args.bucket
-    c.requires.on_chain c.requires.within in
-    search rules
+bounds-cells-cell g c = within g (goal.at.bounds-cells-cell g c).Start

@@ -1,13 +1,12 @@
 use Rattle.std.proofs.Common.{◌≢◌, ◌<◌, length}
-use Rattle.hashlink_table.specs.Chains.{next_at, chain_at, links_of, Among}
+use Rattle.hashlink_table.specs.Chains.{next_at, chain_at, Among}
 use Rattle.hashlink_table.proofs.Walks.{IsWalk, steps_left}
 use Rattle.hashlink_table.proofs.store.removal.unlink.Given as goal
 
 -- the cell is still to come
 abbrev pub invariant-loop-cells : goal.invariant-loop-cells
 invariant-loop-cells g l = record {
-  walk : IsWalk (next_at l.cells) (chain_at (length (links_of l.slots)) l.cells) l.bucket l.at
-      (length l.cells);
+  walk : IsWalk (next_at l.cells) (chain_at (length l.slots) l.cells) l.bucket l.at (length l.cells);
   to_come : Among walk.path l.cell;
   apart : l.at ≢ l.cell;
   within : l.at < length l.cells;

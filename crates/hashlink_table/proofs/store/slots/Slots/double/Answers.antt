@@ -1,33 +1,28 @@
 -- Each cell is doubled in its turn, and the lists keep their lengths.
-use Rattle.std.proofs.Common.{◌≡◌, ◌*◌, ◌++◌, length, replicate, sym, ap, ◌∙◌, subst, arith}
+use Rattle.std.proofs.Common.{◌≡◌, ◌*◌, ◌++◌, length, replicate, refl, sym, ap, ◌∙◌, subst, arith}
 use Rattle.std.specs.Int.{IsPowerOfTwo}
 use Rattle.std.specs.Vec.{with_items}
 use Rattle.std.proofs.lemmas.List.{with_items_is}
 use Rattle.hashlink_table.specs.Stored.{bare_cell}
 use Rattle.hashlink_table.specs.Slots.{parted}
-use Rattle.hashlink_table.proofs.Storing.{length-cells}
+use Rattle.hashlink_table.proofs.Storing.{sizes}
 use Rattle.hashlink_table.proofs.Halves.{doubled-all, doubled-on, length-doubled_to, twice_power}
 use Rattle.hashlink_table.proofs.store.slots.Slots.double.Given as given
 use Rattle.hashlink_table.proofs.store.slots.Slots.double.Goals as goal
 
 pub loop-at-init : goal.loop-at-init
-loop-at-init g c = record {
-  tagged =
-      rw (
-        c.as_mut_slice-tags.ensures.value,
-        c.as_mut_slice-nodes.ensures.value,
-        c.as_mut_slice-rests.ensures.value,
-      )
-      c.self.invariant;
-  halves =
-      rw (
-        c.as_mut_slice-tags.ensures.value,
-        c.as_mut_slice-nodes.ensures.value,
-        c.as_mut_slice-rests.ensures.value,
-      )
-      (c.self.view_is ∙ c.in_ok-widen.ensures.ok
-      ∙ ap (λ n. c.args.self.now ++ replicate n bare_cell) c.len-count.ensures);
-}
+loop-at-init g c =
+    rw (
+      c.as_mut_slice-tags.ensures.value,
+      c.as_mut_slice-nodes.ensures.value,
+      c.as_mut_slice-rests.ensures.value,
+    )
+    (record {
+      tagged = c.self.invariant;
+      halves =
+          c.self.view_is ∙ c.in_ok-widen.ensures.ok
+          ∙ ap (λ n. c.args.self.now ++ replicate n bare_cell) c.len-count.ensures;
+    })
 
 pub part-requires-clause-power : goal.part-requires-clause-power
 part-requires-clause-power g c =
@@ -42,11 +37,8 @@ part-requires-clause-within g c =
       c.len-count.ensures,
       length-doubled_to c.args.self.now c.loop-at.at,
       ap length c.loop-at.invariant.halves,
-      length-cells c.loop-at.tags c.loop-at.nodes c.loop-at.rests c.loop-at.invariant.tagged,
+      sizes c.loop-at.invariant.tagged refl,
     )
-
-pub part-requires-clause-tagged : goal.part-requires-clause-tagged
-part-requires-clause-tagged g c = c.loop-at.invariant.tagged
 
 pub loop-at-preserved : goal.loop-at-preserved
 loop-at-preserved g c = record {

@@ -7,5 +7,5 @@ use Rattle.hashlink_table.proofs.store.slots.Slots.double.Given as goal
 abbrev pub invariant-loop-at : goal.invariant-loop-at
 invariant-loop-at g l = record {
   tagged : IsTagged l.tags l.nodes l.rests;
-  halves : cells_in l.tags l.nodes l.rests ≡ doubled_to l.at l.fn.self;
+  halves : cells_in l.tags l.nodes l.rests ≡ doubled_to l.fn.self l.at;
 }

@@ -1,18 +1,16 @@
-use Rattle.std.proofs.Common.{eqb}
+use Rattle.std.proofs.Common.{eqb, length, ap, arith}
 use Rattle.std.specs.Prelude.{is_none}
-use Rattle.hashlink_table.proofs.Storing.{agrees_free, group_tests, lanes_small, lanes_within}
+use Rattle.hashlink_table.proofs.Storing.{agrees_free, group_tests, sizes}
 use Rattle.hashlink_table.proofs.store.slots.Slots.free.Goals as goal
 
 pub lanes_with-requires : goal.lanes_with-requires
 lanes_with-requires g c =
-    lanes_within c.self.inside c.args.self.now c.self.invariant c.self.view_is c.args.base c.requires _
-    c.deref.ensures.value
+    omega (arith, ap length c.deref.ensures.value, sizes c.self.invariant c.self.view_is)
 
 pub returns-clause-lanes : goal.returns-clause-lanes
 returns-clause-lanes g c =
-    group_tests c.self.inside c.args.self.now c.self.invariant c.self.view_is c.args.base c.requires
-    (λ t. eqb t 0) (λ d. is_none d.kept) agrees_free _ _ c.lanes_with.ensures c.deref.ensures.value
+    group_tests c.self.invariant c.self.view_is (λ t. eqb t 0) (λ d. is_none d.kept) agrees_free c.args.base _
+    _ c.lanes_with.ensures c.deref.ensures.value
 
 pub returns-clause-small : goal.returns-clause-small
-returns-clause-small g c =
-    lanes_small c.self.inside c.args.self.now c.self.invariant c.self.view_is c.args.base c.requires
+returns-clause-small g c = omega (arith, c.self.inside.tags.small, sizes c.self.invariant c.self.view_is)

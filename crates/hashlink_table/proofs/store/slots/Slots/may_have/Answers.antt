@@ -1,20 +1,18 @@
-use Rattle.std.proofs.Common.{eqb}
+use Rattle.std.proofs.Common.{eqb, length, ap, arith}
 use Rattle.hashlink_table.specs.Stored.{tag_of}
 use Rattle.hashlink_table.specs.Slots.{may_be}
-use Rattle.hashlink_table.proofs.Storing.{agrees_may_have, group_tests, lanes_small, lanes_within}
+use Rattle.hashlink_table.proofs.Storing.{agrees_may_have, group_tests, sizes}
 use Rattle.hashlink_table.proofs.store.slots.Slots.may_have.Goals as goal
 
 pub lanes_with-requires : goal.lanes_with-requires
 lanes_with-requires g c =
-    lanes_within c.self.inside c.args.self.now c.self.invariant c.self.view_is c.args.base c.requires _
-    c.deref.ensures.value
+    omega (arith, ap length c.deref.ensures.value, sizes c.self.invariant c.self.view_is)
 
 pub returns-clause-lanes : goal.returns-clause-lanes
 returns-clause-lanes g c =
-    group_tests c.self.inside c.args.self.now c.self.invariant c.self.view_is c.args.base c.requires
-    (λ t. eqb t (tag_of c.args.hash)) (may_be c.args.hash) (agrees_may_have c.args.hash) _ _
-    (rw c.tag.ensures at c.lanes_with.ensures) c.deref.ensures.value
+    group_tests c.self.invariant c.self.view_is (λ t. eqb t (tag_of c.args.hash)) (may_be c.args.hash)
+    (agrees_may_have c.args.hash) c.args.base _ _ (rw c.tag.ensures at c.lanes_with.ensures)
+    c.deref.ensures.value
 
 pub returns-clause-small : goal.returns-clause-small
-returns-clause-small g c =
-    lanes_small c.self.inside c.args.self.now c.self.invariant c.self.view_is c.args.base c.requires
+returns-clause-small g c = omega (arith, c.self.inside.tags.small, sizes c.self.invariant c.self.view_is)

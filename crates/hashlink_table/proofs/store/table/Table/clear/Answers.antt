@@ -1,16 +1,13 @@
-use Rattle.std.proofs.Common.{[], length, ap, ◌∙◌, arith}
+use Rattle.std.proofs.Common.{[], length, ap, ◌∙◌}
 use Rattle.hashlink_table.specs.Contents.{Contents}
 use Rattle.hashlink_table.proofs.Sound.{sound-bare, contents-bare}
 use Rattle.hashlink_table.proofs.store.table.Table.clear.Goals as goal
 
 pub invariant_of-self : goal.invariant_of-self
 invariant_of-self g c =
-    let t = c.self.inside in let s = c.self.invariant in
+    let t = c.self.inside in
     rw (c.clear.ensures, c.clear-2.ensures.items)
-    (sound-bare (length t.slots) _ t.room s.headed s.bounded
-    (omega (arith, s.reserved, c.clear-2.ensures.capacity))
-    (omega (arith, s.spare, c.clear-2.ensures.capacity))
-    (λ e. ((s.none e).0, c.clear-2.ensures.capacity ∙ (s.none e).1)) s.small s.masked s.whole)
+    (sound-bare (length t.slots) _ t.room (rw (← c.clear-2.ensures.capacity) at c.self.invariant.sizes))
 
 pub returns : goal.returns
 returns g c =

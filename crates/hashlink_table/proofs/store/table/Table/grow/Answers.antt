@@ -1,4 +1,4 @@
-use Rattle.std.proofs.Common.{◌≡◌, ◌*◌, ◌++◌, List, length, sym, ap, ◌∙◌, subst, arith}
+use Rattle.std.proofs.Common.{◌≡◌, ◌+◌, ◌*◌, ◌++◌, List, length, sym, ap, ◌∙◌, subst, arith}
 use Rattle.std.specs.Prelude.{IsPermutation}
 use Rattle.std.proofs.lemmas.Bool.{eqb-true, not-false}
 use Rattle.std.proofs.lemmas.List.{append-nil, length-append}
@@ -9,71 +9,86 @@ use Rattle.hashlink_table.specs.Chains.{nodes_in}
 use Rattle.hashlink_table.proofs.Sound.{sound-doubled, sound-moved}
 use Rattle.hashlink_table.proofs.store.table.Table.grow.Goals as goal
 use Rattle.hashlink_table.proofs.store.table.Table.grow.Goals.{then-buckets-now, else-buckets-now}
+use Rattle.hashlink_table.proofs.store.table.Table.grow.Goals.{After-double, In_ok-chained}
+use Rattle.hashlink_table.proofs.store.table.Table.grow.Given as given
+
+-- no node is lost where the buckets double
+counted : (g : given.Over) (c : In_ok-chained g)
+    → length (nodes_in c.double.new.slots) + length c.in_ok-chained.chained.items ≡ c.self.inside.len
+counted g c =
+    omega (
+      arith,
+      c.self.invariant.counted,
+      length_permutation _ _ c.in_ok-chained.ensures.nodes,
+      length-append (nodes_in c.double.new.slots) c.in_ok-chained.chained.items,
+    )
 
 pub overflow_sub-self : goal.overflow_sub-self
 overflow_sub-self g c =
-    let later = c.double.new.slots in let taken = c.in_ok-chained.chained in
     omega (
       arith,
       c.len.ensures,
-      taken.ok.0,
-      c.self.invariant.counted,
-      length_permutation _ _ c.in_ok-chained.ensures.nodes,
-      length-append (nodes_in later) taken.items,
+      c.in_ok-chained.chained.ok.0,
+      counted g (goal.at.overflow_sub-self g c).In_ok-chained,
     )
+
+-- the buckets are neither as many as before nor of another number
+twice_as_many : (g : given.Over) (c : After-double g) → c.args.buckets ≡ 2 * c.len-now.result
+twice_as_many g c =
+    elim c.if-buckets-now.branch [
+      | then-buckets-now w ↦ eqb-true _ _ (not-false _ (sym w.value-is ∙ c.if-buckets-now-2.false))
+      | else-buckets-now w ↦ absurd (c.if-buckets-now-3.false w.if-buckets-now.false)
+    ]
 
 -- the overflow cells may keep the block that they were moved to
 pub invariant_of-self-in_err-chained : goal.invariant_of-self-in_err-chained
 invariant_of-self-in_err-chained g c =
-    let s = c.self.invariant in let failed = c.in_err-chained.ensures in
-    let twice : c.args.buckets ≡ 2 * c.len-now.result =
-    elim c.if-buckets-now.branch [
-      | then-buckets-now w ↦ eqb-true _ _ (not-false _ (sym w.value-is ∙ c.if-buckets-now-2.false))
-      | else-buckets-now w ↦ absurd (c.if-buckets-now-3.false w.if-buckets-now.false)
-    ] in
+    let s = c.self.invariant in let z = s.sizes in let failed = c.in_err-chained.ensures in
+    let twice = twice_as_many g (goal.at.invariant_of-self-in_err-chained g c).After-double in
     let exact = c.in_ok-block.ensures.exact in
     sound-moved c.double.new.slots c.double.new.cells.items _ s failed.slots_same failed.cells_same
     (omega (
       arith,
       failed.least,
       exact,
-      s.reserved,
+      z.reserved,
       c.requires.more,
       ap (λ (u : Contents g.row.N.Denot). u.room) c.self.view_is,
     ))
-    (omega (arith, failed.most, exact, s.spare, s.bounded, c.requires.headed, twice, c.len-now.ensures))
-    (λ e. absurd (omega (arith, (s.none e).0, c.requires.some, c.requires.headed, twice, c.len-now.ensures)))
+    (omega (arith, failed.most, exact, z.spare, z.bounded, c.requires.headed, twice, c.len-now.ensures))
+    (λ e. absurd (omega (arith, (z.none e).0, c.requires.some, c.requires.headed, twice, c.len-now.ensures)))
 
 pub invariant_of-self-2 : goal.invariant_of-self-2
 invariant_of-self-2 g c =
     let new = c.double.new in let taken = c.in_ok-chained.chained in let doubled = c.in_ok-chained.ensures in
-    let twice : c.args.buckets ≡ 2 * c.len-now.result =
-    elim c.if-buckets-now.branch [
-      | then-buckets-now w ↦ eqb-true _ _ (not-false _ (sym w.value-is ∙ c.if-buckets-now-2.false))
-      | else-buckets-now w ↦ absurd (c.if-buckets-now-3.false w.if-buckets-now.false)
-    ] in
-    sound-doubled new.slots new.cells.items taken.items c.args.buckets _ _ c.args.room c.self.invariant
-    c.requires.power c.requires.whole (omega (arith, c.if-buckets-gt-MAX_BUCKETS.false)) c.requires.bounded
-    (omega (arith, c.requires.more, ap (λ (u : Contents g.row.N.Denot). u.room) c.self.view_is))
-    c.requires.some
-    c.requires.headed (omega (arith, doubled.moved, c.in_ok-block.ensures.exact))
-    (omega (arith, twice, doubled.len, c.len-now.ensures)) doubled.linked doubled.in_place doubled.filled
-    doubled.no_overflow (omega (arith, c.len.ensures, taken.ok.0)) doubled.nodes
+    let twice = twice_as_many g (goal.at.invariant_of-self-2 g c).After-double in
+    let room = ap (λ (u : Contents g.row.N.Denot). u.room) c.self.view_is in
+    let exact = c.in_ok-block.ensures.exact in
+    let size : length new.slots ≡ c.args.buckets = omega (arith, twice, doubled.len, c.len-now.ensures) in
+    sound-doubled new.slots new.cells.items taken.items _ _ c.args.room c.self.invariant
+    (record {
+      headed = omega (arith, c.requires.headed, size);
+      bounded = omega (arith, c.requires.bounded, size);
+      reserved = omega (arith, doubled.moved, exact);
+      spare = omega (arith, doubled.moved, exact);
+      none = λ e. absurd (omega (arith, c.requires.some, e));
+      small = omega (arith, c.if-buckets-gt-MAX_BUCKETS.false, size);
+      masked = λ _. rw size c.requires.power;
+      whole = rw size c.requires.whole;
+    })
+    (omega (arith, c.requires.more, room)) doubled.arranged doubled.no_overflow
+    (omega (arith, c.len.ensures, taken.ok.0)) doubled.nodes
 
 pub insert_all-requires : goal.insert_all-requires
 insert_all-requires g c =
-    let later = c.double.new.slots in let taken = c.in_ok-chained.chained in let less =
-    c.double.new.cells.items in
     omega (
       arith,
       c.requires.more,
       ap (λ (u : Contents g.row.N.Denot). u.room) c.self.view_is,
-      c.self.invariant.counted,
       c.self.invariant.held,
       ap length c.deref.ensures.value,
-      length_permutation _ _ c.in_ok-chained.ensures.nodes,
-      length-append (nodes_in later) taken.items,
-      length-append (nodes_in later) (nodes_in less),
+      counted g (goal.at.insert_all-requires g c).In_ok-chained,
+      length-append (nodes_in c.double.new.slots) (nodes_in c.double.new.cells.items),
       ap (λ (cs : List (Cell g.row.N.Denot)). length (nodes_in cs)) c.in_ok-chained.ensures.no_overflow,
     )
 

@@ -18,7 +18,7 @@ put-requires-clause-reserved g c = λ e.
       room,
       full_overflow c.self.invariant e,
       c.self.invariant.counted,
-      c.self.invariant.reserved,
+      c.self.invariant.sizes.reserved,
       t.overflow.ok.0,
     )
 
@@ -30,7 +30,7 @@ invariant_of-self g c =
     let more = c.put.new.cells in
     sound-put c.put.new.slots more.items _ c.put.new.free _ c.self.invariant
     (omega (arith, c.requires, len, room, c.self.invariant.counted)) c.put.ensures.capacity c.put.ensures.len
-    c.put.ensures.linked c.put.ensures.in_place c.put.ensures.filled c.put.ensures.nodes
+    c.put.ensures.arranged c.put.ensures.nodes
     (λ e. omega (arith, c.put.ensures.full e, more.ok.0, t.overflow.ok.0))
     (λ ne. omega (arith, c.put.ensures.reused ne, more.ok.0, t.overflow.ok.0))
 

@@ -1,4 +1,4 @@
-use Rattle.std.proofs.Common.{◌∷◌, ◌++◌, true, length, sym, ap, ◌∙◌, subst, arith}
+use Rattle.std.proofs.Common.{◌∷◌, ◌++◌, true, length, sym, ap, ◌∙◌, subst}
 use Rattle.std.specs.Prelude.{IsPermutation}
 use Rattle.std.proofs.lemmas.Option.{same_Some}
 use Rattle.std.proofs.lemmas.List.{with_items_is}
@@ -6,42 +6,33 @@ use Rattle.hashlink_table.specs.declared.hashed.Hashed.{Hashed}
 use Rattle.hashlink_table.specs.Contents.{Contents}
 use Rattle.hashlink_table.specs.Chains.{nodes_in}
 use Rattle.hashlink_table.proofs.Sound.{sound-take}
-use Rattle.hashlink_table.proofs.Views.{no_cost, none_left, overflow_asked, slot_accepted, slot_asked}
-use Rattle.hashlink_table.proofs.Views.{search_cost}
+use Rattle.hashlink_table.proofs.Views.{can_ask, no_cost, search_cost}
 use Rattle.hashlink_table.proofs.store.table.Table.remove_counted.Goals as goal
 
-pub seek-requires-clause-linked : goal.seek-requires-clause-linked
-seek-requires-clause-linked g c = rw c.deref.ensures.value (c.self.inside.free, c.self.invariant.linked)
-
-pub seek-requires-clause-callable_slots : goal.seek-requires-clause-callable_slots
-seek-requires-clause-callable_slots g c =
-    let s = c.self.invariant in
-    slot_asked c.self.inside c.args.self.now c.self.view_is _ c.args.hash c.requires.callable s.masked
-    (omega (arith, c.if-self-eq0.false, s.held, s.headed)) s.headed
-
-pub seek-requires-clause-telling : goal.seek-requires-clause-telling
-seek-requires-clause-telling g c =
-    slot_accepted c.self.inside c.args.self.now c.self.view_is c.args.hash _ c.requires.telling
+pub seek-requires-clause-arranged : goal.seek-requires-clause-arranged
+seek-requires-clause-arranged g c = rw c.deref.ensures.value (c.self.inside.free, c.self.invariant.arranged)
 
 pub seek-requires-clause-callable : goal.seek-requires-clause-callable
 seek-requires-clause-callable g c =
-    let s = c.self.invariant in
-    overflow_asked c.self.inside c.args.self.now c.self.view_is _ c.deref.ensures.value c.args.hash _
-    c.requires.callable s.masked (omega (arith, c.if-self-eq0.false, s.held, s.headed)) s.headed
+    rw c.deref.ensures.value
+    (can_ask c.self.invariant c.self.view_is c.args.hash _ c.requires.callable c.if-self-eq0.false)
+
+pub seek-requires-clause-telling : goal.seek-requires-clause-telling
+seek-requires-clause-telling g c =
+    rw c.deref.ensures.value
+    (λ h node there. c.requires.telling h node (rw (← c.self.view_is) there))
 
 pub returns-in-None-clause-none : goal.returns-in-None-clause-none
 returns-in-None-clause-none g c =
-    none_left c.self.inside c.args.self.now c.self.view_is _ c.deref.ensures.value c.args.hash _
-    c.in-None.ensures.none_slots c.in-None.ensures.none
+    rw (← c.self.view_is, ← c.deref.ensures.value) c.in-None.ensures.none
 
 pub returns-in-None-clause-cost : goal.returns-in-None-clause-cost
 returns-in-None-clause-cost g c =
-    let s = c.self.invariant in
-    search_cost c.self.inside c.args.self.now c.self.view_is _ c.deref.ensures.value c.args.hash s.masked
-    (omega (arith, c.if-self-eq0.false, s.held, s.headed)) s.whole s.in_place s.headed _ _ c.seek.ensures.cost
+    search_cost c.self.invariant c.self.view_is c.args.hash _ _ c.if-self-eq0.false
+    (rw c.deref.ensures.value at c.seek.ensures.cost)
 
-pub take-kept-requires-clause-linked : goal.take-kept-requires-clause-linked
-take-kept-requires-clause-linked g c = rw c.deref_mut.ensures.value c.self.invariant.linked
+pub take-kept-requires-clause-arranged : goal.take-kept-requires-clause-arranged
+take-kept-requires-clause-arranged g c = rw c.deref_mut.ensures.value c.self.invariant.arranged
 
 pub invariant_of-self : goal.invariant_of-self
 invariant_of-self g c =
@@ -49,7 +40,7 @@ invariant_of-self g c =
     let cells = taken.auto.cells ∙ ap length c.deref_mut.ensures.value in
     rw (with_items_is t.overflow taken.new.cells (cells ∙ sym t.overflow.ok.0))
     (sound-take taken.new.slots taken.new.cells taken.new.free taken.result c.self.invariant taken.ensures.len
-    cells taken.ensures.linked taken.ensures.in_place taken.ensures.filled
+    cells taken.ensures.arranged
     (rw c.deref_mut.ensures.value at taken.ensures.nodes))
 
 pub returns-clause-removed : goal.returns-clause-removed
@@ -72,11 +63,8 @@ returns-clause-removed g c =
 
 pub returns-clause-cost : goal.returns-clause-cost
 returns-clause-cost g c =
-    let s = c.self.invariant in
-    search_cost c.self.inside c.args.self.now c.self.view_is _ c.deref.ensures.value c.args.hash s.masked
-    (omega (arith, c.if-self-eq0.false, s.held, s.headed)) s.whole s.in_place s.headed _ _ c.seek.ensures.cost
+    search_cost c.self.invariant c.self.view_is c.args.hash _ _ c.if-self-eq0.false
+    (rw c.deref.ensures.value at c.seek.ensures.cost)
 
 pub returns-then-self-eq0-clause-cost : goal.returns-then-self-eq0-clause-cost
-returns-then-self-eq0-clause-cost g c =
-    let s = c.self.invariant in
-    no_cost c.self.inside c.args.self.now c.self.view_is s.masked s.headed c.args.hash _
+returns-then-self-eq0-clause-cost g c = no_cost c.self.invariant c.self.view_is c.args.hash _
