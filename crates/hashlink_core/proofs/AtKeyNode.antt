@@ -45,7 +45,11 @@ module _ {K V S : Type 0} (eq : K → K → Bool) (old new : Keyed K V S) (k : K
       → AddsEntry eq (state_of old) (state_of new) k v b
   added v b b' n same p s = record {
     absent = lookup-unplaced (eq k) (entries_of old) p;
-    adds = rw (put-absent eq (entries_of old) k v b (none_passes_from_place (eq k) (entries_of old) p), ← same)
+    adds = rw (
+      put-absent eq (entries_of old) k v b
+          (none_passes_from_place (eq k) (entries_of old) p),
+      ← same,
+    )
         s.state;
   }
 
@@ -95,7 +99,8 @@ module _ {K V S : Type 0} (test : K → Bool) (old new : Keyed K V S) (n : Node)
       → Changes (state_of old) (state_of new) (moved_match test (entries_of old) b) 6
   moved-match b b' same s = rw (found.place, ← same) s.state
 
-  pub stored : (e : K × V) → slice_get (entries_of old) j ≡ Some e → lookup_entry test (entries_of old) ≡ Some e
+  pub stored : (e : K × V) → slice_get (entries_of old) j ≡ Some e
+      → lookup_entry test (entries_of old) ≡ Some e
   stored e at = lookup_entry-place test (entries_of old) j found.place ∙ at
 
   pub stored-value : (w : V) → option_map (λ e. e.1) (slice_get (entries_of old) j) ≡ Some w

@@ -187,7 +187,8 @@ module _ {K V S : Type 0} {eq : K → K → Bool} (laws : IsEquivalence eq) {has
             (moves_before-at r.entries n p step.apart held-inside (rest-inside n p place) s'.entries m))
 
         pub moved-after : MovesAfter r.entries n p s'.entries → IsInStep eq hash s' t
-            × MovesNode seen (seen_as s' t s) j (following_place (length seen.nodes) (place_number seen.nodes p))
+            × MovesNode seen (seen_as s' t s) j
+            (following_place (length seen.nodes) (place_number seen.nodes p))
         moved-after m = moved _ (rw (number-inside p, number-inside None)
             (moves_after-at r.entries n p step.apart held-inside (rest-inside n p place) s'.entries m))
 
@@ -253,7 +254,8 @@ module _ {K V S : Type 0} {eq : K → K → Bool} (laws : IsEquivalence eq) {has
         let written = value-written (ring_with_value_at r n w) w set refl refl in (
           written.0,
           ap (λ ns. keyed ns (length r.free) t.room r.link_writes s) written.1.nodes
-              ∙ ap (λ (m : Keyed K V S). record m { nodes = renewed_at (pair_with_value w) seen.nodes j }) view,
+              ∙ ap (λ (m : Keyed K V S). record m { nodes = renewed_at (pair_with_value w) seen.nodes j })
+              view,
         )
 
   -- ---- a new node n for the absent key k went in right before the place p; before room was made for it the
@@ -282,7 +284,8 @@ module _ {K V S : Type 0} {eq : K → K → Bool} (laws : IsEquivalence eq) {has
     pub added-step : number ≡ short (hash k) → IsInStep eq hash r' u
     added-step is =
         let none : NonePasses (eq k) (pairs_in r.entries) =
-        none_passes_from_place (eq k) (pairs_in r.entries) (ap (λ ns. place_of (eq k) (values_of ns)) same-nodes
+        none_passes_from_place (eq k) (pairs_in r.entries)
+        (ap (λ ns. place_of (eq k) (values_of ns)) same-nodes
         ∙ absent) in
         let room : length r.entries + 1 ≤ t.room =
         omega (arith, ready, length-mapped pair_of r.entries, ap length same-nodes, ap (λ m. m.room) view) in

@@ -61,7 +61,8 @@ module _ {X Y : Type 0} (f : X → Y) where
   from_part (Some x) y h = (x, refl, cc)
 
   -- an element under f, and the one that it is of
-  pub mapped-at : (xs : List X) (i : ℕ) (x : X) → slice_get xs i ≡ Some x → slice_get (map f xs) i ≡ Some (f x)
+  pub mapped-at : (xs : List X) (i : ℕ) (x : X) → slice_get xs i ≡ Some x
+      → slice_get (map f xs) i ≡ Some (f x)
   mapped-at xs i x at = slice_get-map f xs i ∙ ap (option_map f) at
 
   pub from-mapped : (xs : List X) (i : ℕ) (y : Y) → slice_get (map f xs) i ≡ Some y

@@ -1,5 +1,5 @@
--- Finding a key's node by the table. A node is marked by a number that is no short hash: so the table finds it,
--- and so it is told from another.
+-- Finding a key's node by the table. A node is marked by a number that is no short hash: so the table finds
+-- it, and so it is told from another.
 use Rattle.std.proofs.Common.{◌++◌, ◌≡◌, ℕ, ◌^◌, ◌<◌, ◌≤◌, Bool, true, false, cond, eqb, eqb-true, eq-eqb}
 use Rattle.std.proofs.Common.{List, ◌∷◌, Option, None, Some, refl, ap, sym, subst, ◌∙◌, arith, ◌⊎◌, inl, inr}
 use Rattle.std.proofs.Common.{length}
@@ -278,7 +278,8 @@ module _ {K V : Type 0} {eq : K → K → Bool} (laws : IsEquivalence eq) {hash 
         sym l.2 ∙ number-of step n l.0 l.1 ∙ search.hashed l.0.key (answered n l.0 true l.1 answer)
 
     -- where each node that has the short hash is told not to hold a key that passes, none passes
-    none-told : ((n : Node) → Keeps t i n → IfSome (lookup (same_node n) r.entries) (λ h. Answers h.key false))
+    none-told : ((n : Node) → Keeps t i n
+        → IfSome (lookup (same_node n) r.entries) (λ h. Answers h.key false))
         → NonePasses passes (pairs_in r.entries) ⊎ Stands passes (pairs_in r.entries)
         → place_of passes (pairs_in r.entries) ≡ None
     none-told none (inl absent) = place_of-none passes (pairs_in r.entries) absent

@@ -116,7 +116,8 @@ pub left-place : {X : Type 0} (es : List (Node × X)) → IsEntries same_node es
 left-place es apart n None other within = tt
 left-place es apart n (Some m) other within =
     rw (lookup-remove_entry same_node_equiv (same_node n) (λ x y t. same_node_equiv.congr n x y t) m es apart)
-    ((elim (same_node n m) as (λ c. same_node n m ≡ c → is_some (cond c None (lookup (same_node m) es)) ≡ true) [
+    ((elim (same_node n m) as (λ c. same_node n m ≡ c
+    → is_some (cond c None (lookup (same_node m) es)) ≡ true) [
       | true ↦ λ is. absurd (other (ap Some (sym (eq-same_node n m is))))
       | false ↦ λ is. within
     ]) refl)

@@ -252,9 +252,11 @@ module _ {X : Type 0} where
         ≡ place_left (place_number es (Some n)) (place_number es p)
     left-at = place_number-left es n p (not-the-node p within)
 
-    moved-to : (b : ℕ) → insert (remove_entry (same_node n) es) (place_left (place_number es (Some n)) b) (n, x)
+    moved-to : (b : ℕ) → insert (remove_entry (same_node n) es)
+        (place_left (place_number es (Some n)) b) (n, x)
         ≡ moved_at es (place_number es (Some n)) b
-    moved-to b = rw (remove_entry-at same_node es n) (sym (moved_at-is es (place_number es (Some n)) b (n, x) at.at))
+    moved-to b = rw (remove_entry-at same_node es n)
+        (sym (moved_at-is es (place_number es (Some n)) b (n, x) at.at))
 
     pub moves_before-at : (fs : List (Node × X)) → MovesBefore es n p fs
         → fs ≡ moved_at es (place_number es (Some n)) (place_number es p)

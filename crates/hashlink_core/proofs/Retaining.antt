@@ -13,7 +13,8 @@ use Rattle.hashlink_model.specs.Cursor.{following_place}
 use Rattle.hashlink_model.specs.Entries.{set_value_at}
 use Rattle.hashlink_model.specs.Retain.{KeepsInOrder, RetainsInOrder}
 use Rattle.hashlink_model.specs.Steps.{KeepsOnly}
-use Rattle.hashlink_model.proofs.ByPlace.{length-set_value_at, keys-set_value_at, set_value_at-here, remove-here}
+use Rattle.hashlink_model.proofs.ByPlace.{length-set_value_at, keys-set_value_at, set_value_at-here}
+use Rattle.hashlink_model.proofs.ByPlace.{remove-here}
 use Rattle.hashlink_nodes.specs.declared.node.Node.{Node}
 use Rattle.hashlink_nodes.specs.Node.{same_node}
 use Rattle.hashlink_nodes.specs.Ring.{IsPlace}
@@ -139,7 +140,8 @@ module _ {F K V S : Type 0} {eq : K → K → Bool} {T : F → K → V → Bool 
 
       -- the closure was called, and q is the place after n
       module _ {b : Bool} {w : V} {f' : F} {q : Option Node} (call : T f k v b w f')
-          (next : IsPlaceAt m.nodes q (following_place (length m.nodes) (place_number m.nodes (Some n)))) where
+          (next : IsPlaceAt m.nodes q
+          (following_place (length m.nodes) (place_number m.nodes (Some n)))) where
         callable-after : CallableOnEachPair T Q f' rest.0
         callable-after = record {
           at = λ before after g k' v' is folds. callable-here.at ((k, v) ∷ before) after g k' v'

@@ -48,9 +48,11 @@ once-permuted ks js same =
 not-again : (k j : Hashed Node) (ks : List (Hashed Node)) → OnceEach (k ∷ ks) → Contains ks j → k ≡ j → ⊥
 not-again k j ks once c same =
     let long = length-map ks (λ (k : Hashed Node). k.node) in
-    let other = apart_from_distinct same_node (map (λ k. k.node) (k ∷ ks)) 0 (suc c.0) j.node once (omega arith)
+    let other = apart_from_distinct same_node (map (λ k. k.node) (k ∷ ks)) 0 (suc c.0) j.node
+    once (omega arith)
     (omega (arith, long, c.1)) in
-    let at = get_or-map (λ (k : Hashed Node). k.node) ks c.0 j j.node c.1 ∙ ap (λ k. k.node) (c.2 ∙ sym same) in
+    let at = get_or-map (λ (k : Hashed Node). k.node) ks c.0 j j.node c.1
+    ∙ ap (λ k. k.node) (c.2 ∙ sym same) in
     absurd (cc (sym other ∙ ap (same_node k.node) at ∙ same_node_equiv.refl k.node))
 
 has-tail : (k : Hashed Node) (js ks : List (Hashed Node)) → OnceEach (k ∷ ks) → HasAll (k ∷ js) (k ∷ ks)
@@ -219,7 +221,8 @@ module _ {K V : Type 0} {eq : K → K → Bool} (laws : IsEquivalence eq) {hash 
       }
 
   -- the entry h of n, which stands at j
-  module _ (r s : Ring K V) (t : Contents Node) (n : Node) (h : Held K V) (j : ℕ) (step : IsInStep eq hash r t)
+  module _ (r s : Ring K V) (t : Contents Node) (n : Node) (h : Held K V) (j : ℕ)
+      (step : IsInStep eq hash r t)
       (at : slice_get r.entries j ≡ Some (n, h)) where
     numbered-first : IsPermutation (numbered_nodes r.entries)
         (kept h.number n ∷ remove (numbered_nodes r.entries) j)

@@ -170,6 +170,7 @@ module _ {K V : Type 0} {es : List (Node × Held K V)} {first last : Node} {left
       let same : pair_of x.0 ≡ pair = cc (sym (ap (option_map pair_of) x.1.found) ∙ here) in
       ap (λ m. pairs_in (take m (drop i es))) one-more
       ∙ ap pairs_in (take-suc (drop i es) (left - 1) (last, x.0) (slice_get_within _ _ _ at)
-      ∙ ap (λ y. take (left - 1) (drop i es) ++ y ∷ []) (get_or_from_slice_get (drop i es) (left - 1) _ (last, x.0) at))
+      ∙ ap (λ y. take (left - 1) (drop i es) ++ y ∷ [])
+      (get_or_from_slice_get (drop i es) (left - 1) _ (last, x.0) at))
       ∙ pairs_in-last (take (left - 1) (drop i es)) last x.0
       ∙ ap (λ p. pairs_from es (Some first) (left - 1) ++ p ∷ []) same

@@ -59,7 +59,8 @@ invariant_of-self g c =
     removed-step g.met.K.Eq.laws c.self.view_is c.self.invariant c.args.node c.requires
     c.detach_into_free.new.self t.new.self c.number-number.result c.number-number.ensures
     (taken-out c.self.invariant m t.new.self t.result t.ensures.removed t.ensures.none) t.ensures.room
-    (d.entries ∙ left-removed c.self.invariant m) (d.free ∙ ap (λ ns. c.args.node ∷ ns) c.set_number.ensures.free)
+    (d.entries ∙ left-removed c.self.invariant m)
+    (d.free ∙ ap (λ ns. c.args.node ∷ ns) c.set_number.ensures.free)
 
 pub returns-clause-removed : goal.returns-clause-removed
 returns-clause-removed g c =

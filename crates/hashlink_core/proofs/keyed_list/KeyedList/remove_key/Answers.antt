@@ -79,7 +79,8 @@ returns-clause-removes g c =
     let n = c.in_ok-node.node in
     let laws = g.met.K.Eq.laws in
     let within = (found g c).within in
-    removes_match (g.Q.Equivalent.matches c.args.key) (state_of c.args.self.now) _ _ (found g c).place d.result
+    removes_match (g.Q.Equivalent.matches c.args.key) (state_of c.args.self.now) _ _ (found g c).place
+    d.result
     (stored laws c.self.view_is c.self.invariant n within ∙ d.ensures.pair)
     (removed-node laws c.self.view_is c.self.invariant n within d.new.self c.remove.new.self
     c.short_hash-hash.result (listed-number laws c.self.invariant _ n there) left c.remove.ensures.room

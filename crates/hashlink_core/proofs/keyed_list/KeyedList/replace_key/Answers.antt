@@ -10,7 +10,8 @@ invariant_of-self g c =
     let k = c.args.key in
     let H = g.S.Hasher.Hasher in
     let v = c.set_key.ensures in
-    (key-written g.met.K.Eq.laws c.self.view_is c.self.invariant c.args.node c.requires.held c.set_key.new.self
+    (key-written g.met.K.Eq.laws c.self.view_is c.self.invariant c.args.node c.requires.held
+    c.set_key.new.self
     k v.entries v.free v.link_writes).0 (
       equal-holds _ _ c.args.node k g.met.K.Eq.laws (sound c.self.view_is c.self.invariant)
           c.requires.held c.requires.equal,
@@ -21,7 +22,8 @@ invariant_of-self g c =
 pub returns-clause-written : goal.returns-clause-written
 returns-clause-written g c =
     let v = c.set_key.ensures in
-    (key-written g.met.K.Eq.laws c.self.view_is c.self.invariant c.args.node c.requires.held c.set_key.new.self
+    (key-written g.met.K.Eq.laws c.self.view_is c.self.invariant c.args.node c.requires.held
+    c.set_key.new.self
     c.args.key v.entries v.free v.link_writes).1
 
 pub returns-clause-key : goal.returns-clause-key

@@ -8,11 +8,13 @@ pub loop-place-init : goal.loop-place-init
 loop-place-init g c = retaining-first c.front-place.ensures.place c.front-place.ensures.sound c.requires
 
 pub keep-requires : goal.keep-requires
-keep-requires g c = takes-pair c.loop-place.invariant c.in-Some.is c.entry_mut-value.ensures.pair _ _ refl refl
+keep-requires g c =
+    takes-pair c.loop-place.invariant c.in-Some.is c.entry_mut-value.ensures.pair _ _ refl refl
 
 pub remove-requires : goal.remove-requires
 remove-requires g c =
-    renewed-holds _ c.loop-place.self.nodes _ c.in-Some.node (rw c.in-Some.is at c.loop-place.invariant.within)
+    renewed-holds _ c.loop-place.self.nodes _ c.in-Some.node
+    (rw c.in-Some.is at c.loop-place.invariant.within)
 
 pub loop-place-smaller-then-not-keep : goal.loop-place-smaller-then-not-keep
 loop-place-smaller-then-not-keep g c =

@@ -9,7 +9,8 @@ use Rattle.hashlink_core.proofs.keyed_list.fn.KeyedList.find_with.holds_match.Go
 
 pub is_match-requires : goal.is_match-requires
 is_match-requires g c =
-    let h = from_part pair_of (lookup (same_node c.args.node) c.captures.nodes.now.entries) _ c.entry.ensures in
+    let h = from_part pair_of (lookup (same_node c.args.node) c.captures.nodes.now.entries) _
+    c.entry.ensures in
     c.requires.callable h.0 h.1 c.entry.result.0 (sym (ap (λ p. p.0) h.2))
 
 pub returns : goal.returns
