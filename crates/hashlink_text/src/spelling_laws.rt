@@ -46,7 +46,6 @@ pub fn lines_of_cursors()
 {}
 
 /// Lines that say nothing.
-#[tactic(auto, using(crate::proofs::Readers::says_so))]
 pub fn bad_lines()
     ensures empty { Says spelled [] None }
     ensures missing_word { Says spelled (codes "insert 1") None }
