@@ -1,16 +1,14 @@
 -- What follows from the steps between two states of a map.
-use Rattle.std.proofs.Common.{◌≡◌, ℕ, max, sym, List, length, Bool, true}
-use Rattle.std.proofs.Common.{false, is_some, Option, None, Some, Result, Ok, Err, refl, ap, ◌∙◌, arith}
-use Rattle.std.specs.Cmp.{IsEquivalence}
-use Rattle.std.specs.Map.{keys_of, lookup, lookup_entry, set_value}
-use Rattle.std.proofs.lemmas.Map.{keys-set_value, length-set_value, lookup-set_value}
-use Rattle.hashlink_model.specs.Entries.{IsEntries, put, moved}
+use Rattle.std.proofs.Common.{◌≡◌, ℕ, max, sym, List, length, Bool}
+use Rattle.std.proofs.Common.{Option, None, Some, Result, Ok, Err, ap, ◌∙◌, arith}
+use Rattle.std.specs.Map.{set_value}
+use Rattle.std.proofs.lemmas.Map.{length-set_value}
+use Rattle.hashlink_model.specs.Entries.{put, moved}
 use Rattle.hashlink_model.specs.MapState.{MapState, node_count, HasRoom, Changes, Adds, Removes}
 use Rattle.hashlink_model.specs.MapState.{PutsEntry, Inserts}
 use Rattle.hashlink_model.specs.Steps.{KeepsOnly, WritesEntry, Moves, MovesMatch, Shrinks}
-use Rattle.hashlink_model.proofs.Puts.{lookup_entry-set_value_other}
-use Rattle.hashlink_model.proofs.Afterwards.{length-put_there, length-moved, moved-absent, lookup-moved}
-use Rattle.hashlink_model.proofs.Afterwards.{IsEntries-moved, length-moved_match}
+use Rattle.hashlink_model.proofs.Afterwards.{length-put_there, length-moved, moved-absent}
+use Rattle.hashlink_model.proofs.Afterwards.{length-moved_match}
 
 module _ {K V S : Type 0} (old new : MapState K V S) where
   pub node_count-adds : (es : List (K × V)) → Adds old new es
@@ -84,9 +82,6 @@ module _ {K V S : Type 0} (eq : K → K → Bool) (old new : MapState K V S) (k 
   -- ---- a value that was written, and an entry that was moved
 
   module _ (v w : V) where
-    pub writes_keys : WritesEntry eq old new k v w → keys_of new.entries ≡ keys_of old.entries
-    writes_keys s = ap keys_of s.writes.entries ∙ keys-set_value (eq k) old.entries v
-
     pub writes_nodes : WritesEntry eq old new k v w → node_count new ≡ node_count old
     writes_nodes s =
         node_count-changes old new (set_value (eq k) old.entries v) 0 s.writes
@@ -104,27 +99,3 @@ module _ {K V S : Type 0} (eq : K → K → Bool) (old new : MapState K V S) (k 
     moves_nodes None s = ap node_count s.step
     moves_nodes (Some w) s =
         node_count-changes old new (moved eq old.entries k b) 6 s.step (length-moved eq old.entries k b)
-
-module _ {K V S : Type 0} (eq : K → K → Bool) (laws : IsEquivalence eq) where
-  pub writes_value : (q : K) (old new : MapState K V S) (k : K) (v w : V) → WritesEntry eq old new k v w
-      → eq k q ≡ true → lookup (eq q) new.entries ≡ Some v
-  writes_value q old new k v w s t =
-      ap (lookup (eq q)) s.writes.entries
-      ∙ lookup-set_value laws (eq k) (λ x y p. laws.congr k x y p) q v old.entries (ap is_some s.old_value)
-      ∙ rw t refl
-
-  pub writes_others : (q : K) (old new : MapState K V S) (k : K) (v w : V) → WritesEntry eq old new k v w
-      → eq k q ≡ false → lookup_entry (eq q) new.entries ≡ lookup_entry (eq q) old.entries
-  writes_others q old new k v w s t =
-      ap (lookup_entry (eq q)) s.writes.entries ∙ lookup_entry-set_value_other eq laws q old.entries k v t
-
-  pub moves_lookup : (q : K) (old new : MapState K V S) (k : K) (b : ℕ) (r : Option V)
-      → Moves eq old new k b r → IsEntries eq old.entries
-      → lookup (eq q) new.entries ≡ lookup (eq q) old.entries
-  moves_lookup q old new k b r s d =
-      ap (lookup (eq q)) (moves_entries eq old new k b r s) ∙ lookup-moved eq laws q old.entries k b d
-
-  pub moves_keys : (old new : MapState K V S) (k : K) (b : ℕ) (r : Option V) → Moves eq old new k b r
-      → IsEntries eq old.entries → IsEntries eq new.entries
-  moves_keys old new k b r s d = rw (moves_entries eq old new k b r s)
-      (IsEntries-moved eq laws old.entries k b d)
