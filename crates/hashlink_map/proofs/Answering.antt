@@ -1,8 +1,6 @@
 -- What an entry's answers say.
-use Rattle.std.proofs.Common.{◌≡◌, Option, Some, refl, sym, ap, subst}
-use Rattle.std.specs.Prelude.{Result, Ok, Err, IfOk, IfErr, OnErr, unwrap_or}
-use Rattle.std.specs.Borrow.{MutBor}
-use Rattle.std.specs.Option.{UnwrapsOrElse}
+use Rattle.hashlink_map.proofs.Names.{◌≡◌, Option, Some, refl, sym, ap, subst, Result, Ok, Err, IfOk, IfErr}
+use Rattle.hashlink_map.proofs.Names.{OnErr, unwrap_or, MutBor, UnwrapsOrElse}
 
 module _ {V E : Type 0} where
   -- the value that stands is lent

@@ -1,35 +1,20 @@
 -- Where a node stands after a step at it, and steps in a row.
-use Rattle.std.proofs.Common.{[], ◌∷◌, ap₂, ◌++◌, length-append, ◌≡◌, ℕ, ◌+◌, ◌-◌, ◌≤◌, Bool, true, List}
-use Rattle.std.proofs.Common.{length, None, Some, refl, sym, ap, subst, ◌∙◌, arith}
-use Rattle.std.specs.Prelude.{slice_get, insert, remove, unwrap_or, Result, Ok, Err, IfOk, IfErr, OnErr}
-use Rattle.std.specs.Prelude.{MatchOption, MatchResult}
-use Rattle.std.specs.Option.{option_map}
-use Rattle.std.specs.Cmp.{IsEquivalence}
-use Rattle.std.specs.Map.{lookup}
-use Rattle.std.proofs.lemmas.Option.{slice_get-map}
-use Rattle.std.proofs.lemmas.Map.Entries.{length-values_of}
-use Rattle.hashlink_model.specs.Entries.{place_of, place_left, moved_at, put, stored_key, set_value_at}
-use Rattle.hashlink_model.specs.MapState.{MapState, AddsEntry, PutsEntry, RefusesEntry, MovesAt, RoomFor}
-use Rattle.hashlink_model.specs.MapState.{with_value}
-use Rattle.hashlink_model.specs.Entry.{key_at, value_at, VacantInserts}
-use Rattle.hashlink_model.proofs.Places.{split_at, slice_get_here}
-use Rattle.hashlink_model.proofs.ByPlace.{set_value_at-here, moved_at-last, moved_at-put}
-use Rattle.hashlink_model.proofs.Finds.{lookup_key_is}
-use Rattle.hashlink_model.proofs.Puts.{put-absent}
-use Rattle.hashlink_model.proofs.Splits.{none_from_lookup, stands_from_place, lookup_entry-none}
-use Rattle.hashlink_core.specs.Keyed.{Keyed, entries_of, state_of, HoldsKey, EqualsKeyAt, IsKeyed}
-use Rattle.hashlink_core.specs.Places.{Node, Holds, place_number, renewed_at}
-use Rattle.hashlink_core.specs.KeyedLends.{with_value_at}
-use Rattle.hashlink_core.specs.Steps.{AddsNode, GrowsRoom}
-use Rattle.hashlink_core.proofs.Edits.{length-inserted, length-removed, slice_get-inserted, moved_at-is}
-use Rattle.hashlink_core.proofs.Edits.{place_left-before, place_left-past, passes-at}
-use Rattle.hashlink_core.proofs.Holding.{number-at, holds-at, holds_key-at, equals-stored}
-use Rattle.hashlink_core.proofs.Mapped.{values-renewed_value}
-use Rattle.hashlink_core.proofs.Places.{IsNodeAt, node-at, renewed_at-is}
-use Rattle.hashlink_map.specs.Standing.{StaysHeld}
-use Rattle.hashlink_core.proofs.AtKeyNode.{added, refused}
-use Rattle.hashlink_core.proofs.Steps.{lookup-place, lookup_entry-place, none_passes_from_place}
-use Rattle.hashlink_core.proofs.Steps.{some_from_part}
+use Rattle.hashlink_map.proofs.Names.{[], ◌∷◌, ap₂, ◌++◌, length-append, ◌≡◌, ℕ, ◌+◌, ◌-◌, ◌≤◌, Bool, true}
+use Rattle.hashlink_map.proofs.Names.{List, length, None, Some, refl, sym, ap, subst, ◌∙◌, arith, slice_get}
+use Rattle.hashlink_map.proofs.Names.{insert, remove, unwrap_or, Result, Ok, Err, IfOk, IfErr, OnErr}
+use Rattle.hashlink_map.proofs.Names.{MatchOption, MatchResult, option_map, IsEquivalence, lookup}
+use Rattle.hashlink_map.proofs.Names.{slice_get-map, length-values_of, place_of, place_left, moved_at, put}
+use Rattle.hashlink_map.proofs.Names.{stored_key, set_value_at, MapState, AddsEntry, PutsEntry, RefusesEntry}
+use Rattle.hashlink_map.proofs.Names.{MovesAt, RoomFor, with_value, key_at, value_at, VacantInserts, split_at}
+use Rattle.hashlink_map.proofs.Names.{slice_get_here, set_value_at-here, moved_at-last, moved_at-put}
+use Rattle.hashlink_map.proofs.Names.{lookup_key_is, put-absent, none_from_lookup, stands_from_place}
+use Rattle.hashlink_map.proofs.Names.{lookup_entry-none, Keyed, entries_of, state_of, HoldsKey, EqualsKeyAt}
+use Rattle.hashlink_map.proofs.Names.{IsKeyed, Node, Holds, place_number, renewed_at, with_value_at, AddsNode}
+use Rattle.hashlink_map.proofs.Names.{GrowsRoom, length-inserted, length-removed, slice_get-inserted}
+use Rattle.hashlink_map.proofs.Names.{moved_at-is, place_left-before, place_left-past, passes-at, number-at}
+use Rattle.hashlink_map.proofs.Names.{holds-at, holds_key-at, equals-stored, values-renewed_value, IsNodeAt}
+use Rattle.hashlink_map.proofs.Names.{node-at, renewed_at-is, StaysHeld, added, refused, lookup-place}
+use Rattle.hashlink_map.proofs.Names.{lookup_entry-place, none_passes_from_place, some_from_part}
 
 module _ {K V S : Type 0} {eq : K → K → Bool} (laws : IsEquivalence eq) where
   -- ---- a step at a node that is held

@@ -1,15 +1,9 @@
 -- What is made of clones of a map's pairs.
-use Rattle.std.proofs.Common.{◌≡◌, Bool, true, List, [], ◌∷◌, ◌++◌, Result, Ok, Err, refl, ap, ap₂, ◌∙◌}
-use Rattle.std.specs.Prelude.{IfOk, OnErr, MatchResult}
-use Rattle.std.specs.Cmp.{IsEquivalence}
-use Rattle.hashlink_model.specs.Compare.{entries_eq}
-use Rattle.hashlink_model.specs.Entries.{IsEntries, extended}
-use Rattle.hashlink_model.specs.Many.{MadeFrom, InsertsPair}
-use Rattle.hashlink_model.specs.MapState.{MapState, empty_map}
-use Rattle.hashlink_model.proofs.Clones.{clone_is_equal}
-use Rattle.hashlink_model.proofs.Extends.{extended-own}
-use Rattle.hashlink_model.proofs.InTurn.{accepts_entries}
-use Rattle.hashlink_map.specs.Cloning.{ArePairClones, IsOfPairClones}
+use Rattle.hashlink_map.proofs.Names.{◌≡◌, Bool, true, List, [], ◌∷◌, ◌++◌, refl, ap, ap₂, ◌∙◌, IfOk, OnErr}
+use Rattle.hashlink_map.proofs.Names.{MatchResult, IsEquivalence, entries_eq, IsEntries, extended, MadeFrom}
+use Rattle.hashlink_map.proofs.Names.{InsertsPair, MapState, empty_map, clone_is_equal, extended-own}
+use Rattle.hashlink_map.proofs.Names.{accepts_entries, ArePairClones, IsOfPairClones}
+use Rattle.std.proofs.Common.{Result, Ok, Err}
 
 module _ {K V : Type 0} (clones-key : K → K → Type 0) (clones-value : V → V → Type 0) where
   -- one clone more

@@ -1,10 +1,7 @@
 -- What an iterator of copies gave and read, said of the items that it copied.
-use Rattle.std.proofs.Common.{◌≡◌, List, [], ◌∷◌, map, Option, None, Some, refl, ap, ap₂, sym, subst}
-use Rattle.std.specs.Fn.{Called, Mut}
-use Rattle.std.specs.Iterator.{Yields}
-use Rattle.std.specs.Iterator.Adapters.{map_source, map_callee, map_steps}
-use Rattle.std.specs.declared.iter.Map.{Map}
-use Rattle.hashlink_map.specs.Reading.{GivesAll, GivesSome, ReadsAll, ReadsSome}
+use Rattle.hashlink_map.proofs.Names.{◌≡◌, List, [], ◌∷◌, map, Option, None, Some, refl, ap, ap₂, sym, subst}
+use Rattle.hashlink_map.proofs.Names.{Called, Mut, Yields, map_source, map_callee, map_steps, Map, GivesAll}
+use Rattle.hashlink_map.proofs.Names.{GivesSome, ReadsAll, ReadsSome}
 
 module _ {It Raw Item Given : Type 0} (nexts : It → Option Raw → It → Type 0) (f : Raw → Item)
     (becomes : Given → It → Type 0)

@@ -1,38 +1,24 @@
 -- What a cursor is once a value was written through a key and a value that it lent, and what it lends at its
 -- place and at the places beside it. Assumes `Logic`.
-use Rattle.std.proofs.Common.{◌≡◌, ℕ, [], ◌∷◌, refl, ap, ◌∙◌, sym, subst}
-use seplogic.Ra.Ura.{Ura}
-use base.Logic.{ent, SProp, id⊢}
-use mir.Syntax.{named}
-use types.Logic.{Logic, sem}
-use types.Kit.{‵, ◌$◌, ◌∵◌, !, qed, fpack, done}
-use denote.Follow.{follows_by, such_by}
-use denote.RattleType.{RattleType}
-use Rattle.std.specs.Prelude.{Option, Some, None, OnSome, slice_get}
-use Rattle.std.specs.Borrow.{Fml, Bor, MutBor, follows_if, name_if_some}
+use Rattle.hashlink_map.proofs.Names.{◌≡◌, ℕ, [], ◌∷◌, refl, ap, ◌∙◌, sym, subst, Ura, ent, SProp, id⊢, named}
+use Rattle.hashlink_map.proofs.Names.{Logic, sem, ‵, ◌$◌, ◌∵◌, !, qed, fpack, done, follows_by, such_by}
+use Rattle.hashlink_map.proofs.Names.{RattleType, OnSome, slice_get, Bor, MutBor, follows_if, name_if_some}
+use Rattle.hashlink_map.proofs.Names.{Node, IsPlace, place_number, node_row, with_value_at, CursorMut}
+use Rattle.hashlink_map.proofs.Names.{cursor_map, cursor_node, cursor_state, CursorWritten, LentAt}
+use Rattle.hashlink_map.proofs.Names.{TakesPlace, lent_pair, cursor_with, LendsAtCursorNode}
+use Rattle.hashlink_map.proofs.Names.{LendsPairFromCursor, IsPlace-prop, param, Laws, NamedLft, CursorState}
+use Rattle.hashlink_map.proofs.Names.{fres, entries_of, at-guard}
+use Rattle.std.specs.Prelude.{Option, Some, None}
+use Rattle.std.specs.Borrow.{Fml}
 use Rattle.std.specs.declared.cmp.PartialEq as eq
 use Rattle.std.specs.declared.hash.Hash as hash
 use Rattle.std.specs.declared.hash.Hasher as hasher
 use Rattle.std.specs.declared.hash.BuildHasher as builder
-use Rattle.hashlink_core.specs.Places.{Node, IsPlace, place_number}
-use Rattle.hashlink_core.specs.KeyedLends.{node_row, with_value_at}
 use Rattle.hashlink_map.specs.contracts.as_node.NodeAsNode.TheImpl
 use Rattle.hashlink_map.specs.contracts.cursor.CursorMut as cursor
 use Rattle.hashlink_map.specs.declared.as_node.AsNode as as_node
-use Rattle.hashlink_map.specs.declared.cursor.CursorMut.{CursorMut}
-use Rattle.hashlink_map.specs.Cursor.{cursor_map, cursor_node, cursor_state, CursorWritten, LentAt}
-use Rattle.hashlink_map.specs.Cursor.{TakesPlace, lent_pair}
-use Rattle.hashlink_map.specs.CursorLends.{cursor_with, LendsAtCursorNode, LendsPairFromCursor}
-use Rattle.hashlink_map.specs.Standing.{IsPlace-prop}
 use Rattle.hashlink_map.proofs.Written.{cursor_written}
-use denote.Param.{param}
-use denote.Param.Laws.{Laws}
-use denote.Ref.{NamedLft}
-use Rattle.hashlink_model.specs.Cursor.{CursorState}
 use Rattle.hashlink_map.proofs.StepAndLend.{Lending}
-use base.Fml.{fres}
-use Rattle.hashlink_core.specs.Keyed.{entries_of}
-use Rattle.hashlink_core.proofs.Keeping.{at-guard}
 use Rattle.hashlink_map.proofs.LendAtPlace.{LendingAt}
 
 module _ {K V S T : Type 0} {g : eq.Ghosts K} {h : hash.Ghosts K} {b : builder.Ghosts S T}

@@ -1,44 +1,20 @@
 -- An entry is made, and then its pair is lent. The inserts of raw entries go so. Assumes `Logic`.
-use Rattle.std.proofs.Common.{◌≡◌, ℕ, List, [], ◌∷◌, sym, subst}
-use seplogic.Ra.Ura.{Ura}
-use base.Fml.{Fml, Lft, flft}
-use base.Logic.{SProp, ent, sep, ex, emp, id⊢, via, emp∗, comm∗, fst∗}
-use mir.Syntax.{Fn, Callee, Dict}
-use mir.Val.{Val}
-use prog.Model.{Model}
-use prog.Wp.{WpFn, Closed}
-use types.Logic.{Logic, sem}
-use types.Kit.{Item, Goal, Seq, Soaks, ‵, raw, ◌⊛◌, some, later, ◌$◌, ◌∵◌, !, qed, by, move, drop, split}
-use types.Kit.{join}
-use types.Kit.{fjoin, pick, await, updating, now, use0, use1, use2, done}
-use contract.BorrowLft.{◌⊑◌}
-use contract.Lifetimes.{Lfts, Shares, Outlives, AllOutlive, toks}
-use contract.Monad.{fact, fact_i}
-use contract.Running.{Running, tables}
-use denote.Laws.{Is, Ises, Are, shows}
-use denote.Param.{layout, param}
-use denote.Param.Laws.{Laws}
-use denote.RattleType.{RattleType, Valss, flat}
-use denote.Signature.{Slot, types_at, plain}
-use denote.Steps.{nothing, peeks, heard}
-use denote.Triple.Clauses.{Ended, Clauses, closing, lasts, Lasts}
-use denote.Triple.End.{Kepts}
-use denote.Triple.Entry.{Args, alive, on_entry}
-use denote.Triple.Spec.{Meets, triple_of}
-use denote.Triple.Table.{framed}
-use denote.Triple.Walked.{Stays, AllGo, Fit, has_of, walk_of}
-use Rattle.std.proofs.cell.Inside.{Good}
-use Rattle.std.proofs.raw_atomic.Walks.{proved_at, leaves}
-use Rattle.std.specs.Borrow.{Bor, MutBor}
-use Rattle.std.specs.Prelude.{IfOk}
+use Rattle.hashlink_map.proofs.Names.{◌≡◌, ℕ, List, [], ◌∷◌, sym, subst, Ura, Fml, Lft, flft, SProp, ent, sep}
+use Rattle.hashlink_map.proofs.Names.{ex, emp, id⊢, via, emp∗, comm∗, fst∗, Fn, Callee, Dict, Val, Model}
+use Rattle.hashlink_map.proofs.Names.{WpFn, Closed, Logic, sem, Item, Goal, Seq, Soaks, ‵, raw, ◌⊛◌, some}
+use Rattle.hashlink_map.proofs.Names.{later, ◌$◌, ◌∵◌, !, qed, by, move, drop, split, join, fjoin, pick}
+use Rattle.hashlink_map.proofs.Names.{await, updating, now, use0, use1, use2, done, ◌⊑◌, Lfts, Shares}
+use Rattle.hashlink_map.proofs.Names.{Outlives, AllOutlive, toks, fact, fact_i, Running, tables, Is, Ises}
+use Rattle.hashlink_map.proofs.Names.{Are, shows, layout, param, Laws, RattleType, Valss, flat, Slot}
+use Rattle.hashlink_map.proofs.Names.{types_at, plain, nothing, peeks, heard, Ended, Clauses, closing, lasts}
+use Rattle.hashlink_map.proofs.Names.{Lasts, Kepts, Args, alive, on_entry, Meets, triple_of, framed, Stays}
+use Rattle.hashlink_map.proofs.Names.{AllGo, Fit, has_of, walk_of, Good, proved_at, leaves, Bor, MutBor, IfOk}
+use Rattle.hashlink_map.proofs.Names.{Keyed, with_value_at, LendsPairOf}
 use Rattle.std.specs.declared.cmp.Eq as equal
 use Rattle.std.specs.declared.cmp.PartialEq as eq
 use Rattle.std.specs.declared.hash.Hash as hash
 use Rattle.std.specs.declared.hash.Hasher as hasher
 use Rattle.std.specs.declared.hash.BuildHasher as builder
-use Rattle.hashlink_core.specs.Keyed.{Keyed}
-use Rattle.hashlink_core.specs.KeyedLends.{with_value_at}
-use Rattle.hashlink_map.specs.RawLends.{LendsPairOf}
 use Rattle.hashlink_map.proofs.PairSteps.{Asks, asks_again, apart_last, joins_last}
 use Rattle.hashlink_map.proofs.PairRows.{Answer, answer_laws, Entered, entered_laws}
 use Rattle.hashlink_map.proofs.PairTies.{Rests, Lends, carries, IsLent, IsHandedOn, IsPairAt}

@@ -1,12 +1,9 @@
 -- Std's `extend` and `from_iter`, out of what the calls say of their items.
-use Rattle.std.proofs.Common.{◌≡◌, ℕ, List, [], ◌∷◌, ◌++◌, map, length, drop, get_or, Option, Result, Ok, Err}
-use Rattle.std.proofs.Common.{refl, ap, ap₂, sym, subst, arith, true≢false}
-use Rattle.std.specs.Iterator.{Yields, Drains, DrainsIf}
-use Rattle.std.specs.Prelude.{IsErr, IfOk, OnErr, MatchResult, ⊤}
-use Rattle.hashlink_model.specs.Many.{AcceptsAll, StopsAt, StopsAtLast}
-use Rattle.hashlink_model.specs.MapState.{MapState, Grows}
-use Rattle.hashlink_map.specs.Extending.{TakesItems}
-use Rattle.hashlink_map.specs.Reading.{ReadsAll, ReadsSome}
+use Rattle.hashlink_map.proofs.Names.{◌≡◌, ℕ, List, [], ◌∷◌, ◌++◌, map, length, get_or, Option, refl, ap, ap₂}
+use Rattle.hashlink_map.proofs.Names.{sym, subst, arith, true≢false, Yields, Drains, DrainsIf, IsErr, IfOk}
+use Rattle.hashlink_map.proofs.Names.{OnErr, MatchResult, ⊤, AcceptsAll, StopsAt, StopsAtLast, MapState}
+use Rattle.hashlink_map.proofs.Names.{Grows, TakesItems, ReadsAll, ReadsSome}
+use Rattle.std.proofs.Common.{drop, Result, Ok, Err}
 
 pub on_err : {A E : Type 0} (r : Result A E) (P : Type 0) → P → OnErr r P
 on_err (Ok x) P p = tt

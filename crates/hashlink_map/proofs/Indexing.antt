@@ -1,17 +1,10 @@
 -- A key that is there, by its place.
-use Rattle.std.proofs.Common.{◌≡◌, ℕ, Bool, is_some, Option, None, Some, length, unwrap_or, refl, ap, sym}
-use Rattle.std.proofs.Common.{◌∙◌, true≢false}
-use Rattle.std.specs.Prelude.{IsSome, MatchOption}
-use Rattle.std.specs.Map.{values_of}
-use Rattle.hashlink_model.specs.Entries.{place_of}
-use Rattle.hashlink_model.specs.Steps.{with_value_of}
-use Rattle.hashlink_core.specs.Keyed.{Keyed, HoldsKey, entries_of, state_of, pair_with_value}
-use Rattle.hashlink_core.specs.KeyedLends.{with_value_at}
-use Rattle.hashlink_core.specs.Places.{Node, renewed_at}
-use Rattle.hashlink_map.specs.Indexed.{HasKey, with_value_at_key}
-use Rattle.hashlink_core.proofs.Mapped.{values-renewed_value}
-use Rattle.hashlink_model.proofs.ByPlace.{set_value_at-place}
-use Rattle.hashlink_core.proofs.Steps.{lookup-unplaced}
+use Rattle.hashlink_map.proofs.Names.{◌≡◌, ℕ, Bool, is_some, Option, None, Some, length, refl, ap, sym, ◌∙◌}
+use Rattle.hashlink_map.proofs.Names.{true≢false, IsSome, MatchOption, values_of, place_of, with_value_of}
+use Rattle.hashlink_map.proofs.Names.{Keyed, HoldsKey, entries_of, state_of, pair_with_value, with_value_at}
+use Rattle.hashlink_map.proofs.Names.{Node, renewed_at, HasKey, with_value_at_key, values-renewed_value}
+use Rattle.hashlink_map.proofs.Names.{set_value_at-place, lookup-unplaced}
+use Rattle.std.proofs.Common.{unwrap_or}
 
 module _ {K V S : Type 0} (eq : K → K → Bool) (m : Keyed K V S) (k : K) where
   not_there : place_of (eq k) (entries_of m) ≡ None → HasKey eq m k → ⊥

@@ -1,29 +1,19 @@
 -- An entry that stands last: it moved there, or its pair went in there.
-use Rattle.std.proofs.Common.{◌≡◌, ℕ, ◌-◌, List, [], ◌∷◌, ◌++◌, Bool, None, Some, length, refl, sym, ap, ap₂}
-use Rattle.std.proofs.Common.{subst, ◌∙◌, append-nil}
-use Rattle.std.specs.Prelude.{Option, slice_get, Result, Ok, Err, IfOk, IfErr, OnErr, MatchOption}
-use Rattle.std.specs.Borrow.{Bor, MutBor}
-use Rattle.std.specs.Cmp.{IsEquivalence}
+use Rattle.hashlink_map.proofs.Names.{◌≡◌, ℕ, ◌-◌, List, [], ◌∷◌, ◌++◌, Bool, None, Some, length, refl, sym}
+use Rattle.hashlink_map.proofs.Names.{ap, ap₂, subst, ◌∙◌, append-nil, slice_get, Result, Ok, Err, IfOk}
+use Rattle.hashlink_map.proofs.Names.{IfErr, OnErr, MatchOption, Bor, MutBor, IsEquivalence, IsEntries}
+use Rattle.hashlink_map.proofs.Names.{moved_at, place_of, MapState, MovesAt, AddsEntry, PutsEntry}
+use Rattle.hashlink_map.proofs.Names.{RefusesEntry, RawEntryState, moved_at-last, none_others}
+use Rattle.hashlink_map.proofs.Names.{IsEntries-middle, IsEntries-insert, split_at, place_of_its_key, Keyed}
+use Rattle.hashlink_map.proofs.Names.{state_of, entries_of, Node, Holds, place_number, at-node, node-at}
+use Rattle.hashlink_map.proofs.Names.{RawOccupiedEntryMut, raw_occupied_state, raw_occupied_map, raw_place}
+use Rattle.hashlink_map.proofs.Names.{raw_pair, PutsLast, StandsLast, with_value_at}
+use Rattle.std.specs.Prelude.{Option}
 use Rattle.std.specs.declared.cmp.PartialEq as eq
 use Rattle.std.specs.declared.hash.Hash as hash
 use Rattle.std.specs.declared.hash.Hasher as hasher
 use Rattle.std.specs.declared.hash.BuildHasher as builder
-use Rattle.hashlink_model.specs.Entries.{IsEntries, moved_at, place_of}
-use Rattle.hashlink_model.specs.MapState.{MapState, MovesAt, AddsEntry, PutsEntry, RefusesEntry}
-use Rattle.hashlink_model.specs.Entry.{RawEntryState}
-use Rattle.hashlink_model.proofs.ByPlace.{moved_at-last}
-use Rattle.hashlink_model.proofs.Distinct.{none_others, IsEntries-middle, IsEntries-insert}
-use Rattle.hashlink_model.proofs.Places.{split_at, place_of_its_key}
-use Rattle.hashlink_core.specs.Keyed.{Keyed, state_of, entries_of}
-use Rattle.hashlink_core.specs.Places.{Node, Holds, place_number}
-use Rattle.hashlink_core.proofs.Holding.{at-node}
-use Rattle.hashlink_core.proofs.Places.{node-at}
 use Rattle.hashlink_map.specs.declared.as_node.AsNode as as_node
-use Rattle.hashlink_map.specs.declared.raw_entry.occupied.RawOccupiedEntryMut.{RawOccupiedEntryMut}
-use Rattle.hashlink_map.specs.RawEntry.{raw_occupied_state, raw_occupied_map, raw_place, raw_pair}
-use Rattle.hashlink_map.specs.EntryLends.{PutsLast}
-use Rattle.hashlink_map.specs.RawLends.{StandsLast}
-use Rattle.hashlink_core.specs.KeyedLends.{with_value_at}
 use Rattle.hashlink_map.specs.contracts.as_node.NodeAsNode.TheImpl
 use Rattle.hashlink_map.proofs.AtNode.{adds-written, added-parts, last-moved, moves-and-writes}
 use Rattle.hashlink_map.proofs.PairTies.{IsPairAt, OfEntry}

@@ -1,50 +1,26 @@
 -- The pair at a place of a borrower is lent, where the place is a node's. Assumes `Logic`.
-use Rattle.std.proofs.Common.{◌≡◌, ℕ, List, [], ◌∷◌, ◌++◌, refl, sym, ap, subst, ◌∙◌, lit<}
-use seplogic.Ra.Ura.{Ura}
-use base.Fml.{Fml, fres}
-use base.Logic.{SProp, ent, sep, id⊢, emp}
-use mir.Syntax.{Fn, Ty, Sym, Callee, Kind, w8, named, erased, imm, mut, ty_ref, ty_struct, ty_enum, tcons}
-use mir.Syntax.{tnil}
-use mir.Syntax.{ttcons, ttnil, local, value_local, place, deref, field, variant, seq, assign, call, return}
-use mir.Syntax.{switch, arm, no_default, aggregate, int, addr_of, copy, rv_opd}
-use mir.Val.{Val, of_list, vstruct}
-use prog.Model.{Model}
-use prog.Wp.{WpFn, Closed, Wp, after_seq}
-use types.Logic.{Logic, sem}
-use types.Kit.{‵, raw, ◌⊛◌, some, later, at_ret, any_q, post, ◌$◌, ◌∵◌, !, qed, by, move, keep, drop, split}
-use types.Kit.{join, fsplit, fsplit3, fjoin, pick, await, rewrite, use0, use1, suffices}
-use types.Match.{live, vrt, in_variant}
-use types.Part.{whole, agg}
-use types.Run.{stop, fld, of_opd, addr, lit, and_then, no_more, first, switches_on, exec, returns, enter}
-use types.ByLocal.{alloc_all, pass_all, free_all, look_at, get, get_in, get_tag, through, sets, sets_last}
-use types.ByLocal.{lands_as, env}
-use contract.BorrowLft.{◌⊑◌}
-use contract.Monad.{fact, fact_i}
-use contract.Lifetimes.{Lfts, Outlives}
-use contract.Running.{Running, tables}
-use denote.Exit.{no, yes}
-use denote.Laws.{Is, shows, Typed}
-use denote.Param.{layout}
-use denote.Param.Laws.{Laws}
-use denote.RattleType.{RattleType, owns}
-use denote.Ref.{NamedLft, mut_vals, mut_Tells, shr_vals}
-use denote.Signature.{types_at, plain, mut_ref_to}
-use denote.Steps.{nothing, peeks, only, heard}
-use denote.Triple.Call.{calls_at}
-use denote.Triple.Clauses.{Ended, Clauses, closing, lasts, Lasts}
-use denote.Triple.Entry.{alive}
-use denote.Triple.Spec.{Meets, triple_of}
-use denote.Triple.Table.{framed}
-use denote.Triple.Walked.{Stays, stay_dropped, walk_of, Goes-dropped, Goes-spent_ref}
-use Rattle.std.proofs.alloc.Shapes.{after, head, arm_body}
-use Rattle.std.proofs.cell.Inside.{Good}
-use Rattle.std.proofs.raw_atomic.Walks.{proved_at, leaves}
-use Rattle.std.proofs.VecSteps.Element.{Some-of, none_of}
+use Rattle.hashlink_map.proofs.Names.{◌≡◌, ℕ, List, [], ◌∷◌, ◌++◌, refl, sym, ap, subst, ◌∙◌, lit<, Ura, Fml}
+use Rattle.hashlink_map.proofs.Names.{fres, SProp, ent, sep, id⊢, emp, Fn, Ty, Sym, Callee, Kind, w8, named}
+use Rattle.hashlink_map.proofs.Names.{erased, imm, mut, ty_ref, ty_struct, ty_enum, tcons, tnil, ttcons}
+use Rattle.hashlink_map.proofs.Names.{ttnil, local, value_local, place, deref, field, variant, seq, assign}
+use Rattle.hashlink_map.proofs.Names.{call, return, switch, arm, no_default, aggregate, int, addr_of, copy}
+use Rattle.hashlink_map.proofs.Names.{rv_opd, Val, of_list, vstruct, Model, WpFn, Closed, Wp, after_seq}
+use Rattle.hashlink_map.proofs.Names.{Logic, sem, ‵, raw, ◌⊛◌, some, later, at_ret, any_q, post, ◌$◌, ◌∵◌, ! }
+use Rattle.hashlink_map.proofs.Names.{qed, by, move, keep, drop, split, join, fsplit, fsplit3, fjoin, pick}
+use Rattle.hashlink_map.proofs.Names.{await, rewrite, use0, use1, suffices, live, vrt, in_variant, whole, agg}
+use Rattle.hashlink_map.proofs.Names.{stop, fld, of_opd, addr, lit, and_then, no_more, first, switches_on}
+use Rattle.hashlink_map.proofs.Names.{exec, returns, enter, alloc_all, pass_all, free_all, look_at, get}
+use Rattle.hashlink_map.proofs.Names.{get_in, get_tag, through, sets, sets_last, lands_as, env, ◌⊑◌, fact}
+use Rattle.hashlink_map.proofs.Names.{fact_i, Lfts, Outlives, Running, tables, no, yes, Is, shows, Typed}
+use Rattle.hashlink_map.proofs.Names.{layout, Laws, RattleType, owns, NamedLft, mut_vals, mut_Tells, shr_vals}
+use Rattle.hashlink_map.proofs.Names.{types_at, plain, mut_ref_to, nothing, peeks, only, heard, calls_at}
+use Rattle.hashlink_map.proofs.Names.{Ended, Clauses, closing, lasts, Lasts, alive, Meets, triple_of, framed}
+use Rattle.hashlink_map.proofs.Names.{Stays, stay_dropped, walk_of, Goes-dropped, Goes-spent_ref, after, head}
+use Rattle.hashlink_map.proofs.Names.{arm_body, Good, proved_at, leaves, Some-of, none_of, Node}
 use Rattle.std.proofs.option.Option.TheLaws as option_laws
 use Rattle.std.specs.Prelude.{None, Some}
 use Rattle.std.specs.contracts.option.Option as option
 use Rattle.hashlink_core.proofs.Node.TheLaws as node_laws
-use Rattle.hashlink_core.specs.Places.{Node}
 use Rattle.hashlink_core.specs.contracts.Node.{the_row as node_row}
 use Rattle.hashlink_map.proofs.PairRows.{Lent}
 use Rattle.hashlink_map.proofs.PairSteps.{Asks}

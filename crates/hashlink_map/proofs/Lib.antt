@@ -1,3 +1,4 @@
+pub mod Names
 pub mod Answering
 pub mod AtNode
 pub mod Clones

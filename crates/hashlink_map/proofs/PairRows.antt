@@ -1,15 +1,8 @@
 -- The types that a raw entry's pair passes through, each with its laws.
-use Rattle.std.proofs.Common.{[], ◌∷◌, refl}
-use base.Fml.{Lft}
-use mir.Syntax.{named}
-use denote.Param.{param}
-use denote.Param.Laws.{Laws, param_laws, of_field, row_shared}
-use denote.Param.Shared.{copy_shared, mut_ref_shared}
-use denote.RattleType.{RattleType}
-use denote.Ref.{NamedLft, MutRef, ShrRef}
-use denote.Struct.Field.{shr_ref_field, mut_ref_field}
-use denote.Struct.Laws.{shr_ref_laws, shr_ref_copy, mut_ref_laws}
-use denote.Struct.Tuple.{Tuple, tuple_laws}
+use Rattle.hashlink_map.proofs.Names.{[], ◌∷◌, refl, Lft, named, param, Laws, param_laws, of_field}
+use Rattle.hashlink_map.proofs.Names.{row_shared, copy_shared, mut_ref_shared, RattleType, NamedLft, MutRef}
+use Rattle.hashlink_map.proofs.Names.{ShrRef, shr_ref_field, mut_ref_field, shr_ref_laws, shr_ref_copy}
+use Rattle.hashlink_map.proofs.Names.{mut_ref_laws, Tuple, tuple_laws}
 use Rattle.std.specs.declared.cmp.PartialEq as eq
 use Rattle.std.specs.declared.hash.Hash as hash
 use Rattle.std.specs.declared.hash.Hasher as hasher

@@ -1,20 +1,10 @@
 -- What the walks to a pair that is lent share: a node's one word, what calls ask, and the tokens. Assumes
 -- `Logic`.
-use Rattle.std.proofs.Common.{◌≡◌, List, [], ◌∷◌, ◌++◌, refl, subst}
-use seplogic.Ra.Ura.{Ura}
-use mir.Val.{Val, vstruct, of_list}
-use base.Fml.{Fml, ftrue}
-use base.Logic.{SProp, ent, sep, emp, mono_r}
-use contract.Monad.{fact, fact_i}
-use types.Logic.{Logic, sem}
-use types.Kit.{Item, Goal, Seq, ‵, raw, ◌⊛◌, ◌$◌, ◌∵◌, !, qed, move, drop, split, join, use0, fsplit, fpick}
-use types.Kit.{feq_l, done}
-use denote.RattleType.{RattleType}
-use denote.RawPtr.{Ptr, RawPtr, ptr_val}
-use denote.Shadow.{makes_shadow}
-use denote.Steps.{nothing, heard}
-use denote.Struct.Struct.{Shape, Struct}
-use Rattle.std.proofs.RcSteps.{word}
+use Rattle.hashlink_map.proofs.Names.{◌≡◌, List, [], ◌∷◌, ◌++◌, refl, subst, Ura, Val, vstruct, of_list, Fml}
+use Rattle.hashlink_map.proofs.Names.{ftrue, SProp, ent, sep, emp, mono_r, fact, fact_i, Logic, sem, Item}
+use Rattle.hashlink_map.proofs.Names.{Goal, Seq, ‵, raw, ◌⊛◌, ◌$◌, ◌∵◌, !, qed, move, drop, split, join, use0}
+use Rattle.hashlink_map.proofs.Names.{fsplit, fpick, feq_l, done, RattleType, Ptr, RawPtr, ptr_val}
+use Rattle.hashlink_map.proofs.Names.{makes_shadow, nothing, heard, Shape, Struct, word}
 
 abbrev one_field : Shape
 one_field = record { name = []; args = []; types = []; fields = RawPtr ∷ [] }

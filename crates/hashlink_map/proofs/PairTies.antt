@@ -1,27 +1,19 @@
 -- What the map ends as, from the entry that it went into and the pair that the entry lent. Assumes `Logic`.
-use Rattle.std.proofs.Common.{◌≡◌, [], ◌∷◌, sym, subst}
-use seplogic.Ra.Ura.{Ura}
-use base.Logic.{ent, sep}
-use types.Logic.{Logic, sem}
-use types.Kit.{‵, ◌$◌, ◌∵◌, !, qed, drop, move, use2, fpick, fpack, done}
-use denote.Follow.{follows_by, such_by, follows_then}
-use Rattle.std.specs.Prelude.{Result, Ok, Err, Some, IfOk, IfErr, OnErr, MatchResult, slice_get, length}
-use Rattle.std.specs.Borrow.{Fml, ftrue, RattleType, Bor, MutBor, RestsIfErr, follows, follows_if, follows_so}
-use Rattle.std.specs.Borrow.{name_if_ok}
-use Rattle.std.specs.Cmp.{IsEquivalence}
+use Rattle.hashlink_map.proofs.Names.{◌≡◌, [], ◌∷◌, sym, subst, Ura, ent, sep, Logic, sem, ‵, ◌$◌, ◌∵◌, ! }
+use Rattle.hashlink_map.proofs.Names.{qed, drop, move, use2, fpick, fpack, done, follows_by, such_by}
+use Rattle.hashlink_map.proofs.Names.{follows_then, Result, Ok, Err, IfOk, IfErr, OnErr, MatchResult}
+use Rattle.hashlink_map.proofs.Names.{slice_get, Bor, MutBor, RestsIfErr, follows, follows_if, follows_so}
+use Rattle.hashlink_map.proofs.Names.{name_if_ok, IsEquivalence, MapState, AddsEntry, Keyed, state_of, Node}
+use Rattle.hashlink_map.proofs.Names.{with_value_at, RawOccupiedEntryMut, raw_occupied_map}
+use Rattle.hashlink_map.proofs.Names.{raw_occupied_state, raw_place, LendsPairOf}
+use Rattle.std.specs.Prelude.{Some, length}
+use Rattle.std.specs.Borrow.{Fml, ftrue, RattleType}
 use Rattle.std.specs.declared.cmp.PartialEq as eq
 use Rattle.std.specs.declared.hash.Hash as hash
 use Rattle.std.specs.declared.hash.Hasher as hasher
 use Rattle.std.specs.declared.hash.BuildHasher as builder
-use Rattle.hashlink_model.specs.MapState.{MapState, AddsEntry}
-use Rattle.hashlink_core.specs.Keyed.{Keyed, state_of}
-use Rattle.hashlink_core.specs.Places.{Node}
-use Rattle.hashlink_core.specs.KeyedLends.{with_value_at}
 use Rattle.hashlink_map.specs.contracts.as_node.NodeAsNode.TheImpl
 use Rattle.hashlink_map.specs.contracts.map.LinkedHashMap.{the_row}
-use Rattle.hashlink_map.specs.declared.raw_entry.occupied.RawOccupiedEntryMut.{RawOccupiedEntryMut}
-use Rattle.hashlink_map.specs.RawEntry.{raw_occupied_map, raw_occupied_state, raw_place}
-use Rattle.hashlink_map.specs.RawLends.{LendsPairOf}
 use Rattle.hashlink_map.proofs.AtNode.{adds-written, added-parts}
 
 module _ {K V S T : Type 0} {g : eq.Ghosts K} {h : hash.Ghosts K} {b : builder.Ghosts S T}

@@ -1,17 +1,9 @@
 -- A value's one machine value, and the parts of a `Result` and of an `Option`. Assumes `Logic`.
-use Rattle.std.proofs.Common.{◌≡◌, List, [], ◌∷◌, ◌++◌, refl, ap, subst, ◌∙◌}
-use seplogic.Ra.Ura.{Ura}
-use mir.Val.{Val, of_list}
-use types.Logic.{Logic}
-use types.Kit.{Item, Goal, Seq, ‵, ◌$◌, move, drop, fsplit, fpick, feq_l, rewrite}
-use types.Match.{live}
-use denote.Laws.{Is, shows, Typed}
-use denote.Param.{layout}
-use denote.Param.Laws.{Laws}
-use denote.RattleType.{RattleType}
-use denote.Steps.{peeks}
-use Rattle.std.proofs.cell.Inside.{Good, one}
-use Rattle.std.specs.Prelude.{Ok, Err, Some, None}
+use Rattle.hashlink_map.proofs.Names.{◌≡◌, List, [], ◌∷◌, ◌++◌, refl, ap, subst, ◌∙◌, Ura, Val, of_list}
+use Rattle.hashlink_map.proofs.Names.{Logic, Item, Goal, Seq, ‵, ◌$◌, move, drop, fsplit, fpick, feq_l}
+use Rattle.hashlink_map.proofs.Names.{rewrite, live, Is, shows, Typed, layout, Laws, RattleType, peeks, Good}
+use Rattle.hashlink_map.proofs.Names.{one, Ok, Err}
+use Rattle.std.specs.Prelude.{Some, None}
 use Rattle.std.specs.contracts.option.Option as option
 use Rattle.std.specs.contracts.result.Result as result
 

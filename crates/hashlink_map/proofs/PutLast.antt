@@ -1,27 +1,14 @@
 -- What the inserts of raw entries say of the entry that they make, and of the pair that it lends.
-use Rattle.std.proofs.Common.{◌≡◌, [], ◌∷◌, None}
-use seplogic.Ra.Ura.{Ura}
-use base.Fml.{Lft}
-use base.Logic.{ent, sep, emp}
-use types.Logic.{Logic}
-use types.Kit.{raw, ◌$◌, ◌∵◌, !, qed, by, done, drop, use0}
-use contract.Monad.{fact, fact_i}
-use denote.Param.Laws.{Laws}
-use denote.RattleType.{RattleType}
-use denote.Steps.{heard}
-use Rattle.std.specs.Borrow.{MutBor}
-use Rattle.std.specs.Cmp.{IsEquivalence}
-use Rattle.std.specs.Prelude.{IfOk, IfErr, OnErr, MatchOption, length}
+use Rattle.hashlink_map.proofs.Names.{◌≡◌, [], ◌∷◌, None, Ura, Lft, ent, sep, emp, Logic, raw, ◌$◌, ◌∵◌, ! }
+use Rattle.hashlink_map.proofs.Names.{qed, by, done, drop, use0, fact, fact_i, Laws, RattleType, heard}
+use Rattle.hashlink_map.proofs.Names.{MutBor, IsEquivalence, IfOk, IfErr, OnErr, MatchOption, RawEntryState}
+use Rattle.hashlink_map.proofs.Names.{AddsEntry, RefusesEntry, Keyed, state_of, entries_of, PutsLast}
+use Rattle.hashlink_map.proofs.Names.{raw_occupied_map, raw_occupied_state, raw_pair, raw_place, StandsLast}
+use Rattle.std.specs.Prelude.{length}
 use Rattle.std.specs.declared.cmp.PartialEq as eq
 use Rattle.std.specs.declared.hash.Hash as hash
 use Rattle.std.specs.declared.hash.Hasher as hasher
 use Rattle.std.specs.declared.hash.BuildHasher as builder
-use Rattle.hashlink_model.specs.Entry.{RawEntryState}
-use Rattle.hashlink_model.specs.MapState.{AddsEntry, RefusesEntry}
-use Rattle.hashlink_core.specs.Keyed.{Keyed, state_of, entries_of}
-use Rattle.hashlink_map.specs.EntryLends.{PutsLast}
-use Rattle.hashlink_map.specs.RawEntry.{raw_occupied_map, raw_occupied_state, raw_pair, raw_place}
-use Rattle.hashlink_map.specs.RawLends.{StandsLast}
 use Rattle.hashlink_map.proofs.EnterAndLend.{Made_at, Lent_at, Entering}
 use Rattle.hashlink_map.proofs.LastMoved.{put_written, put_parts}
 use Rattle.hashlink_map.proofs.PairTies.{ok_carried, err_carried, on_err_carried, IsLent, IsHandedOn}

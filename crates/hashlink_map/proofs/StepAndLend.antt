@@ -1,42 +1,20 @@
 -- A step of a borrower, and then the pair at the place that it gave is lent. A cursor and a walk that writes
 -- begin so. Assumes `Logic`.
-use Rattle.std.proofs.Common.{◌≡◌, ℕ, List, [], ◌∷◌, ◌++◌, refl, sym, ap, subst, ◌∙◌}
-use seplogic.Ra.Ura.{Ura}
-use base.Fml.{Fml}
-use base.Logic.{SProp, ent, sep, id⊢, emp}
-use mir.Syntax.{Fn, Ty, Sym, Callee, Kind, named, erased, mut, ty_ptr, ty_ref, ty_struct, tcons, tnil, local}
-use mir.Syntax.{value_local, place, deref, field, seq, assign, call, return, addr_of, copy, rv_opd}
-use mir.Val.{Val, of_list, vptr, vstruct}
-use prog.Model.{Model}
-use prog.Wp.{WpFn, Closed}
-use types.Logic.{Logic, sem}
-use types.Kit.{‵, raw, ◌⊛◌, some, later, ◌$◌, ◌∵◌, !, qed, by, move, keep, drop, split, join, fsplit, fjoin}
-use types.Kit.{fpick, feq_l, pick, await, rewrite, use0, use1}
-use types.Part.{whole, sub}
-use types.Run.{stop, fld, of_opd, addr, and_then, no_more, returns, enter}
-use types.ByLocal.{alloc_all, pass_all, free_all, look_at, get, get_in, through, sets, lands_as}
-use contract.BorrowLft.{◌⊑◌}
-use contract.Monad.{fact, fact_i}
-use contract.Lifetimes.{Lfts, Outlives}
-use contract.Running.{Running, tables}
-use denote.Exit.{no, yes}
-use denote.Follow.{follows_by}
-use denote.Laws.{Is, shows}
-use denote.Param.{layout}
-use denote.Param.Laws.{Laws}
-use denote.RattleType.{RattleType}
-use denote.Ref.{NamedLft, MutRef, mut_vals, mut_Tells}
-use denote.Signature.{Slot, plain, mut_ref_to, named_lft}
-use denote.Steps.{nothing, peeks, only, heard}
-use denote.Struct.Struct.{as_fields}
-use denote.Struct.Tuple.{Tuple}
-use denote.Triple.Call.{calls_at}
-use denote.Triple.Clauses.{Ended, Clauses, closing, lasts, Lasts}
-use denote.Triple.Entry.{alive, on_entry}
-use denote.Triple.Spec.{Meets, triple_of}
-use denote.Triple.Table.{framed}
-use denote.Triple.Walked.{Stays, stay_dropped, walk_of, Goes-spent_ref}
-use Rattle.std.proofs.raw_atomic.Walks.{proved_at, leaves}
+use Rattle.hashlink_map.proofs.Names.{◌≡◌, ℕ, List, [], ◌∷◌, ◌++◌, refl, sym, ap, subst, ◌∙◌, Ura, Fml, SProp}
+use Rattle.hashlink_map.proofs.Names.{ent, sep, id⊢, emp, Fn, Ty, Sym, Callee, Kind, named, erased, mut}
+use Rattle.hashlink_map.proofs.Names.{ty_ptr, ty_ref, ty_struct, tcons, tnil, local, value_local, place}
+use Rattle.hashlink_map.proofs.Names.{deref, field, seq, assign, call, return, addr_of, copy, rv_opd, Val}
+use Rattle.hashlink_map.proofs.Names.{of_list, vptr, vstruct, Model, WpFn, Closed, Logic, sem, ‵, raw, ◌⊛◌}
+use Rattle.hashlink_map.proofs.Names.{some, later, ◌$◌, ◌∵◌, !, qed, by, move, keep, drop, split, join}
+use Rattle.hashlink_map.proofs.Names.{fsplit, fjoin, fpick, feq_l, pick, await, rewrite, use0, use1, whole}
+use Rattle.hashlink_map.proofs.Names.{sub, stop, fld, of_opd, addr, and_then, no_more, returns, enter}
+use Rattle.hashlink_map.proofs.Names.{alloc_all, pass_all, free_all, look_at, get, get_in, through, sets}
+use Rattle.hashlink_map.proofs.Names.{lands_as, ◌⊑◌, fact, fact_i, Lfts, Outlives, Running, tables, no, yes}
+use Rattle.hashlink_map.proofs.Names.{follows_by, Is, shows, layout, Laws, RattleType, NamedLft, MutRef}
+use Rattle.hashlink_map.proofs.Names.{mut_vals, mut_Tells, Slot, plain, mut_ref_to, named_lft, nothing, peeks}
+use Rattle.hashlink_map.proofs.Names.{only, heard, as_fields, Tuple, calls_at, Ended, Clauses, closing, lasts}
+use Rattle.hashlink_map.proofs.Names.{Lasts, alive, on_entry, Meets, triple_of, framed, Stays, stay_dropped}
+use Rattle.hashlink_map.proofs.Names.{walk_of, Goes-spent_ref, proved_at, leaves}
 use Rattle.std.proofs.option.Option.TheLaws as option_laws
 use Rattle.std.specs.contracts.option.Option as option
 use Rattle.hashlink_core.proofs.Node.TheLaws as node_laws

@@ -1,7 +1,6 @@
 -- What came out of a walk that gives its list away.
-use Rattle.std.proofs.Common.{◌≡◌, List, [], ◌∷◌, ◌++◌, None, ap, ◌∙◌, append-nil}
-use Rattle.std.specs.Iterator.{Yields, YieldsThen}
-use Rattle.std.specs.Map.Iter.{TakesFirst}
+use Rattle.hashlink_map.proofs.Names.{◌≡◌, List, [], ◌∷◌, ◌++◌, None, ap, ◌∙◌, append-nil, Yields, YieldsThen}
+use Rattle.hashlink_map.proofs.Names.{TakesFirst}
 
 module _ {A : Type 0} where
   pub taken_front : (s xs t : List A) → Yields (TakesFirst (λ p. p)) s xs t → s ≡ xs ++ t

@@ -1,14 +1,10 @@
 -- What a step that takes an entry out of a map gives and leaves, as a step of a walk.
-use Rattle.std.proofs.Common.{◌≡◌, arith, List, [], Option, None, Some, refl, ap, sym, subst, ◌∙◌}
-use Rattle.std.specs.Map.Iter.{TakesFirst, TakesLast, GivesInOrder, GivesInReverse}
-use Rattle.std.specs.Prelude.{MatchOption}
-use Rattle.std.proofs.iter.runs.Sources.{as_is, as_is_back}
-use Rattle.hashlink_core.proofs.Walk.{in-order, in-reverse}
-use Rattle.hashlink_model.specs.MapState.{MapState, Removes}
-use Rattle.hashlink_model.specs.Steps.{PopsFront, PopsBack, KeepsOnly, Drains}
-use Rattle.hashlink_model.specs.Walk.{after_first_of, before_last_of}
-use Rattle.hashlink_model.proofs.NodeCounts.{keeps_twice, removes_keeps}
-use Rattle.hashlink_model.proofs.Walks.{takes_first, takes_last}
+use Rattle.hashlink_map.proofs.Names.{◌≡◌, arith, List, [], Option, None, Some, refl, ap, sym, subst, ◌∙◌}
+use Rattle.hashlink_map.proofs.Names.{TakesFirst, TakesLast, GivesInOrder, GivesInReverse, MatchOption, as_is}
+use Rattle.hashlink_map.proofs.Names.{as_is_back, in-order, in-reverse, MapState, Removes, PopsFront}
+use Rattle.hashlink_map.proofs.Names.{PopsBack, KeepsOnly, after_first_of, before_last_of, keeps_twice}
+use Rattle.hashlink_map.proofs.Names.{removes_keeps, takes_first, takes_last}
+use Rattle.hashlink_model.specs.Steps.{Drains}
 
 module _ {K V S : Type 0} (old new : MapState K V S) where
   pub pop-takes_first : (r : Option (K × V)) → PopsFront old new r

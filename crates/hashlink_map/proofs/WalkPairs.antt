@@ -1,40 +1,27 @@
 -- What a walk is once a value was written through a key and a value that it lent, and what it lends where it
 -- takes a place off. Assumes `Logic`.
-use Rattle.std.proofs.Common.{◌≡◌, ℕ, [], ◌∷◌, take, drop, refl, sym, ap, ap₂, subst, ◌∙◌, List}
-use seplogic.Ra.Ura.{Ura}
-use base.Logic.{ent}
-use mir.Syntax.{named}
-use types.Logic.{Logic, sem}
-use types.Kit.{‵, ◌$◌, ◌∵◌, !, qed, fpick, fpack, rewrite, done}
-use denote.Follow.{follows_by, such_by}
-use denote.RattleType.{RattleType}
-use Rattle.std.specs.Prelude.{Option, Some, None, OnSome, IfNone, slice_get}
-use Rattle.std.specs.Option.{option_map}
-use Rattle.std.specs.Borrow.{Fml, GName, Bor, MutBor, follows_if, name_if_some}
+use Rattle.hashlink_map.proofs.Names.{◌≡◌, ℕ, [], ◌∷◌, take, refl, sym, ap, ap₂, subst, ◌∙◌, List, Ura, ent}
+use Rattle.hashlink_map.proofs.Names.{named, Logic, sem, ‵, ◌$◌, ◌∵◌, !, qed, fpick, fpack, rewrite, done}
+use Rattle.hashlink_map.proofs.Names.{follows_by, such_by, RattleType, OnSome, IfNone, slice_get, option_map}
+use Rattle.hashlink_map.proofs.Names.{GName, Bor, MutBor, follows_if, name_if_some, Node, Holds, IsPlace}
+use Rattle.hashlink_map.proofs.Names.{place_number, entries_of, first_of, last_of, node_row, with_value_at}
+use Rattle.hashlink_map.proofs.Names.{IterMut, lent_pair, walk_map, walk_state, walk_with_value}
+use Rattle.hashlink_map.proofs.Names.{LendsAtWalkNode, LendsPairThere, LendsPairFromWalk, LentFrom}
+use Rattle.hashlink_map.proofs.Names.{StaysThere, StepsAndWrites, TakesOff, WritingWalk, StandsIn}
+use Rattle.hashlink_map.proofs.Names.{StandsIn-prop, walk_with, walk_rest, last_place, after_front}
+use Rattle.hashlink_map.proofs.Names.{after_back, param, Laws, NamedLft, fres}
+use Rattle.std.proofs.Common.{drop}
+use Rattle.std.specs.Prelude.{Option, Some, None}
+use Rattle.std.specs.Borrow.{Fml}
 use Rattle.std.specs.declared.cmp.PartialEq as eq
 use Rattle.std.specs.declared.hash.Hash as hash
 use Rattle.std.specs.declared.hash.Hasher as hasher
 use Rattle.std.specs.declared.hash.BuildHasher as builder
-use Rattle.hashlink_core.specs.Places.{Node, Holds, IsPlace, place_number}
-use Rattle.hashlink_core.specs.Keyed.{entries_of}
-use Rattle.hashlink_model.specs.Walk.{first_of, last_of}
-use Rattle.hashlink_core.specs.KeyedLends.{node_row, with_value_at}
 use Rattle.hashlink_map.specs.contracts.as_node.NodeAsNode.TheImpl
 use Rattle.hashlink_map.specs.contracts.iter_mut.IterMut as walk
 use Rattle.hashlink_map.specs.declared.as_node.AsNode as as_node
-use Rattle.hashlink_map.specs.declared.iter_mut.IterMut.{IterMut}
-use Rattle.hashlink_map.specs.Cursor.{lent_pair}
-use Rattle.hashlink_map.specs.IterMut.{walk_map, walk_state}
-use Rattle.hashlink_map.specs.IterMutLends.{walk_with_value, LendsAtWalkNode, LendsPairThere}
-use Rattle.hashlink_map.specs.IterMutLends.{LendsPairFromWalk, LentFrom, StaysThere, StepsAndWrites, TakesOff}
-use Rattle.hashlink_map.specs.WritingWalk.{WritingWalk, StandsIn, StandsIn-prop, walk_with, walk_rest}
-use Rattle.hashlink_map.specs.WritingWalk.{last_place, after_front, after_back}
 use Rattle.hashlink_map.proofs.Walking.{written-there, first-taken, last-taken}
-use denote.Param.{param}
-use denote.Param.Laws.{Laws}
-use denote.Ref.{NamedLft}
 use Rattle.hashlink_map.proofs.StepAndLend.{Lending}
-use base.Fml.{fres}
 use Rattle.hashlink_map.proofs.LendAtPlace.{LendingAt}
 
 module _ {K V S T : Type 0} {g : eq.Ghosts K} {h : hash.Ghosts K} {b : builder.Ghosts S T}

@@ -1,25 +1,16 @@
 -- Where a walk that lends values stands, by its places.
-use Rattle.std.proofs.Common.{◌≡◌, ◌≢◌, ℕ, zero, suc, ◌+◌, ◌-◌, ◌<◌, ◌≤◌, List, [], ◌∷◌, length, ◌++◌, map}
-use Rattle.std.proofs.Common.{take, drop, Option, None, Some, refl, ap, ap₂, sym, subst, add-one, length-drop}
-use Rattle.std.proofs.Common.{length-take-le, ◌∙◌, arith}
-use Rattle.std.specs.Prelude.{slice_get, OnSome, IfNone}
-use Rattle.std.specs.Option.{option_map}
-use Rattle.hashlink_model.specs.Entries.{set_value_at}
-use Rattle.hashlink_model.specs.MapState.{MapState, map_state, with_value}
-use Rattle.hashlink_model.specs.Walk.{first_of, last_of}
-use Rattle.hashlink_core.specs.Keyed.{Keyed, entries_of, state_of, pair_with_value}
-use Rattle.hashlink_core.specs.KeyedLends.{with_value_at}
-use Rattle.hashlink_core.proofs.Mapped.{values-renewed_value}
-use Rattle.std.proofs.lemmas.List.{length-map}
-use Rattle.hashlink_map.specs.declared.places_left.PlacesLeft.{PlacesLeft}
-use Rattle.hashlink_map.specs.WritingWalk.{WritingWalk, writing_walk, walk_with, walk_in, walk_rest}
-use Rattle.hashlink_map.specs.WritingWalk.{WritesSoFar, after_front, last_place, StandsIn, TakesPlace}
-use Rattle.hashlink_model.specs.Cursor.{following_place, preceding_place}
-use Rattle.hashlink_core.specs.Places.{Node, Holds, IsPlace, IsPlaceAt, place_number}
-use Rattle.hashlink_core.specs.Walk.{StandsBetween}
-use Rattle.hashlink_core.proofs.Neighbours.{before-suc}
-use Rattle.hashlink_core.proofs.Places.{following-within, place_number-renewed}
-use Rattle.hashlink_core.proofs.Walk.{within-holds, slice_get-drop}
+use Rattle.hashlink_map.proofs.Names.{◌≡◌, ◌≢◌, ℕ, zero, suc, ◌+◌, ◌-◌, ◌<◌, ◌≤◌, List, [], ◌∷◌, length, ◌++◌}
+use Rattle.hashlink_map.proofs.Names.{map, take, Option, None, Some, refl, ap, ap₂, sym, subst, add-one}
+use Rattle.hashlink_map.proofs.Names.{length-drop, length-take-le, ◌∙◌, arith, slice_get, OnSome, IfNone}
+use Rattle.hashlink_map.proofs.Names.{option_map, set_value_at, MapState, map_state, with_value, first_of}
+use Rattle.hashlink_map.proofs.Names.{last_of, Keyed, entries_of, state_of, pair_with_value, with_value_at}
+use Rattle.hashlink_map.proofs.Names.{values-renewed_value, length-map, PlacesLeft, WritingWalk, writing_walk}
+use Rattle.hashlink_map.proofs.Names.{walk_with, walk_in, walk_rest, WritesSoFar, after_front, last_place}
+use Rattle.hashlink_map.proofs.Names.{StandsIn, following_place, preceding_place, Node, Holds, IsPlace}
+use Rattle.hashlink_map.proofs.Names.{IsPlaceAt, place_number, StandsBetween, before-suc, following-within}
+use Rattle.hashlink_map.proofs.Names.{place_number-renewed, within-holds, slice_get-drop}
+use Rattle.std.proofs.Common.{drop}
+use Rattle.hashlink_map.specs.WritingWalk.{TakesPlace}
 
 -- a place, and what stands for one
 pub same-place : (p : Option Node) → option_map (λ n. n) p ≡ p

@@ -1,24 +1,15 @@
 -- What an entry is once its value was written.
-use Rattle.std.proofs.Common.{◌≡◌, ◌∙◌, ℕ, Bool, List, Option, None, Some, refl, ap, ap₂}
-use Rattle.std.specs.Option.{option_map}
-use denote.Struct.Props.{props}
+use Rattle.hashlink_map.proofs.Names.{◌≡◌, ◌∙◌, ℕ, Bool, List, Option, None, Some, refl, ap, ap₂, option_map}
+use Rattle.hashlink_map.proofs.Names.{props, map_state, with_value_in, set_value_at, Keyed, HoldsKey}
+use Rattle.hashlink_map.proofs.Names.{entries_of, state_of, pair_with_value, Node, Holds, place_number}
+use Rattle.hashlink_map.proofs.Names.{with_value_at, values-renewed_value, place_number-renewed}
+use Rattle.hashlink_map.proofs.Names.{OccupiedEntry, RawOccupiedEntryMut, occupied_place, occupied_with}
+use Rattle.hashlink_map.proofs.Names.{IsWritten, raw_place, raw_with, RawIsWritten}
 use Rattle.std.specs.declared.cmp.PartialEq as eq
 use Rattle.std.specs.declared.hash.Hash as hash
 use Rattle.std.specs.declared.hash.Hasher as hasher
 use Rattle.std.specs.declared.hash.BuildHasher as builder
-use Rattle.hashlink_model.specs.MapState.{map_state}
-use Rattle.hashlink_model.specs.Cursor.{with_value_in}
-use Rattle.hashlink_model.specs.Entries.{set_value_at}
-use Rattle.hashlink_core.specs.Keyed.{Keyed, HoldsKey, entries_of, state_of, pair_with_value}
-use Rattle.hashlink_core.specs.Places.{Node, Holds, place_number}
-use Rattle.hashlink_core.specs.KeyedLends.{with_value_at}
-use Rattle.hashlink_core.proofs.Mapped.{values-renewed_value}
-use Rattle.hashlink_core.proofs.Places.{place_number-renewed}
 use Rattle.hashlink_map.specs.declared.as_node.AsNode as as_node
-use Rattle.hashlink_map.specs.declared.entry.occupied.OccupiedEntry.{OccupiedEntry}
-use Rattle.hashlink_map.specs.declared.raw_entry.occupied.RawOccupiedEntryMut.{RawOccupiedEntryMut}
-use Rattle.hashlink_map.specs.Entry.{occupied_place, occupied_with, IsWritten}
-use Rattle.hashlink_map.specs.RawEntry.{raw_place, raw_with, RawIsWritten}
 
 HoldsKey-prop : {K V : Type 0} (eq : K → K → Bool) (ns : List (Node × (K × V))) (k : K) (n : Node)
     → IsProp (HoldsKey eq ns k n)

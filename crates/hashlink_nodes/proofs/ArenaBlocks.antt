@@ -1,29 +1,14 @@
 -- One block is taken out of an arena's and put back. Assumes `Logic`.
-use Rattle.std.proofs.Common.{◌≡◌, ℕ, ◌+◌, ◌^◌, ◌<◌, arith, Bool, true, false, cond, List, [], ◌∷◌, Option}
-use Rattle.std.proofs.Common.{None, Some, IsSome, refl, sym, subst}
-use Rattle.std.specs.Map.{lookup, remove_entry}
-use Rattle.std.specs.Prelude.{IfSome}
-use denote.Steps.{nothing}
-use seplogic.Ra.Ura.{Ura}
-use base.Logic.{ent, sep, via, fst∗, snd∗, never, never_e}
-use base.Fml.{Fml, Lft, fat, froom}
-use types.Logic.{Logic, sem}
-use types.Kit.{Item, Goal, Seq, ‵, raw, prop, mean, some, ◌⊛◌, ◌$◌, ◌∵◌, !, qed, by, move, keep, use1, use2}
-use types.Kit.{pick, drop, flt_l, flt_i, Step, step, split, fsplit, fsplit3, fjoin, rewrite, done}
-use prog.Model.{Model}
-use mir.Syntax.{Ty}
-use mir.Val.{Val}
-use base.Fraction.{full_share}
-use contract.Monad.{fact, fact_i, fact_use}
-use denote.Memory.{lone}
-use borrow.Table.OneValue.{part_out}
-use denote.RattleType.{RattleType}
-use denote.RawPtr.{Ptr, block_ptr, null_ptr}
-use Rattle.hashlink_nodes.specs.Ownership.{block_lent, block_owns, blocks_lent, blocks_own, links_offset}
-use Rattle.hashlink_nodes.specs.Ownership.{is_small, Links}
-use Rattle.hashlink_nodes.specs.Kept.{Kept, alter, entry_in}
-use Rattle.hashlink_nodes.specs.Node.{same_node, eq-same_node}
-use Rattle.hashlink_nodes.specs.declared.node.Node.{Node}
+use Rattle.hashlink_nodes.proofs.Names.{◌≡◌, ℕ, ◌+◌, ◌^◌, ◌<◌, arith, Bool, true, false, cond, List, [], ◌∷◌}
+use Rattle.hashlink_nodes.proofs.Names.{Option, None, Some, IsSome, refl, sym, subst, lookup, remove_entry}
+use Rattle.hashlink_nodes.proofs.Names.{IfSome, nothing, Ura, ent, sep, via, fst∗, snd∗, never, never_e, Fml}
+use Rattle.hashlink_nodes.proofs.Names.{Lft, fat, froom, Logic, sem, Item, Goal, Seq, ‵, raw, prop, mean}
+use Rattle.hashlink_nodes.proofs.Names.{some, ◌⊛◌, ◌$◌, ◌∵◌, !, qed, by, move, keep, use1, use2, pick, drop}
+use Rattle.hashlink_nodes.proofs.Names.{flt_l, flt_i, Step, step, split, fsplit, fsplit3, fjoin, rewrite}
+use Rattle.hashlink_nodes.proofs.Names.{done, Model, Ty, Val, full_share, fact, fact_i, fact_use, lone}
+use Rattle.hashlink_nodes.proofs.Names.{part_out, RattleType, Ptr, block_ptr, null_ptr, block_lent}
+use Rattle.hashlink_nodes.proofs.Names.{block_owns, blocks_lent, blocks_own, links_offset, is_small, Links}
+use Rattle.hashlink_nodes.proofs.Names.{Kept, alter, entry_in, same_node, eq-same_node, Node}
 
 -- what a look-up found
 pub found : {X : Type 0} (o : Option X) → IsSome o → (x : X) × (o ≡ Some x)

@@ -1,6 +1,9 @@
 -- An arena lends a part of a block, by `&` and by `&mut`. A function of it gives its code, which computes
 -- an address alone, and where the part is in a block. Assumes `Logic`.
-use denote.Memory.{part_of}
+use Rattle.hashlink_nodes.proofs.Names.{part_of, Fn, Callee, Model, Closed, Running, fact_i, via, ex_i, Item}
+use Rattle.hashlink_nodes.proofs.Names.{Step, step, mean, now, prop, upd, One, Signature, Slot, ◌+ₚ◌, Ended}
+use Rattle.hashlink_nodes.proofs.Names.{Clauses, at_exit, closing, Meets, block_owns, blocks_own, blocks_lent}
+use Rattle.hashlink_nodes.proofs.Names.{same_node, altered, Kept, alter, Node, Arena}
 use Rattle.hashlink_nodes.proofs.Walks.{◌≡◌, ℕ, ◌+◌, List, [], ◌∷◌, ◌++◌, refl, sym, Some, Bor, MutBor}
 use Rattle.hashlink_nodes.proofs.Walks.{lookup, remove_entry, Ura, full_share, named, Val, vptr, SProp, ent}
 use Rattle.hashlink_nodes.proofs.Walks.{sep, emp, never, id⊢, Fml, GName, ftrue, flft, fsep, WpFn, Logic, sem}
@@ -12,24 +15,6 @@ use Rattle.hashlink_nodes.proofs.Walks.{unhide, RattleType, owns, Ptr, block_ptr
 use Rattle.hashlink_nodes.proofs.Walks.{lies_at, lent_at, MutRef, types_at, plain, mut_ref_to, param, nothing}
 use Rattle.hashlink_nodes.proofs.Walks.{heard, opens, Stays, stay_dropped, walk_of, Goes-dropped}
 use Rattle.hashlink_nodes.proofs.Walks.{Goes-spent_ref, word, proved_at, leaves, ◌⊑◌}
-use mir.Syntax.{Fn, Callee}
-use prog.Model.{Model}
-use prog.Wp.{Closed}
-use contract.Running.{Running}
-use contract.Monad.{fact_i}
-use base.Logic.{via, ex_i}
-use types.Kit.{Item, Step, step, mean, now, prop, upd}
-use denote.Builtin.{One}
-use denote.Signature.{Signature, Slot}
-use denote.RawPtr.{◌+ₚ◌}
-use denote.Triple.Clauses.{Ended, Clauses, at_exit, closing}
-use denote.Triple.Spec.{Meets}
-use Rattle.hashlink_nodes.specs.Ownership.{block_owns, blocks_own, blocks_lent}
-use Rattle.hashlink_nodes.specs.Node.{same_node}
-use Rattle.hashlink_nodes.specs.ArenaLends.{altered}
-use Rattle.hashlink_nodes.specs.Kept.{Kept, alter}
-use Rattle.hashlink_nodes.specs.declared.node.Node.{Node}
-use Rattle.hashlink_nodes.specs.declared.arena.Arena.{Arena}
 use Rattle.hashlink_nodes.specs.contracts.arena.Arena.{the_row}
 use Rattle.hashlink_nodes.proofs.ArenaSteps.{Mark, Nd, word_had, args_are}
 use Rattle.hashlink_nodes.proofs.ArenaBlocks.{blocks_cut, blocks_glue}

@@ -1,27 +1,13 @@
 -- A `&` to an arena is made where one to each part of its blocks is. Assumes `Logic`.
-use Rattle.std.proofs.Common.{ℕ, List, [], ◌∷◌, Option, Some, None}
-use seplogic.Ra.Ura.{Ura}
-use base.Fraction.{full_share}
-use base.Fml.{Lft, Incl, ftrue, fsep}
-use types.Logic.{Logic}
-use contract.BorrowLft.{⊑_static}
-use denote.Builtin.{usize}
-use denote.Param.Laws.{Laws}
-use denote.Param.Shared.{Sharable, copy_shared}
-use denote.RattleType.{RattleType, RowLaws}
-use denote.RawPtr.{Ptr, lies_at}
-use denote.Sharing.{ShrLaws, said, beside}
-use denote.SharingLaws.{beside_shr_laws, nothing_shr_laws, said_shr_laws}
-use denote.Shares.{Shares-less}
-use denote.Struct.Field.{usize-field}
-use denote.Struct.Laws.{usize-copy}
-use denote.Struct.Lending.{Lends, lent_at, lent_at_shr_laws, Lends-lies, Lends-first, Lends-both, Lends-said}
-use denote.Struct.Lending.{Lends-nothing}
-use Rattle.hashlink_nodes.specs.Kept.{Kept, number_word}
-use Rattle.hashlink_nodes.specs.Ownership.{Links, blocks_lent, blocks_own, block_lent, block_owns, pair_lent}
-use Rattle.hashlink_nodes.specs.Ownership.{pair_owns, is_small, deed_owns, free_right, pair_of, number_of}
-use Rattle.hashlink_nodes.specs.Ownership.{links_of}
-use Rattle.hashlink_nodes.specs.declared.node.Node.{Node}
+use Rattle.hashlink_nodes.proofs.Names.{ℕ, List, [], ◌∷◌, Option, Some, None, Ura, full_share, Lft, Incl}
+use Rattle.hashlink_nodes.proofs.Names.{ftrue, fsep, Logic, ⊑_static, usize, Laws, Sharable, copy_shared}
+use Rattle.hashlink_nodes.proofs.Names.{RattleType, RowLaws, Ptr, lies_at, ShrLaws, said, beside}
+use Rattle.hashlink_nodes.proofs.Names.{beside_shr_laws, nothing_shr_laws, said_shr_laws, Shares-less}
+use Rattle.hashlink_nodes.proofs.Names.{usize-field, usize-copy, Lends, lent_at, lent_at_shr_laws, Lends-lies}
+use Rattle.hashlink_nodes.proofs.Names.{Lends-first, Lends-both, Lends-said, Lends-nothing, Kept, number_word}
+use Rattle.hashlink_nodes.proofs.Names.{Links, blocks_lent, blocks_own, block_lent, block_owns, pair_lent}
+use Rattle.hashlink_nodes.proofs.Names.{pair_owns, is_small, deed_owns, free_right, number_of, links_of, Node}
+use Rattle.hashlink_nodes.specs.Ownership.{pair_of}
 use Rattle.hashlink_nodes.proofs.pool.links.Links.TheLaws as links_laws
 
 abbrev number_laws : Sharable usize-field

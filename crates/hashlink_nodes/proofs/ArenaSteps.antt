@@ -1,26 +1,11 @@
 -- What the walks of the arena's functions share. Assumes `Logic`.
-use Rattle.std.proofs.Common.{◌≡◌, ◌^◌, List, [], ◌∷◌, ◌++◌, refl, subst}
-use seplogic.Ra.Ura.{Ura}
-use lib.Dec.{lit<}
-use mir.Syntax.{Ty, int_big, w64}
-use mir.Val.{Fits, Val, vint, vstruct, vcons, vnil, of_list}
-use base.Logic.{SProp, ent, emp, guard_i, via}
-use contract.Monad.{fact, fact_i}
-use types.Kit.{prop, raw, use0, Item, Goal, Seq, Step, step, ‵, ◌$◌, drop, fsplit, fjoin, fpick, fpack, feq_i}
-use types.Kit.{feq_l, rewrite}
-use prog.Wp.{Env}
-use types.Run.{Opd}
-use types.Logic.{Logic, sem}
-use denote.RattleType.{RattleType, Valss}
-use denote.RawPtr.{Ptr, RawPtr, ptr_val}
-use denote.Shadow.{makes_shadow}
-use denote.Laws.{Typed, Is, shows}
-use denote.Param.{layout}
-use denote.Param.Laws.{Laws}
-use denote.Steps.{nothing, peeks}
-use denote.Struct.Struct.{Shape, Struct, within}
-use denote.Struct.Owning.{shape}
-use Rattle.std.proofs.RcSteps.{Good, word}
+use Rattle.hashlink_nodes.proofs.Names.{◌≡◌, ◌^◌, List, [], ◌∷◌, ◌++◌, refl, subst, Ura, lit<, Ty, int_big}
+use Rattle.hashlink_nodes.proofs.Names.{w64, Fits, Val, vint, vstruct, vcons, vnil, of_list, SProp, ent, emp}
+use Rattle.hashlink_nodes.proofs.Names.{guard_i, via, fact, fact_i, prop, raw, use0, Item, Goal, Seq, Step}
+use Rattle.hashlink_nodes.proofs.Names.{step, ‵, ◌$◌, drop, fsplit, fjoin, fpick, fpack, feq_i, feq_l}
+use Rattle.hashlink_nodes.proofs.Names.{rewrite, Env, Opd, Logic, sem, RattleType, Valss, Ptr, RawPtr}
+use Rattle.hashlink_nodes.proofs.Names.{ptr_val, makes_shadow, Typed, Is, shows, layout, Laws, nothing, peeks}
+use Rattle.hashlink_nodes.proofs.Names.{Shape, Struct, within, shape, Good, word}
 use Rattle.hashlink_nodes.specs.contracts.arena.Arena as A
 use Rattle.hashlink_nodes.specs.contracts.node.Node as N
 

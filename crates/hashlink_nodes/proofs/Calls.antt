@@ -1,19 +1,12 @@
 -- What the calls of a ring cite: each from the ring as it is opened to the ring as it is closed.
-use Rattle.std.proofs.Common.{◌≡◌, ℕ, ◌+◌, ◌-◌, ◌^◌, ◌<◌, [], ◌∷◌, ◌++◌, length, drop, Option, Some, None}
-use Rattle.std.proofs.Common.{refl, sym, ap, ◌∙◌, subst, arith}
-use Rattle.std.specs.Prelude.{IfSome}
-use Rattle.std.specs.Map.{lookup_entry, keys_of, lookup, remove_entry, set_value}
-use Rattle.std.specs.Option.{option_map}
-use Rattle.std.proofs.lemmas.List.{append-nil, length-append, length-drop}
-use Rattle.std.proofs.lemmas.Map.{length-set_value}
-use Rattle.hashlink_nodes.specs.declared.node.Node.{Node}
+use Rattle.hashlink_nodes.proofs.Names.{◌≡◌, ℕ, ◌+◌, ◌-◌, ◌^◌, ◌<◌, [], ◌∷◌, ◌++◌, length, Option, Some, None}
+use Rattle.hashlink_nodes.proofs.Names.{refl, sym, ap, ◌∙◌, subst, arith, IfSome, lookup_entry, keys_of}
+use Rattle.hashlink_nodes.proofs.Names.{lookup, remove_entry, set_value, option_map, append-nil}
+use Rattle.hashlink_nodes.proofs.Names.{length-append, length-drop, length-set_value, Node, Inside, same_node}
+use Rattle.hashlink_nodes.proofs.Names.{state_of, Ring, ring, IsRing, IsSound, SoundAt, ring_at, ring_of}
+use Rattle.hashlink_nodes.proofs.Names.{State, GuardIs, attached, detached, hold, store_next, Adds, Drops}
+use Rattle.std.proofs.Common.{drop}
 use Rattle.hashlink_nodes.specs.declared.held.Held.{Held}
-use Rattle.hashlink_nodes.specs.declared.nodes.Nodes.TheInside.{Inside}
-use Rattle.hashlink_nodes.specs.Node.{same_node}
-use Rattle.hashlink_nodes.specs.Pool.{state_of}
-use Rattle.hashlink_nodes.specs.Ring.{Ring, ring}
-use Rattle.hashlink_nodes.specs.Shape.{IsRing, IsSound, SoundAt, ring_at, ring_of}
-use Rattle.hashlink_nodes.specs.State.{State, GuardIs, attached, detached, hold, store_next, Adds, Drops}
 use Rattle.hashlink_nodes.proofs.Paths.{last_or}
 use Rattle.hashlink_nodes.proofs.Cuts.{Gap, cut-looked, cut-entry}
 use Rattle.hashlink_nodes.proofs.Shapes.{shape_made}

@@ -1,16 +1,7 @@
 -- What a ring is where a node of it holds another value, written behind a `&mut` to the old one.
-use Rattle.std.proofs.Common.{◌≡◌, Some, ap, sym, subst, ◌∙◌}
-use Rattle.std.specs.Option.{option_map_or}
-use Rattle.std.specs.Map.{set_value}
-use Rattle.hashlink_nodes.specs.declared.node.Node.{Node}
-use Rattle.hashlink_nodes.specs.declared.nodes.Nodes.TheInside.{Inside}
-use Rattle.hashlink_nodes.specs.Node.{same_node}
-use Rattle.hashlink_nodes.specs.Pool.{state_of}
-use Rattle.hashlink_nodes.specs.PoolLends.{pool_with}
-use Rattle.hashlink_nodes.specs.NodesLends.{with_value_at}
-use Rattle.hashlink_nodes.specs.Shape.{IsSound, ring_of}
-use Rattle.hashlink_nodes.specs.State.{hold}
-use Rattle.hashlink_nodes.specs.Ring.{Ring, Held, Holds, pair_of, ring, with_value}
+use Rattle.hashlink_nodes.proofs.Names.{◌≡◌, Some, ap, sym, subst, ◌∙◌, option_map_or, set_value, Node}
+use Rattle.hashlink_nodes.proofs.Names.{Inside, same_node, state_of, pool_with, with_value_at, IsSound}
+use Rattle.hashlink_nodes.proofs.Names.{ring_of, hold, Ring, Held, Holds, pair_of, ring, with_value}
 use Rattle.hashlink_nodes.proofs.StateLemmas.{value_anew, block_found}
 use Rattle.hashlink_nodes.proofs.Cuts.{cut-looked}
 use Rattle.hashlink_nodes.proofs.Opening.{Leaves, node_in}

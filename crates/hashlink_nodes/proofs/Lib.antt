@@ -1,4 +1,5 @@
 -- Lemmas on the blocks of an arena, and on the ring that their links make.
+pub mod Names
 pub mod ArenaBlocks
 pub mod ArenaLends
 pub mod ArenaSharing

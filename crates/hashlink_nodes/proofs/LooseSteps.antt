@@ -1,33 +1,19 @@
 -- The machine values of a loose block. Assumes `Logic`.
-use Rattle.std.proofs.Common.{◌≡◌, ℕ, ◌+◌, List, [], ◌∷◌, ◌++◌, refl, subst}
-use mathlib.Core.Bool.{true, ◌&&◌}
-use lib.Dec.{T}
-use seplogic.Ra.Ura.{Ura}
-use mir.Syntax.{Ty, Tys, impl, tnil, tcons, dnil, ty_int, ty_struct, w64}
+use Rattle.hashlink_nodes.proofs.Names.{◌≡◌, ℕ, ◌+◌, List, [], ◌∷◌, ◌++◌, refl, subst, ◌&&◌, T, Ura, Ty, Tys}
+use Rattle.hashlink_nodes.proofs.Names.{impl, tnil, tcons, dnil, ty_int, ty_struct, w64, SProp, ent, sep}
+use Rattle.hashlink_nodes.proofs.Names.{wand, apply∗, Fml, ftrue, fwand, froom, rooms_at, lone, Val, vptr}
+use Rattle.hashlink_nodes.proofs.Names.{vstruct, vcons, vnil, of_list, has_ty, WT, Logic, sem, raw, ◌⊛◌}
+use Rattle.hashlink_nodes.proofs.Names.{assume, fjoin3, by, group, split, split3, use1, use2, Item, Goal, Seq}
+use Rattle.hashlink_nodes.proofs.Names.{Step, step, ‵, ◌$◌, ◌∵◌, !, qed, done, keep, move, drop, fsplit}
+use Rattle.hashlink_nodes.proofs.Names.{fsplit3, fjoin, fpick, fpack, feq_i, feq_l, RattleType, Valss, Ptr}
+use Rattle.hashlink_nodes.proofs.Names.{block_ptr, null_ptr, ptr_val, in_a_block, room_for, nothing, param}
+use Rattle.hashlink_nodes.proofs.Names.{layout, Laws, within, shape, Ghosts, Al, handle_tells, Good, Links}
+use Rattle.hashlink_nodes.proofs.Names.{block_room, block_type, loose_owns, pair_offset, number_offset}
+use Rattle.hashlink_nodes.proofs.Names.{links_offset, and_tt}
+use mathlib.Core.Bool.{true}
 use mir.Raw.{raw as bare}
-use base.Logic.{SProp, ent, sep, wand, apply∗}
-use base.Fml.{Fml, ftrue, fwand, froom}
-use prog.Model.{rooms_at}
-use denote.Memory.{lone}
-use mir.Val.{Val, vptr, vstruct, vcons, vnil, of_list, has_ty, WT}
-use types.Logic.{Logic, sem}
-use types.Kit.{raw, ◌⊛◌, assume, fjoin3, by, group, split, split3, use1, use2, Item, Goal, Seq, Step, step, ‵}
-use types.Kit.{◌$◌, ◌∵◌, !, qed, done, keep, move, drop, fsplit, fsplit3, fjoin, fpick, fpack, feq_i, feq_l}
-use denote.RattleType.{RattleType, Valss}
 use denote.Builtin.{RawPtr}
-use denote.RawPtr.{Ptr, block_ptr, null_ptr, ptr_val, in_a_block, room_for}
-use denote.Steps.{nothing}
-use denote.Param.{param, layout}
-use denote.Param.Laws.{Laws}
-use denote.Struct.Struct.{within}
-use denote.Struct.Owning.{shape}
-use Rattle.std.specs.declared.alloc.Allocator.{Ghosts}
-use Rattle.std.proofs.alloc.Calls.{Al, handle_tells}
-use Rattle.std.proofs.RcSteps.{Good}
-use Rattle.hashlink_nodes.specs.Ownership.{Links, block_room, block_type, loose_owns, pair_offset}
-use Rattle.hashlink_nodes.specs.Ownership.{number_offset, links_offset}
 use Rattle.hashlink_nodes.specs.contracts.arena.Block as block
-use Rattle.std.proofs.ResultValues.{and_tt}
 use Rattle.hashlink_nodes.specs.contracts.arena.loose.Loose as loose
 
 -- a pointer and a handle

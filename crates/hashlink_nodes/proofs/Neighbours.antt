@@ -1,13 +1,8 @@
 -- The places next to a place of a ring.
-use Rattle.std.proofs.Common.{◌≡◌, Bool, true, false, [], ◌∷◌, Option, None, Some, refl, sym, ap, ◌∙◌, subst}
-use Rattle.std.proofs.Common.{◌⊎◌, inl, inr}
-use Rattle.std.specs.Bool.{then_some}
-use Rattle.std.specs.Prelude.{is_some, unwrap_or, slice_get, IfSome}
-use Rattle.std.specs.Map.{keys_of}
-use Rattle.hashlink_nodes.specs.declared.node.Node.{Node}
-use Rattle.hashlink_nodes.specs.State.{State}
-use Rattle.hashlink_nodes.specs.Shape.{IsRing}
-use Rattle.hashlink_nodes.specs.Ring.{Ring, IsPlace, next_place, prev_place, last_node}
+use Rattle.hashlink_nodes.proofs.Names.{◌≡◌, Bool, true, false, [], ◌∷◌, Option, None, Some, refl, sym, ap}
+use Rattle.hashlink_nodes.proofs.Names.{◌∙◌, subst, ◌⊎◌, inl, inr, then_some, is_some, unwrap_or, slice_get}
+use Rattle.hashlink_nodes.proofs.Names.{IfSome, keys_of, Node, State, IsRing, Ring, IsPlace, next_place}
+use Rattle.hashlink_nodes.proofs.Names.{prev_place, last_node}
 use Rattle.hashlink_nodes.proofs.Paths.{head_or, last_or, all_left, all_right}
 use Rattle.hashlink_nodes.proofs.Cuts.{before_place, after_place}
 use Rattle.hashlink_nodes.proofs.Rings.{Entries, Full, linked}

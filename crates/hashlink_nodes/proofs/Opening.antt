@@ -1,20 +1,12 @@
 -- How a ring is opened, what is known of it then, and how it is closed.
-use Rattle.std.proofs.Common.{◌≡◌, ℕ, ◌+◌, ◌^◌, ◌<◌, List, [], ◌∷◌, ◌++◌, length, Option, Some, None, refl}
-use Rattle.std.proofs.Common.{sym, ap, ◌∙◌, subst, arith}
-use Rattle.std.specs.Prelude.{is_some, IfSome, IsSome}
-use Rattle.std.specs.List.{AllByRecursion, IsDistinct}
-use Rattle.std.specs.Map.{keys_of, lookup, remove_entry}
-use Rattle.std.proofs.lemmas.List.{length-append}
-use Rattle.std.proofs.lemmas.Map.Entries.{length-keys_of}
-use Rattle.std.proofs.lemmas.Map.Keys.{IsDistinct-tail}
-use Rattle.hashlink_nodes.specs.declared.node.Node.{Node}
+use Rattle.hashlink_nodes.proofs.Names.{◌≡◌, ℕ, ◌+◌, ◌^◌, ◌<◌, List, [], ◌∷◌, ◌++◌, length, Option, Some}
+use Rattle.hashlink_nodes.proofs.Names.{None, refl, sym, ap, ◌∙◌, subst, arith, is_some, IfSome}
+use Rattle.hashlink_nodes.proofs.Names.{AllByRecursion, IsDistinct, keys_of, lookup, remove_entry}
+use Rattle.hashlink_nodes.proofs.Names.{length-append, length-keys_of, IsDistinct-tail, Node, Inside}
+use Rattle.hashlink_nodes.proofs.Names.{same_node, state_of, Ring, ring, Holds, IsRing, IsSound, SoundAt}
+use Rattle.hashlink_nodes.proofs.Names.{ring_at, ring_of, walk, entry_of, entries_of, State}
+use Rattle.std.specs.Prelude.{IsSome}
 use Rattle.hashlink_nodes.specs.declared.held.Held.{Held}
-use Rattle.hashlink_nodes.specs.declared.nodes.Nodes.TheInside.{Inside}
-use Rattle.hashlink_nodes.specs.Node.{same_node}
-use Rattle.hashlink_nodes.specs.Pool.{state_of}
-use Rattle.hashlink_nodes.specs.Ring.{Ring, ring, Holds}
-use Rattle.hashlink_nodes.specs.Shape.{IsRing, IsSound, SoundAt, ring_at, ring_of, walk, entry_of, entries_of}
-use Rattle.hashlink_nodes.specs.State.{State}
 use Rattle.hashlink_nodes.proofs.Paths.{length-walk, walk-linked, walk-chain}
 use Rattle.hashlink_nodes.proofs.Cuts.{Cut, Gap, cut, cut-looked, cut-removed}
 use Rattle.hashlink_nodes.proofs.Rings.{InRing, in_ring}

@@ -1,14 +1,9 @@
 -- Paths along links, and what stays of them where one link changes.
-use Rattle.std.proofs.Common.{true, ◌≡◌, ℕ, zero, suc, false, cond, List, [], ◌∷◌, ◌++◌, length, refl, sym}
-use Rattle.std.proofs.Common.{ap, ◌∙◌, subst}
-use Rattle.std.proofs.lemmas.List.Sorted.{IsPermutation-middle, IsPermutation-sym}
-use Rattle.std.proofs.lemmas.Map.Keys.{IsDistinct-head, IsDistinct-tail, IsDistinct-cons}
-use Rattle.std.proofs.lemmas.Map.Keys.{IsDistinct-IsPermutation}
-use Rattle.std.specs.List.{AllByRecursion, IsDistinct}
-use Rattle.hashlink_nodes.specs.declared.node.Node.{Node}
-use Rattle.hashlink_nodes.specs.Node.{same_node, same_node_equiv, same_node-refl}
-use Rattle.hashlink_nodes.specs.State.{set_at}
-use Rattle.hashlink_nodes.specs.Shape.{IsLinked, IsChain, walk}
+use Rattle.hashlink_nodes.proofs.Names.{true, ◌≡◌, ℕ, zero, suc, false, cond, List, [], ◌∷◌, ◌++◌, length}
+use Rattle.hashlink_nodes.proofs.Names.{refl, sym, ap, ◌∙◌, subst, IsPermutation-middle, IsPermutation-sym}
+use Rattle.hashlink_nodes.proofs.Names.{IsDistinct-head, IsDistinct-tail, IsDistinct-cons}
+use Rattle.hashlink_nodes.proofs.Names.{IsDistinct-IsPermutation, AllByRecursion, IsDistinct, Node, same_node}
+use Rattle.hashlink_nodes.proofs.Names.{same_node_equiv, same_node-refl, set_at, IsLinked, IsChain, walk}
 
 -- the first of the nodes, or b
 abbrev pub head_or : Node → List Node → Node

@@ -1,20 +1,13 @@
 -- What each step of the calls does to a ring and to what a contract sees of it.
-use Rattle.std.proofs.Common.{◌≡◌, ◌+◌, ◌^◌, ◌<◌, true, List, [], ◌∷◌, ◌++◌, length, drop, Option, None, Some}
-use Rattle.std.proofs.Common.{refl, sym, ap, ◌∙◌, subst, arith}
-use Rattle.std.specs.Prelude.{unwrap_or}
-use Rattle.std.specs.List.{AllByRecursion, IsDistinct}
-use Rattle.std.specs.Map.{keys_of, remove_entry, set_value}
-use Rattle.std.proofs.lemmas.List.{append_assoc, map-append}
-use Rattle.std.proofs.lemmas.Map.{keys-set_value}
-use Rattle.std.proofs.lemmas.Map.Entries.{length-keys_of}
-use Rattle.std.proofs.lemmas.Map.Keys.{IsDistinct-head}
-use Rattle.hashlink_nodes.specs.declared.node.Node.{Node}
+use Rattle.hashlink_nodes.proofs.Names.{◌≡◌, ◌+◌, ◌^◌, ◌<◌, true, List, [], ◌∷◌, ◌++◌, length, Option, None}
+use Rattle.hashlink_nodes.proofs.Names.{Some, refl, sym, ap, ◌∙◌, subst, arith, unwrap_or, AllByRecursion}
+use Rattle.hashlink_nodes.proofs.Names.{IsDistinct, keys_of, remove_entry, set_value, append_assoc}
+use Rattle.hashlink_nodes.proofs.Names.{map-append, keys-set_value, length-keys_of, IsDistinct-head, Node}
+use Rattle.hashlink_nodes.proofs.Names.{same_node, set_at, State, store_next, store_prev, hold, detached}
+use Rattle.hashlink_nodes.proofs.Names.{attached, Adds, Drops, IsLinked, IsShaped, IsRing, Ring, ring}
+use Rattle.hashlink_nodes.proofs.Names.{IsPlace}
+use Rattle.std.proofs.Common.{drop}
 use Rattle.hashlink_nodes.specs.declared.held.Held.{Held}
-use Rattle.hashlink_nodes.specs.Node.{same_node}
-use Rattle.hashlink_nodes.specs.State.{set_at, State, store_next, store_prev, hold, detached, attached, Adds}
-use Rattle.hashlink_nodes.specs.State.{Drops}
-use Rattle.hashlink_nodes.specs.Shape.{IsLinked, IsShaped, IsRing}
-use Rattle.hashlink_nodes.specs.Ring.{Ring, ring, IsPlace}
 use Rattle.hashlink_nodes.proofs.Paths.{set_at_twice, head_or, last_or, Off, IsOff, flip, all_left, all_right}
 use Rattle.hashlink_nodes.proofs.Paths.{all_middle, all_without, all_with, all_both, all_zip, to_front}
 use Rattle.hashlink_nodes.proofs.Paths.{set_at_here, linked_cut}

@@ -1,15 +1,12 @@
 -- What each step of the ring's calls does to its shape.
-use Rattle.std.proofs.Common.{◌≡◌, ◌+◌, ◌^◌, ◌<◌, Bool, true, false, List, [], ◌∷◌, ◌++◌, length, Option}
-use Rattle.std.proofs.Common.{None, refl, sym, ap, ◌∙◌, subst, arith, lit<}
-use Rattle.std.specs.List.{AllByRecursion, IsDistinct}
-use Rattle.std.proofs.lemmas.List.{append_assoc, length-append}
-use Rattle.std.proofs.lemmas.Map.Keys.{IsDistinct-head, IsDistinct-tail, IsDistinct-cons}
-use Rattle.hashlink_nodes.specs.declared.node.Node.{Node}
+use Rattle.hashlink_nodes.proofs.Names.{◌≡◌, ◌+◌, ◌^◌, ◌<◌, Bool, true, false, List, [], ◌∷◌, ◌++◌, length}
+use Rattle.hashlink_nodes.proofs.Names.{Option, None, refl, sym, ap, ◌∙◌, subst, arith, AllByRecursion}
+use Rattle.hashlink_nodes.proofs.Names.{IsDistinct, append_assoc, length-append, IsDistinct-head}
+use Rattle.hashlink_nodes.proofs.Names.{IsDistinct-tail, IsDistinct-cons, Node, same_node, eq-same_node}
+use Rattle.hashlink_nodes.proofs.Names.{State, set_at, store_next, store_prev, hold, detached, attached, Adds}
+use Rattle.hashlink_nodes.proofs.Names.{MakesGuard, Drops, IsChain, IsShaped}
+use Rattle.std.proofs.Common.{lit<}
 use Rattle.hashlink_nodes.specs.declared.held.Held.{Held}
-use Rattle.hashlink_nodes.specs.Node.{same_node, eq-same_node}
-use Rattle.hashlink_nodes.specs.State.{State, set_at, store_next, store_prev, hold, detached, attached, Adds}
-use Rattle.hashlink_nodes.specs.State.{MakesGuard, Drops}
-use Rattle.hashlink_nodes.specs.Shape.{IsChain, IsShaped}
 use Rattle.hashlink_nodes.proofs.Paths.{head_or, last_or, Off, IsOff, flip, set_at_here, set_at_other}
 use Rattle.hashlink_nodes.proofs.Paths.{to_front, from_front, all_left, all_right, all_without, all_with}
 use Rattle.hashlink_nodes.proofs.Paths.{all_middle, all_as, all_zip, off_rest, off_last, off_head}

@@ -1,26 +1,18 @@
 -- What the state of the blocks is after one of them changed, came or went.
-use Rattle.std.proofs.Common.{◌≡◌, ℕ, ◌+◌, Bool, true, false, cond, List, [], ◌∷◌, length, Option, None, Some}
-use Rattle.std.proofs.Common.{refl, sym, subst, ap, ◌∙◌, arith}
-use Rattle.std.specs.Prelude.{IsNone, is_some}
-use Rattle.std.specs.Map.{lookup, set_value, remove_entry}
-use Rattle.std.proofs.lemmas.Map.{lookup-set_value, length-set_value}
-use Rattle.hashlink_nodes.specs.Node.{same_node, same_node_equiv, eq-same_node}
-use Rattle.hashlink_nodes.specs.State.{State, Blocks, state, set_at, next_in, prev_in, held_in, store_next}
-use Rattle.hashlink_nodes.specs.State.{store_prev, hold, Adds, MakesGuard, Drops}
-use Rattle.hashlink_nodes.specs.declared.node.Node.{Node}
+use Rattle.hashlink_nodes.proofs.Names.{◌≡◌, ℕ, ◌+◌, Bool, true, false, cond, List, [], ◌∷◌, length, Option}
+use Rattle.hashlink_nodes.proofs.Names.{None, Some, refl, sym, subst, ap, ◌∙◌, arith, IsNone, is_some, lookup}
+use Rattle.hashlink_nodes.proofs.Names.{set_value, remove_entry, lookup-set_value, length-set_value}
+use Rattle.hashlink_nodes.proofs.Names.{same_node, same_node_equiv, eq-same_node, State, Blocks, state}
+use Rattle.hashlink_nodes.proofs.Names.{set_at, next_in, prev_in, held_in, store_next, store_prev, hold, Adds}
+use Rattle.hashlink_nodes.proofs.Names.{MakesGuard, Drops, Node, Link, Kept, kept, alter, entry_in}
+use Rattle.hashlink_nodes.proofs.Names.{with_links, with_pair, Pool, state_of, kept_with, pool_with, held}
+use Rattle.hashlink_nodes.proofs.Names.{pair_of, option_map}
 use Rattle.hashlink_nodes.proofs.ArenaBlocks.{found_entry}
 use Rattle.hashlink_nodes.proofs.Cuts.{cut}
 use Rattle.hashlink_nodes.proofs.Opening.{length-removed}
 use Rattle.hashlink_nodes.proofs.Paths.{set_at_here, set_at_other}
 use Rattle.hashlink_nodes.specs.declared.held.Held.{Held}
-use Rattle.hashlink_nodes.specs.declared.pool.links.Link.{Link}
 use Rattle.hashlink_nodes.specs.declared.pool.links.Links.{Links}
-use Rattle.hashlink_nodes.specs.Kept.{Kept, kept, alter, entry_in, with_links, with_pair}
-use Rattle.hashlink_nodes.specs.declared.pool.Pool.{Pool}
-use Rattle.hashlink_nodes.specs.Pool.{state_of}
-use Rattle.hashlink_nodes.specs.PoolLends.{kept_with, pool_with}
-use Rattle.hashlink_nodes.specs.Ring.{held, pair_of}
-use Rattle.std.specs.Option.{option_map}
 
 module _ {X : Type 0} where
   lookup_set : (n m : Node) (bs : List (Node × X)) (b w : X) → lookup (same_node n) bs ≡ Some b

@@ -1,13 +1,10 @@
 -- What a write to the cells does to their chains.
-use Rattle.std.proofs.Common.{◌≡◌, ◌≢◌, ℕ, zero, suc, ◌+◌, ◌<◌, ◌≤◌, inl, inr, List, [], ◌∷◌, ◌++◌, map}
-use Rattle.std.proofs.Common.{IsSome, length, get_or, set, refl, ap, ◌∙◌, subst, arith}
-use Rattle.std.proofs.lemmas.Bool.{cases_lt, false≢true}
-use Rattle.std.proofs.lemmas.List.{get_or-set_same, get_or-set_other, get_or_push, get_or-map, get_or_past}
-use Rattle.std.proofs.lemmas.List.{get_or_default, length-map, length-set, length_push, map-set, map_push}
-use Rattle.std.proofs.Math.Seq.{map-set_same}
-use Rattle.hashlink_table.specs.declared.store.cell.Cell.{Cell}
-use Rattle.hashlink_table.specs.Chains.{kept_at, next_at, chain_of, chain_at}
-use Rattle.hashlink_table.specs.Stored.{bare_cell}
+use Rattle.hashlink_table.proofs.Names.{◌≡◌, ◌≢◌, ℕ, zero, suc, ◌+◌, ◌<◌, ◌≤◌, inl, inr, List, [], ◌∷◌, ◌++◌}
+use Rattle.hashlink_table.proofs.Names.{map, IsSome, length, get_or, set, refl, ap, ◌∙◌, subst, arith}
+use Rattle.hashlink_table.proofs.Names.{cases_lt, false≢true, get_or-set_same, get_or-set_other, get_or_push}
+use Rattle.hashlink_table.proofs.Names.{get_or-map, get_or_past, get_or_default, length-map, length-set}
+use Rattle.hashlink_table.proofs.Names.{length_push, map-set, map_push, map-set_same, Cell, kept_at, next_at}
+use Rattle.hashlink_table.proofs.Names.{chain_of, chain_at, bare_cell}
 use Rattle.hashlink_table.proofs.Threads.{IsOff, SameBut}
 
 -- one element more changes no other place

@@ -1,14 +1,10 @@
 -- A node joins its bucket's chain, and leaves it.
-use Rattle.std.proofs.Common.{◌≡◌, ◌≢◌, ℕ, ◌%◌, ◌<◌, inl, inr, List, [], ◌∷◌, ◌++◌, length, get_or, set}
-use Rattle.std.proofs.Common.{Option, Some, None, IsSome, refl, sym, ap, ◌∙◌, subst, arith}
-use Rattle.std.specs.Prelude.{IsPermutation}
+use Rattle.hashlink_table.proofs.Names.{◌≡◌, ◌≢◌, ℕ, ◌%◌, ◌<◌, inl, inr, List, [], ◌∷◌, ◌++◌, length, get_or}
+use Rattle.hashlink_table.proofs.Names.{set, Option, Some, None, IsSome, refl, sym, ap, ◌∙◌, subst, arith}
+use Rattle.hashlink_table.proofs.Names.{IsPermutation, Hashed, Cell, END, kept_at, next_at, chain_of}
+use Rattle.hashlink_table.proofs.Names.{chain_at, nodes_in, stored_in, with_node, IsLinked, IsPlaced}
+use Rattle.hashlink_table.proofs.Names.{SameNodes, bare_cell}
 use Rattle.std.proofs.Math.ListN as by_index
-use Rattle.hashlink_table.specs.declared.hashed.Hashed.{Hashed}
-use Rattle.hashlink_table.specs.declared.store.cell.Cell.{Cell}
-use Rattle.hashlink_table.specs.declared.store.cell.TheConstants.{END}
-use Rattle.hashlink_table.specs.Chains.{kept_at, next_at, chain_of, chain_at, nodes_in, stored_in}
-use Rattle.hashlink_table.specs.Chains.{with_node, IsLinked, IsPlaced, SameNodes}
-use Rattle.hashlink_table.specs.Stored.{bare_cell}
 use Rattle.hashlink_table.proofs.Cells.{chain_at_within, within_by_chain}
 use Rattle.hashlink_table.proofs.Linking.{linked-push, linked-reuse, free_on}
 use Rattle.hashlink_table.proofs.Nodes.{nodes_in-set, nodes_in-push, nodes_in-same}

@@ -1,13 +1,8 @@
 -- A loop that puts nodes into a table, one after another.
-use Rattle.std.proofs.Common.{◌≡◌, ℕ, ◌+◌, ◌<◌, ◌≤◌, List, [], ◌∷◌, ◌++◌, length, take, Option, None, Some}
-use Rattle.std.proofs.Common.{sym, ap, ◌∙◌, subst, arith}
-use Rattle.std.specs.Prelude.{IsPermutation}
-use Rattle.std.proofs.lemmas.List.{append-nil, length-append, length_push}
-use Rattle.std.proofs.lemmas.List.Sorted.{length_permutation}
-use Rattle.hashlink_table.specs.declared.hashed.Hashed.{Hashed}
-use Rattle.hashlink_table.specs.declared.store.cell.Cell.{Cell}
-use Rattle.hashlink_table.specs.Contents.{Contents, len_of}
-use Rattle.hashlink_table.specs.Chains.{kept_at, nodes_in, with_node}
+use Rattle.hashlink_table.proofs.Names.{◌≡◌, ℕ, ◌+◌, ◌<◌, ◌≤◌, List, [], ◌∷◌, ◌++◌, length, take, Option}
+use Rattle.hashlink_table.proofs.Names.{None, Some, sym, ap, ◌∙◌, subst, arith, IsPermutation, append-nil}
+use Rattle.hashlink_table.proofs.Names.{length-append, length_push, length_permutation, Hashed, Cell}
+use Rattle.hashlink_table.proofs.Names.{Contents, len_of, kept_at, nodes_in, with_node}
 use Rattle.hashlink_table.proofs.Nodes.{inserted-more, nodes_in-more_at}
 
 -- these nodes were put in

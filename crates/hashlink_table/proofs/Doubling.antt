@@ -1,23 +1,14 @@
 -- The slots are doubled: where each node is then, and that no bucket has a chain.
-use Rattle.std.proofs.Common.{◌≡◌, ℕ, ◌+◌, ◌-◌, ◌*◌, ◌/◌, ◌%◌, ◌<◌, ◌≤◌, ◌⊎◌, ltb, Bool, true, false, inl}
-use Rattle.std.proofs.Common.{cond, inr, List, [], ◌∷◌, ◌++◌, length, map, get_or, Option, None, Some, refl}
-use Rattle.std.proofs.Common.{sym, ap, ◌∙◌, subst, arith}
-use Rattle.std.specs.Prelude.{IsPermutation}
-use Rattle.std.proofs.Math.Arith.{mod-mul}
+use Rattle.hashlink_table.proofs.Names.{◌≡◌, ℕ, ◌+◌, ◌-◌, ◌*◌, ◌/◌, ◌%◌, ◌<◌, ◌≤◌, ◌⊎◌, ltb, Bool, true}
+use Rattle.hashlink_table.proofs.Names.{false, inl, cond, inr, List, [], ◌∷◌, ◌++◌, length, map, get_or}
+use Rattle.hashlink_table.proofs.Names.{Option, None, Some, refl, sym, ap, ◌∙◌, subst, arith, IsPermutation}
+use Rattle.hashlink_table.proofs.Names.{mod-mul, cases_lt, ltb-true, ltb-false, get_or_append_left}
+use Rattle.hashlink_table.proofs.Names.{get_or-append_right, length-append, length-map, IsPermutation-refl}
+use Rattle.hashlink_table.proofs.Names.{IsPermutation-sym, IsPermutation-trans, IsPermutation-cons}
+use Rattle.hashlink_table.proofs.Names.{IsPermutation-middle, mod_below, same_Some, Hashed, Cell, END}
+use Rattle.hashlink_table.proofs.Names.{next_at, nodes_in, with_node, AreGrouped, IsArranged, IsInPlace}
+use Rattle.hashlink_table.proofs.Names.{bare_cell, doubled, high_half, high_kept, low_half, low_kept}
 use Rattle.std.proofs.Math.ListN.{get_or-map}
-use Rattle.std.proofs.lemmas.Bool.{cases_lt, ltb-true, ltb-false}
-use Rattle.std.proofs.lemmas.List.{get_or_append_left, get_or-append_right, length-append, length-map}
-use Rattle.std.proofs.lemmas.List.Sorted.{IsPermutation-refl, IsPermutation-sym, IsPermutation-trans}
-use Rattle.std.proofs.lemmas.List.Sorted.{IsPermutation-cons, IsPermutation-middle}
-use Rattle.std.proofs.lemmas.Nat.{mod_below}
-use Rattle.std.proofs.lemmas.Option.{same_Some}
-use Rattle.hashlink_table.specs.declared.hashed.Hashed.{Hashed}
-use Rattle.hashlink_table.specs.declared.store.cell.Cell.{Cell}
-use Rattle.hashlink_table.specs.declared.store.cell.TheConstants.{END}
-use Rattle.hashlink_table.specs.Chains.{next_at, nodes_in, with_node, AreGrouped, IsArranged}
-use Rattle.hashlink_table.specs.Chains.{IsInPlace}
-use Rattle.hashlink_table.specs.Stored.{bare_cell}
-use Rattle.hashlink_table.specs.Slots.{doubled, high_half, high_kept, low_half, low_kept}
 use Rattle.hashlink_table.proofs.Moving.{within_kept}
 use Rattle.hashlink_table.proofs.Nodes.{nodes_in-append}
 use Rattle.hashlink_table.proofs.Sound.{filled-none, linked-none}

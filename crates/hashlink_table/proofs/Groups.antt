@@ -1,7 +1,6 @@
 -- Groups of sixteen.
-use Rattle.std.proofs.Common.{◌≡◌, ℕ, zero, suc, ◌+◌, ◌-◌, ◌/◌, ◌%◌, ◌^◌, ◌<◌, ◌≤◌, ap, ◌∙◌, arith}
-use Rattle.std.proofs.lemmas.Nat.{pow-add}
-use Rattle.std.specs.Int.{IsPowerOfTwo}
+use Rattle.hashlink_table.proofs.Names.{◌≡◌, ℕ, zero, suc, ◌+◌, ◌-◌, ◌/◌, ◌%◌, ◌^◌, ◌<◌, ◌≤◌, ap, ◌∙◌, arith}
+use Rattle.hashlink_table.proofs.Names.{pow-add, IsPowerOfTwo}
 
 -- a power of two that is not small is whole groups
 pub groups_of : (m : ℕ) → IsPowerOfTwo m → 16 ≤ m → (k : ℕ) × (m ≡ 2 ^ (k + 4))

@@ -1,20 +1,14 @@
 -- Where the buckets are doubled: a cell in parts, and all cells, one after the other.
-use Rattle.std.proofs.Common.{◌≡◌, ℕ, suc, ◌+◌, ◌-◌, ◌*◌, ◌%◌, ◌<◌, inl, Bool, true, false, cond}
-use Rattle.std.proofs.Common.{ltb, List, [], ◌∷◌, ◌++◌, length, map, take, drop, get_or, set, replicate, Some}
-use Rattle.std.proofs.Common.{Option, None, refl, sym, ap, ◌∙◌, arith, append_assoc}
-use Rattle.std.specs.Int.{IsPowerOfTwo}
-use Rattle.std.proofs.Math.Nat.{pow-succ'}
-use Rattle.std.proofs.lemmas.List.{append-nil, drop_all, drop_more, get_or_append_left, get_or-append_right}
-use Rattle.std.proofs.lemmas.List.{get_or-drop, get_or-map, length-take-le}
-use Rattle.std.proofs.lemmas.List.{length-append, length-drop, length-map, length-replicate, length-take}
-use Rattle.std.proofs.lemmas.List.{set-append_left, set-append_right, set_at, take_all, take_more}
-use Rattle.hashlink_table.specs.declared.hashed.Hashed.{Hashed}
-use Rattle.hashlink_table.specs.declared.store.cell.Cell.{Cell}
-use Rattle.hashlink_table.specs.declared.store.cell.TheConstants.{END}
-use Rattle.hashlink_table.specs.declared.store.slots.Rest.{Rest}
-use Rattle.hashlink_table.specs.Stored.{bare_cell}
-use Rattle.hashlink_table.specs.Slots.{slot, cells_in, low_kept, high_kept, low_half, high_half, doubled}
-use Rattle.hashlink_table.specs.Slots.{parted, IsStored, IsTagged, Row}
+use Rattle.hashlink_table.proofs.Names.{◌≡◌, ℕ, suc, ◌+◌, ◌-◌, ◌*◌, ◌%◌, ◌<◌, inl, Bool, true, false, cond}
+use Rattle.hashlink_table.proofs.Names.{ltb, List, [], ◌∷◌, ◌++◌, length, map, take, drop, get_or, set}
+use Rattle.hashlink_table.proofs.Names.{replicate, Some, Option, None, refl, sym, ap, ◌∙◌, arith}
+use Rattle.hashlink_table.proofs.Names.{append_assoc, IsPowerOfTwo, pow-succ', append-nil, drop_all}
+use Rattle.hashlink_table.proofs.Names.{drop_more, get_or_append_left, get_or-append_right, get_or-drop}
+use Rattle.hashlink_table.proofs.Names.{get_or-map, length-take-le, length-append, length-drop, length-map}
+use Rattle.hashlink_table.proofs.Names.{length-replicate, length-take, set-append_left, set-append_right}
+use Rattle.hashlink_table.proofs.Names.{set_at, take_all, take_more, Hashed, Cell, END, Rest, bare_cell, slot}
+use Rattle.hashlink_table.proofs.Names.{cells_in, low_kept, high_kept, low_half, high_half, doubled, parted}
+use Rattle.hashlink_table.proofs.Names.{IsStored, IsTagged, Row}
 use Rattle.hashlink_table.proofs.Storing.{AreCells, cell_at, node_at, node_stays, rest_at, row}
 use Rattle.hashlink_table.proofs.Storing.{stored, tag_at, written}
 

@@ -1,3 +1,4 @@
+pub mod Names
 pub mod Cells
 pub mod Chaining
 pub mod Copying

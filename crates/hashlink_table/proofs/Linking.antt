@@ -1,16 +1,10 @@
 -- What inserts and removals do to the chains.
-use Rattle.std.proofs.Common.{◌≡◌, ◌≢◌, ℕ, suc, ◌+◌, inl, inr, ◌<◌, ◌≤◌, cond, eqb, List, [], ◌∷◌, ◌++◌}
-use Rattle.std.proofs.Common.{length, get_or, set, None, refl, sym, ap, ◌∙◌, arith}
-use Rattle.std.proofs.lemmas.Bool.{eq-eqb, ne_eqb, cases_eq}
-use Rattle.std.proofs.lemmas.List.{get_or_append_left, get_or_at, get_or-map, length-map, length-set}
-use Rattle.std.proofs.lemmas.List.{length_push, map-set, set-append_left, set_at}
-use Rattle.std.proofs.lemmas.Nat.{pow_pos}
-use Rattle.std.specs.Int.{IsPowerOfTwo}
-use Rattle.hashlink_table.specs.declared.store.cell.Cell.{Cell}
-use Rattle.hashlink_table.specs.declared.store.cell.TheConstants.{END}
-use Rattle.hashlink_table.specs.Chains.{next_at, chain_of, chain_at, kept_at, links_of, IsThreaded, IsLinked}
-use Rattle.hashlink_table.specs.Chains.{IsLinkedBut}
-use Rattle.hashlink_table.specs.Stored.{bare_cell}
+use Rattle.hashlink_table.proofs.Names.{◌≡◌, ◌≢◌, ℕ, suc, ◌+◌, inl, inr, ◌<◌, ◌≤◌, cond, eqb, List, [], ◌∷◌}
+use Rattle.hashlink_table.proofs.Names.{◌++◌, length, get_or, set, None, refl, sym, ap, ◌∙◌, arith, eq-eqb}
+use Rattle.hashlink_table.proofs.Names.{ne_eqb, cases_eq, get_or_append_left, get_or_at, get_or-map}
+use Rattle.hashlink_table.proofs.Names.{length-map, length-set, length_push, map-set, set-append_left, set_at}
+use Rattle.hashlink_table.proofs.Names.{pow_pos, IsPowerOfTwo, Cell, END, next_at, chain_of, chain_at}
+use Rattle.hashlink_table.proofs.Names.{kept_at, links_of, IsThreaded, IsLinked, IsLinkedBut, bare_cell}
 use Rattle.hashlink_table.proofs.Paths.{first_among}
 use Rattle.hashlink_table.proofs.Threads.{SameBut, take_first, take_next, put_first}
 use Rattle.hashlink_table.proofs.Cells.{next_at-set, next_at-set_other, next_at-push, next_at-push_other}

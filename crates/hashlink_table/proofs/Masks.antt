@@ -1,22 +1,12 @@
 -- The bits of a mask: which cells of a group pass a test.
-use Rattle.std.proofs.Common.{◌≡◌, ℕ, zero, suc, ◌+◌, ◌-◌, ◌*◌, ◌/◌, ◌%◌, ◌^◌, ◌<◌, ◌≤◌, Bool, true, false}
-use Rattle.std.proofs.Common.{cond, not, List, [], ◌∷◌, map, length, drop, get_or, count_by, None, Some}
-use Rattle.std.proofs.Common.{IsSome, inl, inr, Option, refl, sym, ap, ◌∙◌, subst, arith}
-use Rattle.std.specs.Prelude.{is_none}
-use Rattle.std.specs.List.{prefix_len}
-use Rattle.std.proofs.lemmas.Bool.{cases_eq, false≢true, true≢false}
-use Rattle.std.proofs.lemmas.List.{drop-drop, get_or-drop, length-drop, take_all}
-use Rattle.std.proofs.lemmas.List.Sums.{sum_by-cons}
-use Rattle.std.proofs.lemmas.Simd.{length-chunk, get_or-chunk, trailing_mask_l, none_from_empty_mask}
-use native.Mathlib.Numerals.{one-add}
-use lib.Count.{count_trailing_zeros}
-use lib.Lanes.{mask_l}
-use lib.Pow.{shr-shr}
-use Rattle.hashlink_table.specs.declared.store.cell.Cell.{Cell}
-use Rattle.hashlink_table.specs.declared.store.cell.TheConstants.{END}
-use Rattle.hashlink_table.specs.Chains.{kept_at, next_at, AreTaken, IsFilled}
-use Rattle.hashlink_table.specs.Stored.{bare_cell}
-use Rattle.hashlink_table.specs.Slots.{lanes_of}
+use Rattle.hashlink_table.proofs.Names.{◌≡◌, ℕ, zero, suc, ◌+◌, ◌-◌, ◌*◌, ◌/◌, ◌%◌, ◌^◌, ◌<◌, ◌≤◌, Bool, true}
+use Rattle.hashlink_table.proofs.Names.{false, cond, not, List, [], ◌∷◌, map, length, drop, get_or, count_by}
+use Rattle.hashlink_table.proofs.Names.{None, Some, IsSome, inl, inr, Option, refl, sym, ap, ◌∙◌, subst}
+use Rattle.hashlink_table.proofs.Names.{arith, is_none, prefix_len, cases_eq, false≢true, true≢false}
+use Rattle.hashlink_table.proofs.Names.{drop-drop, get_or-drop, length-drop, take_all, sum_by-cons}
+use Rattle.hashlink_table.proofs.Names.{length-chunk, get_or-chunk, trailing_mask_l, none_from_empty_mask}
+use Rattle.hashlink_table.proofs.Names.{one-add, count_trailing_zeros, mask_l, shr-shr, Cell, END, kept_at}
+use Rattle.hashlink_table.proofs.Names.{next_at, AreTaken, IsFilled, bare_cell, lanes_of}
 
 module _ {X : Type 0} (p : X → Bool) where
   -- r elements come before the first that passes, and after it come those of the rest of the mask

@@ -1,21 +1,14 @@
 -- The slots: a node comes into one, leaves it, and is followed there by the first of a chain.
-use Rattle.std.proofs.Common.{◌≡◌, ◌≢◌, ℕ, ◌+◌, ◌-◌, ◌%◌, ◌<◌, ◌≤◌, ◌⊎◌, inl, inr, List, ◌∷◌, ◌++◌, length}
-use Rattle.std.proofs.Common.{get_or, is_some, set, IsSome, Option, None, Some, refl, sym, ap, ◌∙◌, subst}
-use Rattle.std.proofs.Common.{arith}
-use Rattle.std.specs.Prelude.{IsPermutation}
-use Rattle.std.proofs.lemmas.Bool.{cases_eq}
-use Rattle.std.proofs.lemmas.List.{length-map, length-set}
-use Rattle.std.proofs.lemmas.List.Sorted.{IsPermutation-sym, IsPermutation-trans, IsPermutation-middle}
-use Rattle.std.proofs.lemmas.List.Sorted.{IsPermutation-append_left, IsPermutation-append_right}
+use Rattle.hashlink_table.proofs.Names.{◌≡◌, ◌≢◌, ℕ, ◌+◌, ◌-◌, ◌%◌, ◌<◌, ◌≤◌, ◌⊎◌, inl, inr, List, ◌∷◌, ◌++◌}
+use Rattle.hashlink_table.proofs.Names.{length, get_or, is_some, set, IsSome, Option, None, Some, refl, sym}
+use Rattle.hashlink_table.proofs.Names.{ap, ◌∙◌, subst, arith, IsPermutation, cases_eq, length-map}
+use Rattle.hashlink_table.proofs.Names.{length-set, IsPermutation-sym, IsPermutation-trans}
+use Rattle.hashlink_table.proofs.Names.{IsPermutation-middle, IsPermutation-append_left}
+use Rattle.hashlink_table.proofs.Names.{IsPermutation-append_right, map-set_same, Hashed, Cell, END, kept_at}
+use Rattle.hashlink_table.proofs.Names.{next_at, chain_at, links_of, nodes_in, with_node, stored_in}
+use Rattle.hashlink_table.proofs.Names.{AreGrouped, AreTaken, IsArranged, IsLinked, SameNodes, bare_cell}
+use Rattle.hashlink_table.proofs.Names.{with_next}
 use Rattle.std.proofs.Math.ListN.{get_or-map}
-use Rattle.std.proofs.Math.Seq.{map-set_same}
-use Rattle.hashlink_table.specs.declared.hashed.Hashed.{Hashed}
-use Rattle.hashlink_table.specs.declared.store.cell.Cell.{Cell}
-use Rattle.hashlink_table.specs.declared.store.cell.TheConstants.{END}
-use Rattle.hashlink_table.specs.Chains.{kept_at, next_at, chain_at, links_of, nodes_in, with_node, stored_in}
-use Rattle.hashlink_table.specs.Chains.{AreGrouped, AreTaken, IsArranged, IsLinked, SameNodes}
-use Rattle.hashlink_table.specs.Stored.{bare_cell}
-use Rattle.hashlink_table.specs.Slots.{with_next}
 use Rattle.hashlink_table.proofs.Cells.{kept_at-set, kept_at-set_other, next_at-set_other, within_by_kept}
 use Rattle.hashlink_table.proofs.Chaining.{kept-same}
 use Rattle.hashlink_table.proofs.Nodes.{nodes_in-set, nodes_in-same}

@@ -1,15 +1,11 @@
 -- The nodes of a list of cells: what a write does to them, and which there are.
-use Rattle.std.proofs.Common.{◌≡◌, ℕ, zero, suc, ◌+◌, ◌<◌, ◌≤◌, List, [], ◌∷◌, ◌++◌, length, get_or, set}
-use Rattle.std.proofs.Common.{replicate, take, drop, true, Option, Some, None, is_some, refl, sym, ap, ◌∙◌}
-use Rattle.std.proofs.Common.{subst, arith, append_assoc}
-use Rattle.std.specs.Prelude.{Contains, IsPermutation}
-use Rattle.std.proofs.lemmas.List.{take_more, take-append-drop, length-append}
-use Rattle.std.proofs.lemmas.List.Sorted.{IsPermutation-refl, IsPermutation-trans, IsPermutation-cons}
-use Rattle.std.proofs.lemmas.List.Sorted.{IsPermutation-middle, IsPermutation-to_front}
-use Rattle.hashlink_table.specs.declared.hashed.Hashed.{Hashed}
-use Rattle.hashlink_table.specs.declared.store.cell.Cell.{Cell}
-use Rattle.hashlink_table.specs.Chains.{kept_at, stored_in, with_node, nodes_in, SameNodes}
-use Rattle.hashlink_table.specs.Stored.{bare_cell}
+use Rattle.hashlink_table.proofs.Names.{◌≡◌, ℕ, zero, suc, ◌+◌, ◌<◌, ◌≤◌, List, [], ◌∷◌, ◌++◌, length, get_or}
+use Rattle.hashlink_table.proofs.Names.{set, replicate, take, drop, true, Option, Some, None, is_some, refl}
+use Rattle.hashlink_table.proofs.Names.{sym, ap, ◌∙◌, subst, arith, append_assoc, Contains, IsPermutation}
+use Rattle.hashlink_table.proofs.Names.{take_more, take-append-drop, length-append, IsPermutation-refl}
+use Rattle.hashlink_table.proofs.Names.{IsPermutation-trans, IsPermutation-cons, IsPermutation-middle}
+use Rattle.hashlink_table.proofs.Names.{IsPermutation-to_front, Hashed, Cell, kept_at, stored_in, with_node}
+use Rattle.hashlink_table.proofs.Names.{nodes_in, SameNodes, bare_cell}
 
 module _ {N : Type 0} where
   -- two nodes may be exchanged

@@ -1,11 +1,8 @@
 -- Paths of links: they have no choice and no loop, and lose a cell by one link.
-use Rattle.std.proofs.Common.{◌≡◌, ◌≢◌, ℕ, suc, ◌<◌, ◌≤◌, Bool, true, false, cond, inl, inr, List, [], ◌∷◌}
-use Rattle.std.proofs.Common.{length, get_or, set, count_by, refl, sym, ap, ◌∙◌, subst, arith}
-use Rattle.std.proofs.lemmas.Bool.{cases_lt, true≢false}
-use Rattle.std.proofs.lemmas.List.{get_or-set_other, get_or_past}
-use Rattle.std.proofs.lemmas.List.Sums.{sum_by-set}
-use Rattle.hashlink_table.specs.declared.store.cell.TheConstants.{END}
-use Rattle.hashlink_table.specs.Chains.{Among, IsPath}
+use Rattle.hashlink_table.proofs.Names.{◌≡◌, ◌≢◌, ℕ, suc, ◌<◌, ◌≤◌, Bool, true, false, cond, inl, inr, List}
+use Rattle.hashlink_table.proofs.Names.{[], ◌∷◌, length, get_or, set, count_by, refl, sym, ap, ◌∙◌, subst}
+use Rattle.hashlink_table.proofs.Names.{arith, cases_lt, true≢false, get_or-set_other, get_or_past}
+use Rattle.hashlink_table.proofs.Names.{sum_by-set, END, Among, IsPath}
 
 -- from one cell there is one path
 path_unique : (next : ℕ → ℕ) (from : ℕ) (xs ys : List ℕ) → IsPath next from xs → IsPath next from ys → xs ≡ ys

@@ -1,19 +1,11 @@
 -- The fields of a table agree.
-use Rattle.std.proofs.Common.{◌≡◌, ◌≢◌, ℕ, zero, suc, ◌+◌, ◌-◌, ◌*◌, ◌%◌, ◌<◌, ◌≤◌, true, inl, inr, List}
-use Rattle.std.proofs.Common.{[], ◌∷◌, ◌++◌, length, max, get_or, replicate, Option, Some, None, is_some}
-use Rattle.std.proofs.Common.{refl, sym, ap, ◌∙◌, arith}
-use Rattle.std.specs.Prelude.{IsPermutation}
-use Rattle.std.proofs.lemmas.Bool.{cases_eq, cases_lt}
-use Rattle.std.proofs.lemmas.List.{length-append}
-use Rattle.std.proofs.lemmas.List.{length-replicate}
-use Rattle.std.proofs.lemmas.List.Sorted.{length_permutation}
-use Rattle.hashlink_table.specs.declared.hashed.Hashed.{Hashed}
-use Rattle.hashlink_table.specs.declared.store.cell.Cell.{Cell}
-use Rattle.hashlink_table.specs.declared.store.cell.TheConstants.{END}
-use Rattle.hashlink_table.specs.Chains.{kept_at, next_at, chain_of, nodes_in, links_of}
-use Rattle.hashlink_table.specs.Chains.{contents, AreSizes, IsArranged, IsFilled, IsLinked, IsSound}
-use Rattle.hashlink_table.specs.Stored.{bare_cell}
-use Rattle.hashlink_table.specs.Contents.{Contents}
+use Rattle.hashlink_table.proofs.Names.{◌≡◌, ◌≢◌, ℕ, zero, suc, ◌+◌, ◌-◌, ◌*◌, ◌%◌, ◌<◌, ◌≤◌, true, inl, inr}
+use Rattle.hashlink_table.proofs.Names.{List, [], ◌∷◌, ◌++◌, length, max, get_or, replicate, Option, Some}
+use Rattle.hashlink_table.proofs.Names.{None, is_some, refl, sym, ap, ◌∙◌, arith, IsPermutation, cases_eq}
+use Rattle.hashlink_table.proofs.Names.{cases_lt, length-append, length-replicate, length_permutation, Hashed}
+use Rattle.hashlink_table.proofs.Names.{Cell, END, kept_at, next_at, chain_of, nodes_in, links_of, contents}
+use Rattle.hashlink_table.proofs.Names.{AreSizes, IsArranged, IsFilled, IsLinked, IsSound, bare_cell}
+use Rattle.hashlink_table.proofs.Names.{Contents}
 use Rattle.hashlink_table.proofs.Cells.{chain_at_within}
 use Rattle.hashlink_table.proofs.Linking.{bucket_start, free_start, length-starts}
 use Rattle.hashlink_table.proofs.Nodes.{nodes_in-full, nodes_in-bare, two_nodes}

@@ -1,23 +1,14 @@
 -- The slots: what is stored is what contracts see.
-use Rattle.std.proofs.Common.{◌≡◌, ℕ, zero, suc, ◌<◌, ◌≤◌, inl, inr, Bool, true, false, cond, ◌++◌}
-use Rattle.std.proofs.Common.{eqb, List, [], ◌∷◌, length, map, take, drop, get_or, set, replicate, Some}
-use Rattle.std.proofs.Common.{None, refl, sym, ap, ◌∙◌, subst, arith}
-use Rattle.std.specs.Prelude.{is_none, IfSome, IsSome}
-use Rattle.std.specs.List.{All}
-use Rattle.std.specs.Simd.Lanes.{chunk, mask_l}
-use Rattle.std.proofs.lemmas.Bool.{ne_eqb, false≢true}
-use Rattle.std.proofs.lemmas.List.{get_or-map, length-map, map-append, map-id, map-set, set-get_or, take-map}
-use Rattle.std.proofs.lemmas.List.{drop-map}
-use Rattle.std.proofs.lemmas.List.Elements.{All-append, All-get_or, All-head, All-map, All-set, All-tail}
-use Rattle.std.proofs.lemmas.Simd.{map-map, splat_is_map}
-use Rattle.hashlink_table.specs.declared.hashed.Hashed.{Hashed}
-use Rattle.hashlink_table.specs.declared.store.cell.Cell.{Cell}
-use Rattle.hashlink_table.specs.declared.store.cell.TheConstants.{END}
-use Rattle.hashlink_table.specs.declared.store.slots.Rest.{Rest}
-use Rattle.hashlink_table.specs.Chains.{kept_at, next_at}
-use Rattle.hashlink_table.specs.Stored.{bare_cell, tag_of}
-use Rattle.hashlink_table.specs.Slots.{slot, cells_in, may_be, with_kept, with_next, without_kept, IsStored}
-use Rattle.hashlink_table.specs.Slots.{IsTagged, Row}
+use Rattle.hashlink_table.proofs.Names.{◌≡◌, ℕ, zero, suc, ◌<◌, ◌≤◌, inl, inr, Bool, true, false, cond, ◌++◌}
+use Rattle.hashlink_table.proofs.Names.{eqb, List, [], ◌∷◌, length, map, take, drop, get_or, set, replicate}
+use Rattle.hashlink_table.proofs.Names.{Some, None, refl, sym, ap, ◌∙◌, subst, arith, is_none, IfSome, All}
+use Rattle.hashlink_table.proofs.Names.{chunk, ne_eqb, false≢true, get_or-map, length-map, map-append, map-id}
+use Rattle.hashlink_table.proofs.Names.{map-set, set-get_or, take-map, drop-map, All-append, All-get_or}
+use Rattle.hashlink_table.proofs.Names.{All-head, All-map, All-set, All-tail, map-map, splat_is_map, Hashed}
+use Rattle.hashlink_table.proofs.Names.{Cell, END, Rest, kept_at, next_at, bare_cell, tag_of, slot, cells_in}
+use Rattle.hashlink_table.proofs.Names.{may_be, with_kept, with_next, without_kept, IsStored, IsTagged, Row}
+use Rattle.std.specs.Prelude.{IsSome}
+use Rattle.std.specs.Simd.Lanes.{mask_l}
 
 -- what a bare cell stores beside its node
 abbrev pub bare : Rest

@@ -1,10 +1,7 @@
 -- All chains at once: a cell leaves its chain, and joins another.
-use Rattle.std.proofs.Common.{◌≡◌, ◌≢◌, ℕ, ◌<◌, inl, inr, List, ◌∷◌, length, get_or, set, refl, sym, ap, ◌∙◌}
-use Rattle.std.proofs.Common.{subst, arith}
-use Rattle.std.proofs.lemmas.Bool.{cases_eq}
-use Rattle.std.proofs.lemmas.List.{get_or-set_same, get_or-set_other, length-set}
-use Rattle.hashlink_table.specs.declared.store.cell.TheConstants.{END}
-use Rattle.hashlink_table.specs.Chains.{Among, IsPath, IsChain, IsThreaded}
+use Rattle.hashlink_table.proofs.Names.{◌≡◌, ◌≢◌, ℕ, ◌<◌, inl, inr, List, ◌∷◌, length, get_or, set, refl, sym}
+use Rattle.hashlink_table.proofs.Names.{ap, ◌∙◌, subst, arith, cases_eq, get_or-set_same, get_or-set_other}
+use Rattle.hashlink_table.proofs.Names.{length-set, END, Among, IsPath, IsChain, IsThreaded}
 use Rattle.hashlink_table.proofs.Paths.{path_same, IsWithout, path_without_first, path_without_next}
 
 -- the cell is on none of so many chains

@@ -1,26 +1,14 @@
 -- What a contract sees of the cells: which nodes there are, and how many agree with a hash.
-use Rattle.std.proofs.Common.{◌≡◌, ℕ, zero, suc, ◌+◌, ◌-◌, ◌%◌, ◌<◌, ◌≤◌, inl, inr, Bool, true, false, cond}
-use Rattle.std.proofs.Common.{eqb, List, [], ◌∷◌, ◌++◌, length, get_or, take, drop, Option, Some, None}
-use Rattle.std.proofs.Common.{count_by, refl, sym, ap, ◌∙◌, arith}
-use Rattle.std.specs.Prelude.{Contains}
-use Rattle.std.specs.Int.{IsPowerOfTwo}
-use Rattle.std.proofs.Math.Nat.{mod-mod_of_dvd}
-use Rattle.std.proofs.lemmas.Nat.Gcd.{dvd_of_mod-eq-zero}
-use Rattle.std.proofs.lemmas.Bool.{cases_lt, eq-eqb, eqb-true, ne_eqb, true≢false}
-use Rattle.std.proofs.lemmas.List.{take-append-drop}
-use Rattle.std.proofs.lemmas.List.Elements.{Contains-append_left, Contains-append_right}
-use Rattle.std.proofs.lemmas.List.Elements.{Contains-append_cases}
-use Rattle.std.proofs.lemmas.List.Sums.{sum_by-cons, sum_by-append}
-use Rattle.std.proofs.lemmas.Simd.{chunk-drop, get_or-chunk, length-chunk}
-use Rattle.hashlink_table.specs.declared.hashed.Hashed.{Hashed}
-use Rattle.hashlink_table.specs.declared.store.cell.Cell.{Cell}
-use Rattle.hashlink_table.specs.declared.store.spot.Spot.{Spot}
-use Rattle.hashlink_table.specs.declared.store.spot.Spot.TheVariants.{Slot, Overflow}
-use Rattle.hashlink_table.specs.Contents.{Contents, agreeing, AreBuckets, CanAsk}
-use Rattle.hashlink_table.specs.Chains.{kept_at, kept_by, chain_of, with_node, nodes_in, contents, AreGrouped}
-use Rattle.hashlink_table.specs.Chains.{IsInPlace, IsSound}
-use Rattle.hashlink_table.specs.Slots.{kept_may_be, lanes_of, may_be}
-use Rattle.hashlink_table.specs.Stored.{bare_cell, tag_of}
+use Rattle.hashlink_table.proofs.Names.{◌≡◌, ℕ, zero, suc, ◌+◌, ◌-◌, ◌%◌, ◌<◌, ◌≤◌, inl, inr, Bool, true}
+use Rattle.hashlink_table.proofs.Names.{false, cond, eqb, List, [], ◌∷◌, ◌++◌, length, get_or, take, drop}
+use Rattle.hashlink_table.proofs.Names.{Option, Some, None, count_by, refl, sym, ap, ◌∙◌, arith, Contains}
+use Rattle.hashlink_table.proofs.Names.{IsPowerOfTwo, mod-mod_of_dvd, dvd_of_mod-eq-zero, cases_lt, eq-eqb}
+use Rattle.hashlink_table.proofs.Names.{eqb-true, ne_eqb, true≢false, take-append-drop, Contains-append_left}
+use Rattle.hashlink_table.proofs.Names.{Contains-append_right, Contains-append_cases, sum_by-cons}
+use Rattle.hashlink_table.proofs.Names.{sum_by-append, chunk-drop, get_or-chunk, length-chunk, Hashed, Cell}
+use Rattle.hashlink_table.proofs.Names.{Spot, Slot, Overflow, Contents, agreeing, AreBuckets, CanAsk, kept_at}
+use Rattle.hashlink_table.proofs.Names.{kept_by, chain_of, with_node, nodes_in, contents, AreGrouped}
+use Rattle.hashlink_table.proofs.Names.{IsInPlace, IsSound, kept_may_be, lanes_of, may_be, bare_cell, tag_of}
 use Rattle.hashlink_table.proofs.Groups.{group_within, grouped_in}
 use Rattle.hashlink_table.proofs.Linking.{positive_by_power}
 use Rattle.hashlink_table.proofs.Nodes.{contains-at, at-contains}

@@ -1,13 +1,9 @@
 -- A walk along a chain: it stays in the chain, and ends.
-use Rattle.std.proofs.Common.{◌≡◌, ◌≢◌, ℕ, zero, suc, ◌+◌, ◌<◌, ◌≤◌, cond, eqb, IsSome, ◌⊎◌, inl, inr}
-use Rattle.std.proofs.Common.{List, [], ◌∷◌, length, get_or, count_by, refl, sym, ap, ◌∙◌, subst, arith}
-use Rattle.std.proofs.lemmas.Bool.{eq-eqb, ne_eqb}
-use Rattle.std.proofs.lemmas.List.{get_or_read}
-use Rattle.std.proofs.lemmas.List.Sums.{count_by-le-length}
-use Rattle.hashlink_table.specs.declared.store.cell.Cell.{Cell}
-use Rattle.hashlink_table.specs.declared.store.cell.TheConstants.{END}
-use Rattle.hashlink_table.specs.Chains.{kept_at, next_at, chain_of, chain_at, Among, IsPath, IsLinked}
-use Rattle.hashlink_table.specs.Stored.{bare_cell}
+use Rattle.hashlink_table.proofs.Names.{◌≡◌, ◌≢◌, ℕ, zero, suc, ◌+◌, ◌<◌, ◌≤◌, cond, eqb, IsSome, ◌⊎◌, inl}
+use Rattle.hashlink_table.proofs.Names.{inr, List, [], ◌∷◌, length, get_or, count_by, refl, sym, ap, ◌∙◌}
+use Rattle.hashlink_table.proofs.Names.{subst, arith, eq-eqb, ne_eqb, get_or_read, count_by-le-length, Cell}
+use Rattle.hashlink_table.proofs.Names.{END, kept_at, next_at, chain_of, chain_at, Among, IsPath, IsLinked}
+use Rattle.hashlink_table.proofs.Names.{bare_cell}
 use Rattle.hashlink_table.proofs.Paths.{first_among, path_length}
 use Rattle.hashlink_table.proofs.Chaining.{on_within, on_some}
 use Rattle.hashlink_table.proofs.Linking.{bucket_start, length-starts}

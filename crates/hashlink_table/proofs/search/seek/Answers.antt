@@ -1,10 +1,6 @@
-use Rattle.std.proofs.Common.{ℕ, ◌+◌, ◌-◌, ◌%◌, ◌<◌, ◌≤◌, ◌≡◌, ◌++◌, count_by, eqb, false, length, Some}
-use Rattle.std.proofs.Common.{refl, ap, ◌∙◌, arith}
-use Rattle.std.proofs.lemmas.Bool.{eq-eqb, eqb-true}
-use Rattle.hashlink_table.specs.Chains.{chain_at, chain_of, kept_at, nodes_in}
-use Rattle.hashlink_table.specs.Slots.{lanes_of, may_be}
-use Rattle.hashlink_table.specs.declared.store.spot.Spot.TheVariants.{Slot, Overflow}
-use Rattle.hashlink_table.specs.Stored.{tag_of}
+use Rattle.hashlink_table.proofs.Names.{ℕ, ◌+◌, ◌-◌, ◌%◌, ◌<◌, ◌≤◌, ◌≡◌, ◌++◌, count_by, eqb, false, length}
+use Rattle.hashlink_table.proofs.Names.{Some, refl, ap, ◌∙◌, arith, eq-eqb, eqb-true, chain_at, chain_of}
+use Rattle.hashlink_table.proofs.Names.{kept_at, nodes_in, lanes_of, may_be, Slot, Overflow, tag_of}
 use Rattle.hashlink_table.proofs.Cells.{chain_at_within}
 use Rattle.hashlink_table.proofs.Groups.{from_base, group_within, grouped_in, to_base}
 use Rattle.hashlink_table.proofs.Linking.{positive_by_power}

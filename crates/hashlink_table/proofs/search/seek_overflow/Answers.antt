@@ -1,8 +1,5 @@
-use Rattle.std.proofs.Common.{◌≡◌, ℕ, ◌<◌, ◌%◌, length, false, sym, ap, ◌∙◌, Some, subst, arith, rules}
-use Rattle.std.proofs.lemmas.Option.{same_Some}
-use Rattle.std.specs.Int.{IsPowerOfTwo}
-use Rattle.hashlink_table.specs.declared.hashed.Hashed.{Hashed}
-use Rattle.hashlink_table.specs.Chains.{next_at, chain_of}
+use Rattle.hashlink_table.proofs.Names.{◌≡◌, ℕ, ◌<◌, ◌%◌, length, false, sym, ap, ◌∙◌, Some, subst, arith}
+use Rattle.hashlink_table.proofs.Names.{rules, same_Some, IsPowerOfTwo, Hashed, next_at, chain_of}
 use Rattle.hashlink_table.proofs.Cells.{chain_at_within}
 use Rattle.hashlink_table.proofs.Chaining.{on_within}
 use Rattle.hashlink_table.proofs.Linking.{positive_by_power}

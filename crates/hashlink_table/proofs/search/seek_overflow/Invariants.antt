@@ -1,5 +1,4 @@
-use Rattle.std.proofs.Common.{◌≡◌, length, Some, false}
-use Rattle.hashlink_table.specs.Chains.{next_at, kept_at, chain_at}
+use Rattle.hashlink_table.proofs.Names.{◌≡◌, length, Some, false, next_at, kept_at, chain_at}
 use Rattle.hashlink_table.proofs.Walks.{IsSearch, steps_left, in_bucket}
 use Rattle.hashlink_table.proofs.search.seek_overflow.Given as goal
 

@@ -1,13 +1,7 @@
-use Rattle.std.proofs.Common.{◌≡◌, ℕ, ◌+◌, true, false, inl, inr, Option}
-use Rattle.std.proofs.Common.{None, Some, IsSome, refl, sym, ap, ◌∙◌, subst, arith}
-use Rattle.std.specs.Prelude.{IfSome}
-use Rattle.std.proofs.lemmas.Bool.{cases_eq, cases_lt, eq-eqb, eqb-true, true≢false, false≢true}
-use Rattle.std.proofs.lemmas.Option.{same_Some}
-use lib.Count.{count_trailing_zeros}
-use Rattle.hashlink_table.specs.declared.hashed.Hashed.{Hashed}
-use Rattle.hashlink_table.specs.Chains.{kept_at}
-use Rattle.hashlink_table.specs.Stored.{tag_of}
-use Rattle.hashlink_table.specs.Slots.{kept_may_be}
+use Rattle.hashlink_table.proofs.Names.{◌≡◌, ℕ, ◌+◌, true, false, inl, inr, Option, None, Some, IsSome, refl}
+use Rattle.hashlink_table.proofs.Names.{sym, ap, ◌∙◌, subst, arith, IfSome, cases_eq, cases_lt, eq-eqb}
+use Rattle.hashlink_table.proofs.Names.{eqb-true, true≢false, false≢true, same_Some, count_trailing_zeros}
+use Rattle.hashlink_table.proofs.Names.{Hashed, kept_at, tag_of, kept_may_be}
 use Rattle.hashlink_table.proofs.Masks.{hit, no_hit}
 use Rattle.hashlink_table.proofs.search.seek_slots.Goals as goal
 

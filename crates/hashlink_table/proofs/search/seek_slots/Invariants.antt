@@ -1,6 +1,5 @@
-use Rattle.std.proofs.Common.{◌≡◌, ℕ, ◌+◌, ◌-◌, ◌<◌, ◌≤◌, false, Some, drop, count_by}
-use Rattle.hashlink_table.specs.Chains.{kept_at}
-use Rattle.hashlink_table.specs.Slots.{lanes_of, may_be}
+use Rattle.hashlink_table.proofs.Names.{◌≡◌, ℕ, ◌+◌, ◌-◌, ◌<◌, ◌≤◌, false, Some, drop, count_by, kept_at}
+use Rattle.hashlink_table.proofs.Names.{lanes_of, may_be}
 use Rattle.hashlink_table.proofs.Masks.{IsLeft}
 use Rattle.hashlink_table.proofs.search.seek_slots.Given as goal
 

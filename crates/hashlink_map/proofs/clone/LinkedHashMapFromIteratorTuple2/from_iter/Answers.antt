@@ -1,5 +1,4 @@
-use Rattle.hashlink_core.specs.Keyed.{state_of}
-use Rattle.hashlink_model.specs.Many.{MadeFrom, InsertsPair}
+use Rattle.hashlink_map.proofs.Names.{state_of, MadeFrom, InsertsPair}
 use Rattle.hashlink_map.proofs.Extending.{made_by_answer}
 use Rattle.hashlink_map.proofs.clone.LinkedHashMapFromIteratorTuple2.from_iter.Goals as goal
 

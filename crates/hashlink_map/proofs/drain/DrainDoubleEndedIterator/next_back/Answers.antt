@@ -1,5 +1,4 @@
-use Rattle.std.proofs.Common.{refl}
-use Rattle.hashlink_core.specs.Keyed.{state_of}
+use Rattle.hashlink_map.proofs.Names.{refl, state_of}
 use Rattle.hashlink_map.proofs.Taking.{pop-takes_last}
 use Rattle.hashlink_map.proofs.drain.DrainDoubleEndedIterator.next_back.Goals as goal
 

@@ -1,5 +1,4 @@
-use Rattle.std.proofs.Common.{refl}
-use Rattle.hashlink_core.specs.Keyed.{state_of}
+use Rattle.hashlink_map.proofs.Names.{refl, state_of}
 use Rattle.hashlink_map.proofs.Taking.{pop-takes_first}
 use Rattle.hashlink_map.proofs.drain.DrainIterator.next.Goals as goal
 

@@ -1,5 +1,4 @@
-use Rattle.std.proofs.Common.{refl, sym, subst}
-use Rattle.hashlink_map.specs.Entry.{entry_state, occupied_state, occupied_with, Modifies}
+use Rattle.hashlink_map.proofs.Names.{refl, sym, subst, entry_state, occupied_state, occupied_with, Modifies}
 use Rattle.hashlink_map.proofs.entry.Entry.and_modify.Goals as goal
 
 pub returns-in-Occupied-clause-modifies : goal.returns-in-Occupied-clause-modifies

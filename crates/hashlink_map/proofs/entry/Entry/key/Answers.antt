@@ -1,6 +1,4 @@
-use Rattle.std.proofs.Common.{sym, ap, ◌∙◌}
-use Rattle.hashlink_model.specs.Entries.{stored_key}
-use Rattle.hashlink_map.specs.Entry.{entry_state}
+use Rattle.hashlink_map.proofs.Names.{sym, ap, ◌∙◌, stored_key, entry_state}
 use Rattle.hashlink_map.proofs.AtNode.{stored-there, stored-absent}
 use Rattle.hashlink_map.proofs.entry.Entry.key.Goals as goal
 

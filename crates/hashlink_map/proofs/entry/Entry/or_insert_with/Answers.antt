@@ -1,8 +1,5 @@
-use Rattle.std.proofs.Common.{◌≡◌, Some, refl, sym, subst}
-use Rattle.std.specs.Prelude.{IfOk}
-use Rattle.hashlink_core.specs.Keyed.{state_of}
-use Rattle.hashlink_map.specs.Entry.{entry_state, entry_value}
-use Rattle.hashlink_map.specs.EntryLends.{PutsLast}
+use Rattle.hashlink_map.proofs.Names.{◌≡◌, Some, refl, sym, subst, IfOk, state_of, entry_state, entry_value}
+use Rattle.hashlink_map.proofs.Names.{PutsLast}
 use Rattle.hashlink_map.proofs.Answering.{or_made, no_refusal, no_pair}
 use Rattle.hashlink_map.proofs.entry.Entry.or_insert_with.Goals as goal
 

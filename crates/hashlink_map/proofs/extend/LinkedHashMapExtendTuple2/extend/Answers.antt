@@ -1,6 +1,4 @@
-use Rattle.hashlink_model.specs.Many.{InsertsPair}
-use Rattle.hashlink_model.specs.MapState.{Grows}
-use Rattle.hashlink_core.specs.Keyed.{state_of}
+use Rattle.hashlink_map.proofs.Names.{InsertsPair, Grows, state_of}
 use Rattle.hashlink_map.proofs.Extending.{grows-none, took_all, took_some, stopped_at_last, cuts_item}
 use Rattle.hashlink_map.proofs.extend.LinkedHashMapExtendTuple2.extend.Goals as goal
 

@@ -1,8 +1,4 @@
-use Rattle.std.proofs.Common.{map}
-use Rattle.std.specs.Map.Iter.{deref_pair}
-use Rattle.hashlink_model.specs.Many.{InsertsPair}
-use Rattle.hashlink_model.specs.MapState.{Grows}
-use Rattle.hashlink_core.specs.Keyed.{state_of}
+use Rattle.hashlink_map.proofs.Names.{map, deref_pair, InsertsPair, Grows, state_of}
 use Rattle.hashlink_map.proofs.Extending.{grows-none, took_all, took_some, stopped_at_last, cuts_copy}
 use Rattle.hashlink_map.proofs.extend.LinkedHashMapExtendTuple2RefRef.extend.Goals as goal
 

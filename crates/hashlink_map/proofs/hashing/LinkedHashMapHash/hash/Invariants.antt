@@ -1,6 +1,5 @@
 -- What is left takes the hasher to where the whole list does.
-use Rattle.std.proofs.Common.{◌≡◌, fold, length}
-use Rattle.hashlink_model.specs.Compare.{entries_hash_input}
+use Rattle.hashlink_map.proofs.Names.{◌≡◌, fold, length, entries_hash_input}
 use Rattle.hashlink_map.proofs.hashing.LinkedHashMapHash.hash.Given as goal
 
 abbrev pub invariant-loop-key : goal.invariant-loop-key

@@ -1,10 +1,5 @@
-use Rattle.std.proofs.Common.{◌≡◌, None, refl, ap, subst, sym, ◌∙◌}
-use Rattle.std.specs.Prelude.{MatchOption}
-use Rattle.std.specs.Map.{lookup}
-use Rattle.hashlink_model.specs.Entries.{place_of}
-use Rattle.hashlink_core.specs.Keyed.{HoldsKey, entries_of}
-use Rattle.hashlink_map.specs.Indexed.{HasKey, with_value_at_key}
-use Rattle.hashlink_core.proofs.AtKeyNode.{stored-value}
+use Rattle.hashlink_map.proofs.Names.{◌≡◌, None, refl, ap, subst, sym, ◌∙◌, MatchOption, lookup, place_of}
+use Rattle.hashlink_map.proofs.Names.{HoldsKey, entries_of, HasKey, with_value_at_key, stored-value}
 use Rattle.hashlink_map.proofs.Indexing.{found_there, written_there}
 use Rattle.hashlink_map.proofs.index.LinkedHashMapIndexMutRef.index_mut.Goals as goal
 

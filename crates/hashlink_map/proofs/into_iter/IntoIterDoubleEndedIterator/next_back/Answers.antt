@@ -1,6 +1,4 @@
-use Rattle.std.proofs.Common.{subst}
-use Rattle.std.specs.Map.Iter.{TakesLast}
-use Rattle.hashlink_core.specs.Keyed.{state_of, entries_of}
+use Rattle.hashlink_map.proofs.Names.{subst, TakesLast, state_of, entries_of}
 use Rattle.hashlink_map.proofs.Taking.{pop-takes_last}
 use Rattle.hashlink_map.proofs.into_iter.IntoIterDoubleEndedIterator.next_back.Goals as goal
 

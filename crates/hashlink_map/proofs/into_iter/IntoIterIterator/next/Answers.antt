@@ -1,6 +1,4 @@
-use Rattle.std.proofs.Common.{subst}
-use Rattle.std.specs.Map.Iter.{TakesFirst}
-use Rattle.hashlink_core.specs.Keyed.{state_of, entries_of}
+use Rattle.hashlink_map.proofs.Names.{subst, TakesFirst, state_of, entries_of}
 use Rattle.hashlink_map.proofs.Taking.{pop-takes_first}
 use Rattle.hashlink_map.proofs.into_iter.IntoIterIterator.next.Goals as goal
 

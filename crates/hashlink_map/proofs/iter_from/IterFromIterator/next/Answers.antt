@@ -1,11 +1,7 @@
-use Rattle.std.proofs.Common.{◌≡◌, ℕ, ◌<◌, List, ◌∷◌, length, drop, Some, ap, arith, sym, length-drop, ◌∙◌}
-use Rattle.std.specs.Prelude.{slice_get}
-use Rattle.std.specs.Map.Iter.{deref_pair}
-use Rattle.hashlink_model.specs.Cursor.{following_place}
-use Rattle.hashlink_core.specs.Keyed.{entries_of}
-use Rattle.hashlink_core.specs.Places.{place_number}
-use Rattle.hashlink_core.proofs.Edits.{drop-at}
-use Rattle.hashlink_core.proofs.Places.{following-within}
+use Rattle.hashlink_map.proofs.Names.{◌≡◌, ℕ, ◌<◌, List, ◌∷◌, length, Some, ap, arith, sym, length-drop, ◌∙◌}
+use Rattle.hashlink_map.proofs.Names.{slice_get, deref_pair, following_place, entries_of, place_number}
+use Rattle.hashlink_map.proofs.Names.{drop-at, following-within}
+use Rattle.std.proofs.Common.{drop}
 use Rattle.hashlink_map.proofs.iter_from.IterFromIterator.next.Goals as goal
 
 -- the entry at a place, and those from the place after it on

@@ -1,6 +1,5 @@
 -- `next` lends the pair of the first entry left, where there is one, and the walk follows it.
-use Rattle.hashlink_model.specs.Walk.{first_of}
-use Rattle.hashlink_map.specs.WritingWalk.{after_front}
+use Rattle.hashlink_map.proofs.Names.{first_of, after_front}
 use Rattle.hashlink_map.specs.contracts.iter_mut.IterMut+K+V+S.next as f
 use Rattle.hashlink_map.proofs.StepAndLend.{steps_and_lends}
 use Rattle.hashlink_map.proofs.WalkPairs.{Writer, taken_off, first-lent}

@@ -1,6 +1,5 @@
 -- `next_back` lends the pair of the last entry left, where there is one, and the walk follows it.
-use Rattle.hashlink_model.specs.Walk.{last_of}
-use Rattle.hashlink_map.specs.WritingWalk.{after_back, last_place}
+use Rattle.hashlink_map.proofs.Names.{last_of, after_back, last_place}
 use Rattle.hashlink_map.specs.contracts.iter_mut.IterMut+K+V+S.next_back as f
 use Rattle.hashlink_map.proofs.StepAndLend.{steps_and_lends}
 use Rattle.hashlink_map.proofs.WalkPairs.{Writer, taken_off, last-lent}

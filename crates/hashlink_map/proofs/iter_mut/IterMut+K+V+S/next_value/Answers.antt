@@ -1,6 +1,4 @@
-use Rattle.std.proofs.Common.{refl, sym, ap, ◌∙◌}
-use Rattle.std.specs.Option.{option_map}
-use Rattle.hashlink_map.specs.Standing.{still_standing}
+use Rattle.hashlink_map.proofs.Names.{refl, sym, ap, ◌∙◌, option_map, still_standing}
 use Rattle.hashlink_map.proofs.Walking.{taken-written, first-taken}
 use Rattle.hashlink_map.proofs.iter_mut.IterMut+K+V+S.next_value.Goals as goal
 

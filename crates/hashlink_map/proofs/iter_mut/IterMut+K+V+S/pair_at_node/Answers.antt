@@ -1,5 +1,4 @@
-use Rattle.std.proofs.Common.{refl}
-use Rattle.hashlink_map.specs.Standing.{still_standing}
+use Rattle.hashlink_map.proofs.Names.{refl, still_standing}
 use Rattle.hashlink_map.proofs.WalkPairs.{walk_with_value-is}
 use Rattle.hashlink_map.proofs.iter_mut.IterMut+K+V+S.pair_at_node.Goals as goal
 

@@ -1,8 +1,5 @@
-use Rattle.std.proofs.Common.{◌≡◌, ap, arith, sym, ◌∙◌}
-use Rattle.std.specs.Prelude.{slice_get}
-use Rattle.hashlink_core.specs.Keyed.{entries_of}
-use Rattle.hashlink_core.specs.Places.{place_number}
-use Rattle.hashlink_map.specs.IterMut.{walk_state}
+use Rattle.hashlink_map.proofs.Names.{◌≡◌, ap, arith, sym, ◌∙◌, slice_get, entries_of, place_number}
+use Rattle.hashlink_map.proofs.Names.{walk_state}
 use Rattle.hashlink_map.proofs.Walking.{first-of_part, first-placed, same-place, stands-inside}
 use Rattle.hashlink_map.proofs.iter_mut.IterMut+K+V+S.peek.Goals as goal
 

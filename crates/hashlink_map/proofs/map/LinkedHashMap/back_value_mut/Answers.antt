@@ -1,13 +1,6 @@
-use Rattle.std.proofs.Common.{◌≡◌, ◌-◌, ◌∙◌, length, Some, refl, sym, ap}
-use Rattle.std.proofs.lemmas.Map.Entries.{length-values_of}
-use Rattle.std.specs.Option.{option_map}
-use Rattle.std.specs.Prelude.{slice_get}
-use Rattle.hashlink_model.specs.Entries.{set_value_at}
-use Rattle.hashlink_model.specs.MapState.{with_value}
-use Rattle.hashlink_model.specs.Walk.{last_of}
-use Rattle.hashlink_core.specs.Keyed.{entries_of, state_of}
-use Rattle.hashlink_core.specs.Places.{place_number}
-use Rattle.hashlink_core.proofs.Mapped.{values-renewed_value}
+use Rattle.hashlink_map.proofs.Names.{◌≡◌, ◌-◌, ◌∙◌, length, Some, refl, sym, ap, length-values_of}
+use Rattle.hashlink_map.proofs.Names.{option_map, slice_get, set_value_at, with_value, last_of, entries_of}
+use Rattle.hashlink_map.proofs.Names.{state_of, place_number, values-renewed_value}
 use Rattle.hashlink_map.proofs.map.LinkedHashMap.back_value_mut.Goals as goal
 
 pub returns-in-Some : goal.returns-in-Some

@@ -1,10 +1,7 @@
-use Rattle.std.proofs.Common.{[], ◌∷◌, ◌++◌, ap, subst, sym, ◌∙◌, append_assoc, append-nil}
-use Rattle.hashlink_model.specs.Many.{AcceptsAll, MadeFrom, InsertsPair}
-use Rattle.hashlink_core.specs.Keyed.{entries_of, state_of}
-use Rattle.hashlink_map.specs.Cloning.{ArePairClones}
-use Rattle.hashlink_core.proofs.InTurn.{accepts_another}
+use Rattle.hashlink_map.proofs.Names.{[], ◌∷◌, ◌++◌, ap, subst, sym, ◌∙◌, append_assoc, append-nil}
+use Rattle.hashlink_map.proofs.Names.{AcceptsAll, MadeFrom, InsertsPair, entries_of, state_of, ArePairClones}
+use Rattle.hashlink_map.proofs.Names.{accepts_another, IsEntries}
 use Rattle.hashlink_map.proofs.Clones.{cloned_another, clone_equal, clone_same}
-use Rattle.hashlink_model.specs.Entries.{IsEntries}
 use Rattle.hashlink_map.proofs.map.LinkedHashMap.clone.Given as given
 use Rattle.hashlink_map.proofs.map.LinkedHashMap.clone.Goals as goal
 

@@ -1,8 +1,5 @@
 -- Clones of the pairs that came so far are in.
-use Rattle.std.proofs.Common.{◌≡◌, List, ◌++◌}
-use Rattle.hashlink_model.specs.Many.{AcceptsAll, InsertsPair}
-use Rattle.hashlink_core.specs.Keyed.{state_of}
-use Rattle.hashlink_map.specs.Cloning.{ArePairClones}
+use Rattle.hashlink_map.proofs.Names.{◌≡◌, List, ◌++◌, AcceptsAll, InsertsPair, state_of, ArePairClones}
 use Rattle.hashlink_map.proofs.map.LinkedHashMap.clone.Given as goal
 
 abbrev pub invariant-loop-key : goal.invariant-loop-key

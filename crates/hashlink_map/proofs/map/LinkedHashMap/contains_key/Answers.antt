@@ -1,9 +1,5 @@
-use Rattle.std.proofs.Common.{ap, sym, ◌∙◌}
+use Rattle.hashlink_map.proofs.Names.{ap, sym, ◌∙◌, deref_pair, lookup_is, entries_of, is_some-map}
 use Rattle.std.specs.Prelude.{is_some}
-use Rattle.std.specs.Map.Iter.{deref_pair}
-use Rattle.hashlink_model.proofs.Finds.{lookup_is}
-use Rattle.hashlink_core.specs.Keyed.{entries_of}
-use Rattle.hashlink_core.proofs.AtKeyNode.{is_some-map}
 use Rattle.hashlink_map.proofs.map.LinkedHashMap.contains_key.Goals as goal
 
 pub returns-clause-found : goal.returns-clause-found

@@ -1,6 +1,4 @@
-use Rattle.std.proofs.Common.{sym, rules}
-use Rattle.hashlink_core.specs.Keyed.{entries_of}
-use Rattle.hashlink_core.proofs.Steps.{lookup-place, lookup-unplaced}
+use Rattle.hashlink_map.proofs.Names.{sym, rules, entries_of, lookup-place, lookup-unplaced}
 use Rattle.hashlink_map.proofs.map.LinkedHashMap.entry.Goals as goal
 
 pub returns-in-Some-clause-value : goal.returns-in-Some-clause-value

@@ -1,8 +1,5 @@
-use Rattle.std.proofs.Common.{rules, []}
-use Rattle.std.proofs.lemmas.Result.{on_ok_weaker, IfErr-weaker}
-use Rattle.std.specs.Map.Iter.{deref_pair}
-use Rattle.hashlink_model.specs.Many.{AcceptsAll, StopsAt, InsertsPair}
-use Rattle.hashlink_core.specs.Keyed.{state_of}
+use Rattle.hashlink_map.proofs.Names.{rules, [], on_ok_weaker, IfErr-weaker, deref_pair, AcceptsAll, StopsAt}
+use Rattle.hashlink_map.proofs.Names.{InsertsPair, state_of}
 use Rattle.hashlink_map.proofs.Copying.{mapped_all, mapped_some}
 use Rattle.hashlink_map.proofs.map.LinkedHashMap.extend_ref.Goals as goal
 

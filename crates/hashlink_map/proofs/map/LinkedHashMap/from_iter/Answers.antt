@@ -1,6 +1,4 @@
-use Rattle.std.proofs.Common.{[], subst}
-use Rattle.hashlink_model.specs.Many.{AcceptsAll, StopsAt, InsertsPair}
-use Rattle.hashlink_core.specs.Keyed.{state_of}
+use Rattle.hashlink_map.proofs.Names.{[], subst, AcceptsAll, StopsAt, InsertsPair, state_of}
 use Rattle.hashlink_map.proofs.Extending.{on_err}
 use Rattle.hashlink_map.proofs.map.LinkedHashMap.from_iter.Goals as goal
 

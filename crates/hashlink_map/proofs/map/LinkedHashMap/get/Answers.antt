@@ -1,7 +1,4 @@
-use Rattle.std.proofs.Common.{ap, sym, ◌∙◌}
-use Rattle.std.specs.Option.{option_map, option_copied}
-use Rattle.hashlink_model.proofs.Finds.{lookup_is}
-use Rattle.hashlink_core.specs.Keyed.{entries_of}
+use Rattle.hashlink_map.proofs.Names.{ap, sym, ◌∙◌, option_map, option_copied, lookup_is, entries_of}
 use Rattle.hashlink_map.proofs.map.LinkedHashMap.get.Goals as goal
 
 pub returns-in_err-value-clause-found : goal.returns-in_err-value-clause-found

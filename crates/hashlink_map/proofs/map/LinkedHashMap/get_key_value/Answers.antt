@@ -1,10 +1,5 @@
-use Rattle.std.proofs.Common.{ap, sym, ◌∙◌}
-use Rattle.std.specs.Option.{option_map}
-use Rattle.std.specs.Map.{lookup_entry}
-use Rattle.std.specs.Map.Iter.{deref_pair}
-use Rattle.hashlink_core.specs.Keyed.{entries_of}
-use Rattle.hashlink_core.proofs.AtKeyNode.{stored}
-use Rattle.hashlink_core.proofs.Steps.{lookup_entry-unplaced}
+use Rattle.hashlink_map.proofs.Names.{ap, sym, ◌∙◌, option_map, lookup_entry, deref_pair, entries_of, stored}
+use Rattle.hashlink_map.proofs.Names.{lookup_entry-unplaced}
 use Rattle.hashlink_map.proofs.map.LinkedHashMap.get_key_value.Goals as goal
 
 pub returns-in_err-node-clause-found : goal.returns-in_err-node-clause-found

@@ -1,10 +1,5 @@
-use Rattle.std.proofs.Common.{refl, ap, subst, sym, ◌∙◌}
-use Rattle.std.specs.Map.{lookup}
-use Rattle.hashlink_model.specs.Entries.{IsEntries}
-use Rattle.hashlink_model.specs.Steps.{with_match_value}
-use Rattle.hashlink_core.specs.Keyed.{entries_of, state_of}
-use Rattle.hashlink_core.proofs.AtKeyNode.{lent, stored-value}
-use Rattle.hashlink_core.proofs.Steps.{lookup-unplaced}
+use Rattle.hashlink_map.proofs.Names.{refl, ap, subst, sym, ◌∙◌, lookup, IsEntries, with_match_value}
+use Rattle.hashlink_map.proofs.Names.{entries_of, state_of, lent, stored-value, lookup-unplaced}
 use Rattle.hashlink_map.proofs.map.LinkedHashMap.get_mut.Goals as goal
 
 pub returns-in-Some : goal.returns-in-Some

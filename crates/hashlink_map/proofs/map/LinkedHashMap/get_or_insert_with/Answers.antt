@@ -1,11 +1,7 @@
-use Rattle.std.proofs.Common.{◌≡◌, length, refl, sym, subst, ◌∙◌}
-use Rattle.std.specs.Prelude.{MatchOption, None}
-use Rattle.std.specs.Option.{UnwrapsOrElse}
-use Rattle.hashlink_model.specs.Entries.{place_of}
-use Rattle.hashlink_model.specs.MapState.{AddsEntry, PutsEntry}
-use Rattle.hashlink_core.specs.Keyed.{HoldsKey, entries_of, state_of}
-use Rattle.hashlink_core.specs.KeyedLends.{with_value_at}
-use Rattle.hashlink_core.proofs.Steps.{lookup-place, lookup-unplaced}
+use Rattle.hashlink_map.proofs.Names.{◌≡◌, length, refl, sym, subst, ◌∙◌, MatchOption, UnwrapsOrElse}
+use Rattle.hashlink_map.proofs.Names.{place_of, AddsEntry, PutsEntry, HoldsKey, entries_of, state_of}
+use Rattle.hashlink_map.proofs.Names.{with_value_at, lookup-place, lookup-unplaced}
+use Rattle.std.specs.Prelude.{None}
 use Rattle.hashlink_map.proofs.AtNode.{moves-and-writes, moved-value, adds-written, added-value}
 use Rattle.hashlink_map.proofs.map.LinkedHashMap.get_or_insert_with.Goals as goal
 

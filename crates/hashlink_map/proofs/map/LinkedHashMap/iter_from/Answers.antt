@@ -1,5 +1,4 @@
-use Rattle.std.specs.Map.Iter.{deref_pair}
-use Rattle.hashlink_core.proofs.Walk.{in-order}
+use Rattle.hashlink_map.proofs.Names.{deref_pair, in-order}
 use Rattle.hashlink_map.proofs.map.LinkedHashMap.iter_from.Goals as goal
 
 pub returns-clause-runs : goal.returns-clause-runs

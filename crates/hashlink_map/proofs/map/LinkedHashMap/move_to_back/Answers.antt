@@ -1,9 +1,5 @@
-use Rattle.std.proofs.Common.{sym, ap, subst, ◌∙◌}
-use Rattle.std.proofs.lemmas.Map.Entries.{length-values_of}
-use Rattle.hashlink_model.specs.Entries.{IsEntries, moved_at}
-use Rattle.hashlink_core.specs.Keyed.{entries_of}
-use Rattle.hashlink_core.specs.Places.{Holds}
-use Rattle.hashlink_core.proofs.Holding.{at-node}
+use Rattle.hashlink_map.proofs.Names.{sym, ap, subst, ◌∙◌, length-values_of, IsEntries, moved_at, entries_of}
+use Rattle.hashlink_map.proofs.Names.{Holds, at-node}
 use Rattle.hashlink_map.proofs.AtNode.{stays-last}
 use Rattle.hashlink_map.proofs.LastMoved.{distinct_before}
 use Rattle.hashlink_map.proofs.map.LinkedHashMap.move_to_back.Goals as goal

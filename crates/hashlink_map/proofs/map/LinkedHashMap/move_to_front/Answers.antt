@@ -1,10 +1,5 @@
-use Rattle.std.proofs.Common.{length, subst}
-use Rattle.hashlink_model.specs.MapState.{MovesAt}
-use Rattle.hashlink_core.specs.Keyed.{state_of}
-use Rattle.hashlink_core.specs.Places.{place_number}
-use Rattle.hashlink_core.specs.Steps.{MovesNode}
+use Rattle.hashlink_map.proofs.Names.{length, subst, MovesAt, state_of, place_number, MovesNode, around}
 use Rattle.std.specs.Prelude.{Some}
-use Rattle.hashlink_core.proofs.Places.{around}
 use Rattle.hashlink_map.proofs.AtNode.{stays-first}
 use Rattle.hashlink_map.proofs.map.LinkedHashMap.move_to_front.Goals as goal
 

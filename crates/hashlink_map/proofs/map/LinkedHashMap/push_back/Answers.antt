@@ -1,6 +1,4 @@
-use Rattle.std.proofs.Common.{◌≡◌, length, subst}
-use Rattle.std.specs.Prelude.{IfOk, OnErr}
-use Rattle.hashlink_core.specs.Steps.{AddsNode, GrowsRoom}
+use Rattle.hashlink_map.proofs.Names.{◌≡◌, length, subst, IfOk, OnErr, AddsNode, GrowsRoom}
 use Rattle.hashlink_map.proofs.AtNode.{pushes, pushed-holds, pushed-place}
 use Rattle.hashlink_map.proofs.map.LinkedHashMap.push_back.Goals as goal
 

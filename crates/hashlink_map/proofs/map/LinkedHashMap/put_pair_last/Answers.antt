@@ -1,6 +1,4 @@
-use Rattle.std.proofs.Common.{length, ap, ◌∙◌}
-use Rattle.hashlink_core.specs.Keyed.{entries_of}
-use Rattle.hashlink_core.proofs.Steps.{then_moves, length-replaced}
+use Rattle.hashlink_map.proofs.Names.{length, ap, ◌∙◌, entries_of, then_moves, length-replaced}
 use Rattle.hashlink_map.proofs.map.LinkedHashMap.put_pair_last.Goals as goal
 
 pub returns : goal.returns

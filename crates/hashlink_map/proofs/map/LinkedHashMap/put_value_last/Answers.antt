@@ -1,8 +1,5 @@
-use Rattle.std.proofs.Common.{◌-◌, length, ap, subst, ◌∙◌}
-use Rattle.hashlink_model.proofs.ByPlace.{length-set_value_at}
-use Rattle.hashlink_core.specs.Keyed.{entries_of}
-use Rattle.hashlink_map.specs.Standing.{StaysHeld}
-use Rattle.hashlink_core.proofs.Steps.{then_moves}
+use Rattle.hashlink_map.proofs.Names.{◌-◌, length, ap, subst, ◌∙◌, length-set_value_at, entries_of, StaysHeld}
+use Rattle.hashlink_map.proofs.Names.{then_moves}
 use Rattle.hashlink_map.proofs.AtNode.{stays_twice}
 use Rattle.hashlink_map.proofs.map.LinkedHashMap.put_value_last.Goals as goal
 

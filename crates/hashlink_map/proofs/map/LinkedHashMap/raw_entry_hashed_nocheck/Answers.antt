@@ -1,7 +1,5 @@
-use Rattle.std.proofs.Common.{sym, rules}
-use Rattle.hashlink_core.specs.Keyed.{entries_of}
-use Rattle.hashlink_core.proofs.Holding.{holds-passes}
-use Rattle.hashlink_core.proofs.Steps.{lookup_entry-place, lookup_entry-unplaced}
+use Rattle.hashlink_map.proofs.Names.{sym, rules, entries_of, holds-passes, lookup_entry-place}
+use Rattle.hashlink_map.proofs.Names.{lookup_entry-unplaced}
 use Rattle.hashlink_map.proofs.map.LinkedHashMap.raw_entry_hashed_nocheck.Goals as goal
 
 pub returns-in-Some-clause-pair : goal.returns-in-Some-clause-pair

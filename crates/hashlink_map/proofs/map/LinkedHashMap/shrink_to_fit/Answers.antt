@@ -1,7 +1,4 @@
-use Rattle.hashlink_model.specs.Steps.{Shrinks}
-use Rattle.hashlink_core.specs.Keyed.{state_of}
-use Rattle.hashlink_core.proofs.AtKeyNode.{shrinks}
-use Rattle.std.proofs.Common.{subst}
+use Rattle.hashlink_map.proofs.Names.{Shrinks, state_of, shrinks, subst}
 use Rattle.hashlink_map.proofs.map.LinkedHashMap.shrink_to_fit.Goals as goal
 
 pub returns : goal.returns

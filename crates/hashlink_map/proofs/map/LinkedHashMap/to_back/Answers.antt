@@ -1,11 +1,6 @@
-use Rattle.std.proofs.Common.{length, refl, ap, sym, subst, ◌∙◌, le_refl}
-use Rattle.std.specs.Map.{lookup}
-use Rattle.hashlink_model.specs.Entries.{IsEntries}
-use Rattle.hashlink_model.specs.Steps.{MovesMatchAndWrites}
-use Rattle.hashlink_core.specs.Keyed.{entries_of, state_of}
-use Rattle.hashlink_core.specs.KeyedLends.{with_value_at}
-use Rattle.hashlink_core.proofs.AtKeyNode.{guard-number, moved-found, lent-moved, moved-value}
-use Rattle.hashlink_core.proofs.Steps.{lookup-unplaced}
+use Rattle.hashlink_map.proofs.Names.{length, refl, ap, sym, subst, ◌∙◌, le_refl, lookup, IsEntries}
+use Rattle.hashlink_map.proofs.Names.{MovesMatchAndWrites, entries_of, state_of, with_value_at, guard-number}
+use Rattle.hashlink_map.proofs.Names.{moved-found, lent-moved, moved-value, lookup-unplaced}
 use Rattle.hashlink_map.proofs.map.LinkedHashMap.to_back.Goals as goal
 
 pub value_mut-requires : goal.value_mut-requires

@@ -1,12 +1,6 @@
-use Rattle.std.proofs.Common.{length, refl, ap, sym, subst, ◌∙◌, arith}
-use Rattle.std.specs.Map.{lookup}
-use Rattle.hashlink_model.specs.Entries.{IsEntries}
-use Rattle.hashlink_model.specs.Steps.{MovesMatchAndWrites}
-use Rattle.hashlink_model.proofs.Cursors.{following_place-guard}
-use Rattle.hashlink_core.specs.Keyed.{entries_of, state_of}
-use Rattle.hashlink_core.specs.KeyedLends.{with_value_at}
-use Rattle.hashlink_core.proofs.AtKeyNode.{moved-found, lent-moved, moved-value}
-use Rattle.hashlink_core.proofs.Steps.{lookup-unplaced}
+use Rattle.hashlink_map.proofs.Names.{length, refl, ap, sym, subst, ◌∙◌, arith, lookup, IsEntries}
+use Rattle.hashlink_map.proofs.Names.{MovesMatchAndWrites, following_place-guard, entries_of, state_of}
+use Rattle.hashlink_map.proofs.Names.{with_value_at, moved-found, lent-moved, moved-value, lookup-unplaced}
 use Rattle.hashlink_map.proofs.map.LinkedHashMap.to_front.Goals as goal
 
 pub value_mut-requires : goal.value_mut-requires

@@ -1,9 +1,5 @@
-use Rattle.std.proofs.Common.{arith, ap, sym, subst, ◌+◌, ◌-◌, ◌∙◌}
-use Rattle.std.proofs.lemmas.List.{length-map}
-use Rattle.hashlink_core.specs.Keyed.{state_of}
-use Rattle.hashlink_core.specs.Places.{IsPlaceAt, place_number}
-use Rattle.hashlink_model.specs.Cursor.{following_place}
-use Rattle.hashlink_map.specs.WritingWalk.{writing_walk}
+use Rattle.hashlink_map.proofs.Names.{arith, ap, sym, subst, ◌+◌, ◌-◌, ◌∙◌, length-map, state_of, IsPlaceAt}
+use Rattle.hashlink_map.proofs.Names.{place_number, following_place, writing_walk}
 use Rattle.hashlink_map.proofs.Walking.{holds-first, place-first, number-next, stands-next, same-place}
 use Rattle.hashlink_map.proofs.Walking.{stands-inside, stands-outside}
 use Rattle.hashlink_map.proofs.places_left.PlacesLeft.take_first.Goals as goal

@@ -1,7 +1,5 @@
-use Rattle.std.proofs.Common.{arith, refl, ap, sym, subst, ◌+◌, ◌-◌, ◌∙◌}
-use Rattle.std.proofs.lemmas.List.{length-map}
-use Rattle.hashlink_core.specs.Places.{IsPlaceAt, place_number}
-use Rattle.hashlink_model.specs.Cursor.{preceding_place}
+use Rattle.hashlink_map.proofs.Names.{arith, refl, ap, sym, subst, ◌+◌, ◌-◌, ◌∙◌, length-map, IsPlaceAt}
+use Rattle.hashlink_map.proofs.Names.{place_number, preceding_place}
 use Rattle.hashlink_map.proofs.Walking.{holds-last, place-last, number-last, stands-prev, same-place}
 use Rattle.hashlink_map.proofs.Walking.{stands-inside, stands-outside}
 use Rattle.hashlink_map.proofs.places_left.PlacesLeft.take_last.Goals as goal

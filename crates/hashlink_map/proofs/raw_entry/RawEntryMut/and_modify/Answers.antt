@@ -1,5 +1,4 @@
-use Rattle.std.proofs.Common.{sym, subst}
-use Rattle.hashlink_map.specs.RawEntry.{raw_state, raw_occupied_state, raw_with, RawModifies}
+use Rattle.hashlink_map.proofs.Names.{sym, subst, raw_state, raw_occupied_state, raw_with, RawModifies}
 use Rattle.hashlink_map.proofs.raw_entry.RawEntryMut.and_modify.Goals as goal
 
 pub returns-in-Occupied-clause-modifies : goal.returns-in-Occupied-clause-modifies

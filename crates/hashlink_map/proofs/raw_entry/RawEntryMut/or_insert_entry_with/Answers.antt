@@ -1,10 +1,5 @@
-use Rattle.std.proofs.Common.{◌≡◌, None, Some, refl, sym, subst}
-use Rattle.std.specs.Prelude.{IfOk, IfErr, OnErr}
-use Rattle.hashlink_model.specs.MapState.{RefusesEntry}
-use Rattle.hashlink_core.specs.Keyed.{state_of}
-use Rattle.hashlink_core.specs.Places.{place_number}
-use Rattle.hashlink_map.specs.RawEntry.{raw_state, raw_occupied_state}
-use Rattle.hashlink_map.specs.RawLends.{StandsLast}
+use Rattle.hashlink_map.proofs.Names.{◌≡◌, None, Some, refl, sym, subst, IfOk, IfErr, OnErr, RefusesEntry}
+use Rattle.hashlink_map.proofs.Names.{state_of, place_number, raw_state, raw_occupied_state, StandsLast}
 use Rattle.hashlink_map.proofs.LastMoved.{moved_stands, new_stands, handed_given, refuses_handed, none_at}
 use Rattle.hashlink_map.proofs.raw_entry.RawEntryMut.or_insert_entry_with.Goals as goal
 

@@ -1,25 +1,10 @@
 -- `or_insert_with` lends the pair of the entry that `or_insert_entry_with` answers.
-use Rattle.std.proofs.Common.{◌≡◌, [], ◌∷◌, refl}
-use base.Fml.{ftrue, fsep}
-use base.Logic.{ent, sep, via}
-use types.Kit.{‵, raw, ◌$◌, ◌∵◌, !, qed, done, move, fjoin}
-use types.Logic.{sem}
-use types.Run.{of_opd, and_then, no_more, returns, enter}
-use types.ByLocal.{alloc_all, pass_all, free_all, look_at, get, sets, lands_as}
-use contract.BorrowLft.{◌⊑◌}
-use contract.Lifetimes.{Lfts}
-use contract.Monad.{fact}
-use contract.Running.{tables}
-use denote.Exit.{no, Last, left, rest}
-use denote.Param.{param}
-use denote.Param.Laws.{param_laws}
-use denote.Signature.{plain}
-use denote.Steps.{nothing}
-use denote.Triple.Call.{calls_from}
-use denote.Triple.Table.{framed}
-use denote.Triple.Walked.{stay_dropped, Goes-dropped}
-use Rattle.std.specs.Prelude.{IfOk, MatchOption}
-use Rattle.hashlink_map.specs.RawEntry.{raw_map, raw_state, raw_pair}
+use Rattle.hashlink_map.proofs.Names.{◌≡◌, [], ◌∷◌, refl, ftrue, fsep, ent, sep, via, ‵, raw, ◌$◌, ◌∵◌, ! }
+use Rattle.hashlink_map.proofs.Names.{qed, done, move, fjoin, sem, of_opd, and_then, no_more, returns, enter}
+use Rattle.hashlink_map.proofs.Names.{alloc_all, pass_all, free_all, look_at, get, sets, lands_as, ◌⊑◌, Lfts}
+use Rattle.hashlink_map.proofs.Names.{fact, tables, no, Last, left, rest, param, param_laws, plain, nothing}
+use Rattle.hashlink_map.proofs.Names.{calls_from, framed, stay_dropped, Goes-dropped, IfOk, MatchOption}
+use Rattle.hashlink_map.proofs.Names.{raw_map, raw_state, raw_pair}
 use Rattle.hashlink_map.specs.declared.raw_entry.RawEntryMut.TheVariants as found
 use Rattle.hashlink_map.proofs.EnterAndLend.{but_last, entered_and_lent, returned}
 use Rattle.hashlink_map.proofs.PairRows.{Answer, Entered, Found, found_laws}

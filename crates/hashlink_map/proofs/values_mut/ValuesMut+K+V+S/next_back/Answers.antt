@@ -1,6 +1,4 @@
-use Rattle.std.proofs.Common.{refl, sym, ap, ◌∙◌}
-use Rattle.std.specs.Option.{option_map}
-use Rattle.hashlink_map.specs.Standing.{still_standing}
+use Rattle.hashlink_map.proofs.Names.{refl, sym, ap, ◌∙◌, option_map, still_standing}
 use Rattle.hashlink_map.proofs.Walking.{taken-written, last-taken}
 use Rattle.hashlink_map.proofs.values_mut.ValuesMut+K+V+S.next_back.Goals as goal
 

@@ -1,13 +1,6 @@
 -- A `&` to the arena reaches each value. Assumes `Logic`.
-use Rattle.std.proofs.Common.{[], ◌++◌}
-use base.Fml.{Incl-trans}
-use contract.BorrowLft.{meet_⊑_left}
-use denote.RattleType.{RattleType}
-use denote.RawPtr.{RawPtr}
-use denote.Param.Laws.{Laws}
-use denote.Param.Shared.{copy_shared}
-use denote.Struct.Laws.{field_copy}
-use denote.Struct.Lending.{of_Lends}
+use Rattle.hashlink_nodes.proofs.Names.{[], ◌++◌, Incl-trans, meet_⊑_left, RattleType, RawPtr, Laws}
+use Rattle.hashlink_nodes.proofs.Names.{copy_shared, field_copy, of_Lends}
 use Rattle.std.specs.contracts.marker.PhantomData as marker
 use Rattle.hashlink_nodes.specs.contracts.arena.Arena as C
 use Rattle.hashlink_nodes.proofs.arena.Arena.TheLaw.Statement.{statement}

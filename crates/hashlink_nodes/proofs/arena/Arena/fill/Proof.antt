@@ -13,14 +13,10 @@ use Rattle.hashlink_nodes.proofs.Walks.{ptr_val, in_a_block, lies_at, types_at, 
 use Rattle.hashlink_nodes.proofs.Walks.{param_laws, nothing, heard, opens, closes, Stays, stay_dropped}
 use Rattle.hashlink_nodes.proofs.Walks.{stay_ref, walk_of, Goes-dropped, Goes-ref, after, word, word-Good}
 use Rattle.hashlink_nodes.proofs.Walks.{proved_at, leaves}
-use types.Kit.{flt_l}
-use types.Run.{unit_lit}
-use Rattle.hashlink_nodes.specs.Node.{same_node}
-use Rattle.hashlink_nodes.specs.Kept.{alter, entry_in, number_word, with_entry}
-use Rattle.hashlink_nodes.specs.Ownership.{Links, blocks_own, block_owns, pair_owns, pair_room, pair_offset}
-use Rattle.hashlink_nodes.specs.Ownership.{is_small, number_of, number_offset, links_of, deed_owns}
-use Rattle.hashlink_nodes.specs.Ownership.{free_right}
-use Rattle.hashlink_nodes.specs.declared.arena.Arena.{Arena}
+use Rattle.hashlink_nodes.proofs.Names.{flt_l, unit_lit, same_node, alter, entry_in, number_word, with_entry}
+use Rattle.hashlink_nodes.proofs.Names.{Links, blocks_own, block_owns, pair_owns, pair_room, pair_offset}
+use Rattle.hashlink_nodes.proofs.Names.{is_small, number_of, number_offset, links_of, deed_owns, free_right}
+use Rattle.hashlink_nodes.proofs.Names.{Arena}
 use Rattle.hashlink_nodes.specs.contracts.arena.Arena.{the_row}
 use Rattle.hashlink_nodes.proofs.ArenaSteps.{Nd, word_had, told, args_are, states}
 use Rattle.hashlink_nodes.proofs.ArenaBlocks.{found, blocks_cut, blocks_glue, small_shown}

@@ -12,12 +12,9 @@ use Rattle.hashlink_nodes.proofs.Walks.{block_ptr, ptr_val, in_a_block, lies_at,
 use Rattle.hashlink_nodes.proofs.Walks.{layouts, nothing, heard, opens, closes, Stays, stay_dropped, stay_ref}
 use Rattle.hashlink_nodes.proofs.Walks.{walk_of, Goes-dropped, Goes-ref, word, word-Good, proved_at, leaves}
 use Rattle.hashlink_nodes.proofs.Walks.{ghosts, handle_tells}
-use Rattle.hashlink_nodes.specs.Node.{same_node}
-use Rattle.hashlink_nodes.specs.Kept.{entry_in, number_word}
-use Rattle.hashlink_nodes.specs.Ownership.{Links, blocks_own, block_owns, pair_owns, pair_room, is_small}
-use Rattle.hashlink_nodes.specs.Ownership.{number_of, number_offset, links_of, links_offset, deed_owns}
-use Rattle.hashlink_nodes.specs.Ownership.{free_right}
-use Rattle.hashlink_nodes.specs.declared.arena.Arena.{Arena}
+use Rattle.hashlink_nodes.proofs.Names.{same_node, entry_in, number_word, Links, blocks_own, block_owns}
+use Rattle.hashlink_nodes.proofs.Names.{pair_owns, pair_room, is_small, number_of, number_offset, links_of}
+use Rattle.hashlink_nodes.proofs.Names.{links_offset, deed_owns, free_right, Arena}
 use Rattle.hashlink_nodes.specs.contracts.arena.Arena.{the_row}
 use Rattle.hashlink_nodes.proofs.ArenaSteps.{Nd, word_had, args_are, states}
 use Rattle.hashlink_nodes.proofs.ArenaBlocks.{found, blocks_cut}

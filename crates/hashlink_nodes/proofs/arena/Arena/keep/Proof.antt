@@ -11,17 +11,14 @@ use Rattle.hashlink_nodes.proofs.Walks.{lone, part_at, uint_in, RattleType, owns
 use Rattle.hashlink_nodes.proofs.Walks.{param, layouts, nothing, opens, closes, Stays, stay_dropped, stay_ref}
 use Rattle.hashlink_nodes.proofs.Walks.{walk_of, Goes-dropped, Goes-ref, Goes-blank, after, word, word-Good}
 use Rattle.hashlink_nodes.proofs.Walks.{proved_at, leaves, ghosts}
-use Rattle.hashlink_nodes.specs.Node.{same_node}
-use Rattle.hashlink_nodes.specs.Kept.{Kept, kept}
-use Rattle.hashlink_nodes.specs.Ownership.{Links, number_offset, links_offset}
-use Rattle.hashlink_nodes.specs.declared.arena.Arena.{Arena}
+use Rattle.hashlink_nodes.proofs.Names.{same_node, Kept, kept, Links, number_offset, links_offset, Arena}
+use Rattle.hashlink_nodes.proofs.Names.{Node}
 use Rattle.hashlink_nodes.specs.contracts.arena.Arena.{the_row}
 use Rattle.hashlink_nodes.proofs.ArenaSteps.{told, no_entry, word_made, args_are, states}
 use Rattle.hashlink_nodes.proofs.ArenaBlocks.{small_shown, apart_from, knows}
 use Rattle.std.proofs.Common.{IsNone}
 use Rattle.std.specs.contracts.alloc.Global as heap
 use Rattle.std.proofs.alloc.Global.TheLaws as heap_laws
-use Rattle.hashlink_nodes.specs.declared.node.Node.{Node}
 use Rattle.hashlink_nodes.proofs.ArenaSharing.{LL}
 use Rattle.hashlink_nodes.proofs.LooseSteps.{both, Lo, loose_good, loose_out}
 use Rattle.hashlink_nodes.specs.contracts.arena.Arena.keep.{ended, clauses}

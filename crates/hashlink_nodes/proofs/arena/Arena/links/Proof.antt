@@ -6,9 +6,7 @@ use Rattle.hashlink_nodes.proofs.Walks.{alloc_all, pass_all, free_all, look_at, 
 use Rattle.hashlink_nodes.proofs.Walks.{sets_last, env, is, ptr_val, await, pick, heard, later, sub, whole}
 use Rattle.hashlink_nodes.proofs.Walks.{fact_i, tables, RattleType, param, layouts, after, word, word-Good}
 use Rattle.hashlink_nodes.proofs.Walks.{option_map}
-use Rattle.hashlink_nodes.specs.Kept.{Kept}
-use Rattle.hashlink_nodes.specs.Ownership.{Links, block_lent, blocks_lent, links_offset}
-use Rattle.hashlink_nodes.specs.Node.{same_node}
+use Rattle.hashlink_nodes.proofs.Names.{Kept, Links, block_lent, blocks_lent, links_offset, same_node}
 use Rattle.hashlink_nodes.proofs.ArenaBlocks.{found, block_seen}
 use Rattle.hashlink_nodes.proofs.ArenaSteps.{states}
 use Rattle.hashlink_nodes.proofs.ArenaLends.{Address, shared}

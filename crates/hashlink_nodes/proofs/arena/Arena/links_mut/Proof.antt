@@ -7,12 +7,10 @@ use Rattle.hashlink_nodes.proofs.Walks.{pass_all, free_all, look_at, get, get_in
 use Rattle.hashlink_nodes.proofs.Walks.{env, is, ptr_val, await, pick, heard, later, use1, sub, whole, tables}
 use Rattle.hashlink_nodes.proofs.Walks.{follows, RattleType, lies_at, param, layouts, after, word, word-Good}
 use Rattle.hashlink_nodes.proofs.Walks.{option_map, usize}
-use Rattle.hashlink_nodes.specs.Ownership.{block_owns, pair_owns, is_small, deed_owns, free_right, number_of}
-use Rattle.hashlink_nodes.specs.Ownership.{links_of, links_offset, Links}
-use Rattle.hashlink_nodes.specs.ArenaLends.{altered}
-use Rattle.hashlink_nodes.specs.Kept.{Kept, with_links, number_word}
+use Rattle.hashlink_nodes.proofs.Names.{block_owns, pair_owns, is_small, deed_owns, free_right, number_of}
+use Rattle.hashlink_nodes.proofs.Names.{links_of, links_offset, Links, altered, Kept, with_links, number_word}
+use Rattle.hashlink_nodes.proofs.Names.{same_node}
 use Rattle.hashlink_nodes.proofs.ArenaBlocks.{found}
-use Rattle.hashlink_nodes.specs.Node.{same_node}
 use Rattle.hashlink_nodes.proofs.ArenaSteps.{states}
 use Rattle.hashlink_nodes.proofs.ArenaLends.{Address, lent}
 use Rattle.hashlink_nodes.specs.contracts.arena.Arena.{the_row}

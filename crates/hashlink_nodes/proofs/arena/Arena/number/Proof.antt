@@ -6,10 +6,8 @@ use Rattle.hashlink_nodes.proofs.Walks.{addr, first, blocks, exec, returns, ente
 use Rattle.hashlink_nodes.proofs.Walks.{free_all, look_at, get, get_in, through, sets, sets_last, env, is}
 use Rattle.hashlink_nodes.proofs.Walks.{ptr_val, await, pick, heard, later, sub, whole, tables, RattleType}
 use Rattle.hashlink_nodes.proofs.Walks.{param, layouts, after, word, word-Good, option_map}
-use Rattle.hashlink_nodes.specs.Kept.{Kept, entry_in, number_word}
-use Rattle.std.specs.Prelude.{IfSome}
-use Rattle.hashlink_nodes.specs.Ownership.{block_lent, blocks_lent, number_offset}
-use Rattle.hashlink_nodes.specs.Node.{same_node}
+use Rattle.hashlink_nodes.proofs.Names.{Kept, entry_in, number_word, IfSome, block_lent, blocks_lent}
+use Rattle.hashlink_nodes.proofs.Names.{number_offset, same_node}
 use Rattle.hashlink_nodes.proofs.ArenaBlocks.{found, block_seen, small_seen}
 use Rattle.hashlink_nodes.proofs.ArenaSteps.{states}
 use Rattle.hashlink_nodes.proofs.ArenaLends.{Address, shared}

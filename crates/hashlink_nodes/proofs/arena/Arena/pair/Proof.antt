@@ -6,9 +6,8 @@ use Rattle.hashlink_nodes.proofs.Walks.{blocks, exec, returns, enter, alloc_all,
 use Rattle.hashlink_nodes.proofs.Walks.{get, get_in, through, sets, sets_last, env, is, ptr_val, await, pick}
 use Rattle.hashlink_nodes.proofs.Walks.{heard, later, sub, whole, fact_i, tables, RattleType, param, layouts}
 use Rattle.hashlink_nodes.proofs.Walks.{after, word, word-Good, option_map}
-use Rattle.hashlink_nodes.specs.Kept.{Kept, entry_in}
-use Rattle.hashlink_nodes.specs.Ownership.{block_lent, blocks_lent, pair_lent, pair_offset}
-use Rattle.hashlink_nodes.specs.Node.{same_node}
+use Rattle.hashlink_nodes.proofs.Names.{Kept, entry_in, block_lent, blocks_lent, pair_lent, pair_offset}
+use Rattle.hashlink_nodes.proofs.Names.{same_node}
 use Rattle.hashlink_nodes.proofs.ArenaBlocks.{found_entry, block_seen}
 use Rattle.hashlink_nodes.proofs.ArenaSteps.{states}
 use Rattle.hashlink_nodes.proofs.ArenaLends.{Address, shared}

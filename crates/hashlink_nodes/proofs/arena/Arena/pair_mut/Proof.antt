@@ -7,12 +7,11 @@ use Rattle.hashlink_nodes.proofs.Walks.{alloc_all, pass_all, free_all, look_at, 
 use Rattle.hashlink_nodes.proofs.Walks.{sets_last, env, is, ptr_val, await, pick, heard, later, use1, sub}
 use Rattle.hashlink_nodes.proofs.Walks.{whole, tables, follows, RattleType, lies_at, param, layouts, after}
 use Rattle.hashlink_nodes.proofs.Walks.{word, word-Good, option_map, usize}
-use Rattle.hashlink_nodes.specs.Ownership.{block_owns, is_small, deed_owns, free_right, number_of, links_of}
-use Rattle.hashlink_nodes.specs.Ownership.{pair_of, pair_offset, Links}
-use Rattle.hashlink_nodes.specs.ArenaLends.{altered}
-use Rattle.hashlink_nodes.specs.Kept.{Kept, kept, entry_in, with_pair}
+use Rattle.hashlink_nodes.proofs.Names.{block_owns, is_small, deed_owns, free_right, number_of, links_of}
+use Rattle.hashlink_nodes.proofs.Names.{pair_offset, Links, altered, Kept, kept, entry_in, with_pair}
+use Rattle.hashlink_nodes.proofs.Names.{same_node}
+use Rattle.hashlink_nodes.specs.Ownership.{pair_of}
 use Rattle.hashlink_nodes.proofs.ArenaBlocks.{found_entry}
-use Rattle.hashlink_nodes.specs.Node.{same_node}
 use Rattle.hashlink_nodes.proofs.ArenaSteps.{states}
 use Rattle.hashlink_nodes.proofs.ArenaLends.{Address, lent}
 use Rattle.hashlink_nodes.specs.contracts.arena.Arena.{the_row}

@@ -13,13 +13,11 @@ use Rattle.hashlink_nodes.proofs.Walks.{owns, Ptr, ptr_val, in_a_block, lies_at,
 use Rattle.hashlink_nodes.proofs.Walks.{layouts, nothing, heard, opens, closes, Stays, stay_dropped, stay_ref}
 use Rattle.hashlink_nodes.proofs.Walks.{walk_of, Goes-dropped, Goes-ref, after, word, word-Good, proved_at}
 use Rattle.hashlink_nodes.proofs.Walks.{leaves}
-use types.Run.{load, look, well_typed}
-use Rattle.hashlink_nodes.specs.Node.{same_node}
-use Rattle.hashlink_nodes.specs.Kept.{alter, entry_in, number_word, with_entry}
-use Rattle.hashlink_nodes.specs.Ownership.{Links, blocks_own, block_owns, pair_owns, pair_of, pair_offset}
-use Rattle.hashlink_nodes.specs.Ownership.{is_small, number_of, number_offset, links_of, deed_owns}
-use Rattle.hashlink_nodes.specs.Ownership.{free_right}
-use Rattle.hashlink_nodes.specs.declared.arena.Arena.{Arena}
+use Rattle.hashlink_nodes.proofs.Names.{load, look, well_typed, same_node, alter, entry_in, number_word}
+use Rattle.hashlink_nodes.proofs.Names.{with_entry, Links, blocks_own, block_owns, pair_owns, pair_offset}
+use Rattle.hashlink_nodes.proofs.Names.{is_small, number_of, number_offset, links_of, deed_owns, free_right}
+use Rattle.hashlink_nodes.proofs.Names.{Arena}
+use Rattle.hashlink_nodes.specs.Ownership.{pair_of}
 use Rattle.hashlink_nodes.specs.contracts.arena.Arena.{the_row}
 use Rattle.hashlink_nodes.proofs.ArenaSteps.{Nd, word_had, no_entry, args_are, states}
 use Rattle.hashlink_nodes.proofs.ArenaBlocks.{found_entry, blocks_cut, blocks_glue, small_shown}

@@ -1,9 +1,6 @@
 -- A `&` to the count holds nothing. Assumes `Logic`.
-use denote.RawPtr.{RawPtr}
-use denote.Param.Shared.{copy_shared}
-use denote.SharingLaws.{nothing_shr_laws}
-use denote.Struct.Laws.{field_copy}
-use denote.Struct.Lending.{of_Lends, Lends-nothing}
+use Rattle.hashlink_nodes.proofs.Names.{RawPtr, copy_shared, nothing_shr_laws, field_copy, of_Lends}
+use Rattle.hashlink_nodes.proofs.Names.{Lends-nothing}
 use Rattle.std.specs.contracts.marker.PhantomData as marker
 use Rattle.hashlink_nodes.specs.contracts.link_writes.LinkWrites as C
 use Rattle.hashlink_nodes.proofs.link_writes.LinkWrites.TheLaw.Statement.{statement}

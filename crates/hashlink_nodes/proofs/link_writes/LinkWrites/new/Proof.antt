@@ -1,26 +1,12 @@
 -- A count begins at 0.
-use Rattle.std.proofs.Common.{◌≡◌, [], ◌∷◌, refl}
-use base.Logic.{SProp, emp, ent}
-use base.Fml.{ftrue}
-use mir.Val.{Val, vstruct, vnil}
-use types.Kit.{‵, raw, ◌⊛◌, ◌$◌, ◌∵◌, !, qed, by, keep, drop, split, use0, fjoin}
-use types.Run.{no_more, and_then, returns, enter}
-use types.ByLocal.{alloc_all, pass_all, free_all, look_at, get, sets}
-use types.Part.{agg}
-use contract.Monad.{fact, fact_i}
-use contract.Running.{tables}
-use denote.Steps.{nothing}
-use denote.Triple.Walked.{walk_of}
-use Rattle.std.proofs.raw_atomic.Walks.{proved_at, leaves}
+use Rattle.hashlink_nodes.proofs.Names.{◌≡◌, [], ◌∷◌, refl, SProp, emp, ent, ftrue, Val, vstruct, vnil, ‵}
+use Rattle.hashlink_nodes.proofs.Names.{raw, ◌⊛◌, ◌$◌, ◌∵◌, !, qed, by, keep, drop, split, use0, fjoin}
+use Rattle.hashlink_nodes.proofs.Names.{no_more, and_then, returns, enter, alloc_all, pass_all, free_all}
+use Rattle.hashlink_nodes.proofs.Names.{look_at, get, sets, agg, fact, fact_i, tables, nothing, walk_of}
+use Rattle.hashlink_nodes.proofs.Names.{proved_at, leaves, Ura, Logic, sem, RattleType, makes_shadow, Struct}
+use Rattle.hashlink_nodes.proofs.Names.{shape, LinkWrites}
 use Rattle.hashlink_nodes.proofs.ArenaSteps.{mark}
-use seplogic.Ra.Ura.{Ura}
-use types.Logic.{Logic, sem}
-use denote.RattleType.{RattleType}
-use denote.Shadow.{makes_shadow}
-use denote.Struct.Struct.{Struct}
-use denote.Struct.Owning.{shape}
 use Rattle.hashlink_nodes.specs.contracts.link_writes.LinkWrites as W
-use Rattle.hashlink_nodes.specs.declared.link_writes.LinkWrites.{LinkWrites}
 use Rattle.hashlink_nodes.specs.contracts.link_writes.LinkWrites.new.{ended, clauses}
 use Rattle.hashlink_nodes.specs.contracts.link_writes.LinkWrites.new.Key.{name as #self}
 use Rattle.hashlink_nodes.proofs.link_writes.LinkWrites.new.Statement.{statement}

@@ -1,21 +1,11 @@
 -- The count goes up by one, and no memory changes.
-use Rattle.std.proofs.Common.{◌≡◌, ◌+◌, List, [], ◌∷◌, ◌++◌, refl, sym, subst}
-use mir.Val.{Val, vptr, vunit}
-use base.Logic.{SProp, ent, emp, id⊢}
-use base.Fml.{ftrue, flft}
-use prog.Wp.{WpFn}
-use types.Kit.{‵, raw, ◌⊛◌, ◌$◌, ◌∵◌, !, qed, by, move, keep, drop, split, join, fsplit, fsplit3, fjoin}
-use types.Kit.{fjoin3, use0, suffices, feq_i, feq_l}
-use types.Run.{of_opd, unit_lit, returns, enter}
-use types.ByLocal.{alloc_all, pass_all, free_all, look_at, sets}
-use contract.Monad.{fact, fact_i}
-use contract.Running.{tables}
-use denote.RattleType.{owns}
-use denote.Signature.{types_at, plain}
-use denote.Steps.{nothing, opens, closes}
-use denote.Triple.Walked.{Stays, stay_ref, walk_of, Goes-ref}
-use Rattle.std.proofs.raw_atomic.Walks.{proved_at, leaves}
-use Rattle.hashlink_nodes.specs.declared.link_writes.LinkWrites.{LinkWrites}
+use Rattle.hashlink_nodes.proofs.Names.{◌≡◌, ◌+◌, List, [], ◌∷◌, ◌++◌, refl, sym, subst, Val, vptr, vunit}
+use Rattle.hashlink_nodes.proofs.Names.{SProp, ent, emp, id⊢, ftrue, flft, WpFn, ‵, raw, ◌⊛◌, ◌$◌, ◌∵◌, ! }
+use Rattle.hashlink_nodes.proofs.Names.{qed, by, move, keep, drop, split, join, fsplit, fsplit3, fjoin}
+use Rattle.hashlink_nodes.proofs.Names.{fjoin3, use0, suffices, feq_i, feq_l, of_opd, unit_lit, returns}
+use Rattle.hashlink_nodes.proofs.Names.{enter, alloc_all, pass_all, free_all, look_at, sets, fact, fact_i}
+use Rattle.hashlink_nodes.proofs.Names.{tables, owns, types_at, plain, nothing, opens, closes, Stays}
+use Rattle.hashlink_nodes.proofs.Names.{stay_ref, walk_of, Goes-ref, proved_at, leaves, LinkWrites}
 use Rattle.hashlink_nodes.specs.contracts.link_writes.LinkWrites.{the_row}
 use Rattle.hashlink_nodes.specs.contracts.link_writes.LinkWrites.raise.{ended, clauses}
 use Rattle.hashlink_nodes.specs.contracts.link_writes.LinkWrites.raise.Key.{name as #self}

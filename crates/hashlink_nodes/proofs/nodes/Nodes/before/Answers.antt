@@ -1,5 +1,4 @@
-use Rattle.std.proofs.Common.{Some, refl}
-use Rattle.hashlink_nodes.specs.Pool.{state_of}
+use Rattle.hashlink_nodes.proofs.Names.{Some, refl, state_of}
 use Rattle.hashlink_nodes.proofs.Neighbours.{prev_to, told}
 use Rattle.hashlink_nodes.proofs.Opening.{known, node_in}
 use Rattle.hashlink_nodes.proofs.nodes.Nodes.before.Goals as goal

@@ -1,7 +1,4 @@
-use Rattle.std.proofs.Common.{None, ap, ◌∙◌, sym, arith}
-use Rattle.std.specs.Option.{option_map}
-use Rattle.std.specs.Prelude.{is_some}
-use Rattle.hashlink_nodes.specs.Ring.{pair_of}
+use Rattle.hashlink_nodes.proofs.Names.{None, ap, ◌∙◌, sym, arith, option_map, is_some, pair_of}
 use Rattle.hashlink_nodes.proofs.Calls.{removed, taken_out}
 use Rattle.hashlink_nodes.proofs.Opening.{known, node_in, seal}
 use Rattle.hashlink_nodes.proofs.Rings.{held_out, holds_now}

@@ -1,7 +1,4 @@
-use Rattle.std.proofs.Common.{ap, ◌∙◌, refl}
-use Rattle.std.specs.Prelude.{is_some}
-use Rattle.std.specs.Option.{option_map}
-use Rattle.hashlink_nodes.specs.Ring.{Held, pair_of}
+use Rattle.hashlink_nodes.proofs.Names.{ap, ◌∙◌, refl, is_some, option_map, Held, pair_of}
 use Rattle.hashlink_nodes.proofs.Lending.{lent}
 use Rattle.hashlink_nodes.proofs.Opening.{node_in}
 use Rattle.hashlink_nodes.proofs.nodes.Nodes.entry_mut.Goals as goal

@@ -1,8 +1,5 @@
-use Rattle.std.specs.Option.{option_map}
-use Rattle.std.specs.Prelude.{is_some}
-use Rattle.std.proofs.Common.{◌++◌, ◌∷◌, [], length, ap, sym, ◌∙◌, arith}
-use Rattle.hashlink_nodes.specs.Pool.{state_of}
-use Rattle.hashlink_nodes.specs.Ring.{Ring, Held, held, pair_of}
+use Rattle.hashlink_nodes.proofs.Names.{option_map, is_some, ◌++◌, ◌∷◌, [], length, ap, sym, ◌∙◌, arith}
+use Rattle.hashlink_nodes.proofs.Names.{state_of, Ring, Held, held, pair_of}
 use Rattle.hashlink_nodes.proofs.Calls.{last, last_in, last_bare, last_gone}
 use Rattle.hashlink_nodes.proofs.Opening.{empty, opened, same_some, seal}
 use Rattle.hashlink_nodes.proofs.Rings.{held_now, held_out}

@@ -1,6 +1,4 @@
-use Rattle.std.proofs.Common.{[], ap}
-use Rattle.hashlink_nodes.specs.State.{State}
-use Rattle.hashlink_nodes.specs.Shape.{entries_of}
+use Rattle.hashlink_nodes.proofs.Names.{[], ap, State, entries_of}
 use Rattle.hashlink_nodes.proofs.nodes.Nodes.new.Goals as goal
 
 pub returns : goal.returns

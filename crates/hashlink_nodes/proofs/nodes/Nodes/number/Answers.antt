@@ -1,7 +1,4 @@
-use Rattle.std.proofs.Common.{ap, ◌∙◌}
-use Rattle.std.specs.Prelude.{is_some}
-use Rattle.std.specs.Option.{option_map}
-use Rattle.hashlink_nodes.specs.Ring.{Held}
+use Rattle.hashlink_nodes.proofs.Names.{ap, ◌∙◌, is_some, option_map, Held}
 use Rattle.hashlink_nodes.proofs.Opening.{node_in}
 use Rattle.hashlink_nodes.proofs.nodes.Nodes.number.Goals as goal
 

@@ -1,7 +1,4 @@
-use Rattle.std.proofs.Common.{ap, ◌∙◌, refl, sym}
-use Rattle.std.specs.Map.{keys_of}
-use Rattle.hashlink_nodes.specs.Pool.{state_of}
-use Rattle.hashlink_nodes.specs.Ring.{Ring, prev_place}
+use Rattle.hashlink_nodes.proofs.Names.{ap, ◌∙◌, refl, sym, keys_of, state_of, Ring, prev_place}
 use Rattle.hashlink_nodes.proofs.Neighbours.{prev_to, none_beside, tells}
 use Rattle.hashlink_nodes.proofs.Opening.{empty, known, opened}
 use Rattle.hashlink_nodes.proofs.nodes.Nodes.prev.Goals as goal

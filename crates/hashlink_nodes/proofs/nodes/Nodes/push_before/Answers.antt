@@ -1,8 +1,6 @@
-use Rattle.std.proofs.Common.{◌-◌, ◌≡◌, drop, refl, sym, subst, ◌∙◌, arith}
-use Rattle.std.specs.Prelude.{OnOk}
-use Rattle.std.proofs.lemmas.List.{nil_from_length}
-use Rattle.hashlink_nodes.specs.Pool.{state_of}
-use Rattle.hashlink_nodes.specs.Ring.{held, ring}
+use Rattle.hashlink_nodes.proofs.Names.{◌-◌, ◌≡◌, refl, sym, subst, ◌∙◌, arith, OnOk, nil_from_length}
+use Rattle.hashlink_nodes.proofs.Names.{state_of, held, ring}
+use Rattle.std.proofs.Common.{drop}
 use Rattle.hashlink_nodes.proofs.Calls.{Ready, ready_spare, pushed}
 use Rattle.hashlink_nodes.proofs.Opening.{known, opened, seal}
 use Rattle.hashlink_nodes.proofs.Rings.{ends_before, fits, take_spare}

@@ -1,7 +1,5 @@
-use Rattle.std.proofs.Common.{true, None, Some, length, ap, sym, subst, refl, ◌∙◌, arith}
-use Rattle.hashlink_nodes.specs.Pool.{state_of}
-use Rattle.hashlink_nodes.specs.Ring.{held}
-use Rattle.hashlink_nodes.specs.declared.pool.Pool.{Pool}
+use Rattle.hashlink_nodes.proofs.Names.{true, None, Some, length, ap, sym, subst, refl, ◌∙◌, arith, state_of}
+use Rattle.hashlink_nodes.proofs.Names.{held, Pool}
 use Rattle.hashlink_nodes.proofs.Paths.{set_at_here}
 use Rattle.hashlink_nodes.proofs.Calls.{Ready, guarded_now, pushed, ready_new}
 use Rattle.hashlink_nodes.proofs.Opening.{Leaves, known, leaves, seal}

@@ -1,8 +1,4 @@
-use Rattle.std.proofs.Common.{ap, ◌∙◌}
-use Rattle.std.specs.Prelude.{is_some}
-use Rattle.std.specs.Option.{option_map}
-use Rattle.hashlink_nodes.specs.Pool.{state_of}
-use Rattle.hashlink_nodes.specs.Ring.{Held, with_key}
+use Rattle.hashlink_nodes.proofs.Names.{ap, ◌∙◌, is_some, option_map, state_of, Held, with_key}
 use Rattle.hashlink_nodes.proofs.Calls.{Renewed, renewed}
 use Rattle.hashlink_nodes.proofs.Opening.{node_in, seal}
 use Rattle.hashlink_nodes.proofs.nodes.Nodes.set_key.Given as given

@@ -1,9 +1,5 @@
-use Rattle.std.proofs.Common.{Some, ap, sym, ◌∙◌}
-use Rattle.std.specs.Prelude.{is_some}
-use Rattle.std.specs.Option.{option_map}
-use Rattle.hashlink_nodes.specs.Pool.{state_of}
-use Rattle.hashlink_nodes.specs.Ring.{held, pair_of, with_number}
-use Rattle.hashlink_nodes.specs.State.{hold}
+use Rattle.hashlink_nodes.proofs.Names.{Some, ap, sym, ◌∙◌, is_some, option_map, state_of, held, pair_of}
+use Rattle.hashlink_nodes.proofs.Names.{with_number, hold}
 use Rattle.hashlink_nodes.proofs.Calls.{Renewed, renewed}
 use Rattle.hashlink_nodes.proofs.Opening.{node_in, same_some, seal}
 use Rattle.hashlink_nodes.proofs.Rings.{has_still, held_anew, held_now}

@@ -1,6 +1,4 @@
-use Rattle.std.proofs.Common.{ap, ◌∙◌}
-use Rattle.hashlink_nodes.specs.State.{detached}
-use Rattle.hashlink_nodes.specs.Pool.{state_of}
+use Rattle.hashlink_nodes.proofs.Names.{ap, ◌∙◌, detached, state_of}
 use Rattle.hashlink_nodes.proofs.StateLemmas.{next_has}
 use Rattle.hashlink_nodes.proofs.pool.Pool.detach.Goals as goal
 

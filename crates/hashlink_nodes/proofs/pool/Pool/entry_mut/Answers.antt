@@ -1,6 +1,4 @@
-use Rattle.std.proofs.Common.{ap, refl}
-use Rattle.std.specs.Option.{option_map}
-use Rattle.hashlink_nodes.specs.Ring.{Held, pair_of}
+use Rattle.hashlink_nodes.proofs.Names.{ap, refl, option_map, Held, pair_of}
 use Rattle.hashlink_nodes.proofs.StateLemmas.{pair_at, value_lent}
 use Rattle.hashlink_nodes.proofs.pool.Pool.entry_mut.Goals as goal
 

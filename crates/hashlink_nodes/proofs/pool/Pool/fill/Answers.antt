@@ -1,9 +1,4 @@
-use Rattle.std.proofs.Common.{Some, ap, refl, ◌∙◌}
-use Rattle.std.specs.Map.{lookup}
-use Rattle.hashlink_nodes.specs.Kept.{with_entry}
-use Rattle.hashlink_nodes.specs.Node.{same_node}
-use Rattle.hashlink_nodes.specs.Ring.{held}
-use Rattle.hashlink_nodes.specs.State.{state}
+use Rattle.hashlink_nodes.proofs.Names.{Some, ap, refl, ◌∙◌, lookup, with_entry, same_node, held, state}
 use Rattle.hashlink_nodes.proofs.ArenaBlocks.{found}
 use Rattle.hashlink_nodes.proofs.StateLemmas.{held_anew}
 use Rattle.hashlink_nodes.proofs.pool.Pool.fill.Goals as goal

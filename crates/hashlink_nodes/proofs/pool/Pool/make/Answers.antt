@@ -1,5 +1,4 @@
-use Rattle.std.proofs.Common.{None, refl}
-use Rattle.hashlink_nodes.specs.Kept.{kept}
+use Rattle.hashlink_nodes.proofs.Names.{None, refl, kept}
 use Rattle.hashlink_nodes.proofs.StateLemmas.{added}
 use Rattle.hashlink_nodes.proofs.pool.Pool.make.Goals as goal
 

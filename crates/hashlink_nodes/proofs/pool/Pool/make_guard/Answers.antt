@@ -1,9 +1,5 @@
-use Rattle.std.proofs.Common.{refl, true, ap, ◌∙◌}
-use Rattle.hashlink_nodes.specs.Pool.{state_of}
+use Rattle.hashlink_nodes.proofs.Names.{refl, true, ap, ◌∙◌, state_of, lookup, Kept, same_node}
 use Rattle.hashlink_nodes.proofs.Paths.{set_at_here}
-use Rattle.std.specs.Map.{lookup}
-use Rattle.hashlink_nodes.specs.Kept.{Kept}
-use Rattle.hashlink_nodes.specs.Node.{same_node}
 use Rattle.hashlink_nodes.proofs.StateLemmas.{mapped, looped}
 use Rattle.hashlink_nodes.proofs.pool.Pool.make_guard.Goals as goal
 

@@ -1,6 +1,4 @@
-use Rattle.std.specs.Map.{lookup}
-use Rattle.hashlink_nodes.specs.Kept.{Kept}
-use Rattle.hashlink_nodes.specs.Node.{same_node}
+use Rattle.hashlink_nodes.proofs.Names.{lookup, Kept, same_node}
 use Rattle.hashlink_nodes.proofs.StateLemmas.{mapped, stored_prev}
 use Rattle.hashlink_nodes.proofs.pool.Pool.store_prev.Goals as goal
 

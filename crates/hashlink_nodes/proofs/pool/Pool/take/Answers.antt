@@ -1,6 +1,4 @@
-use Rattle.std.proofs.Common.{None, ap, refl, ◌∙◌}
-use Rattle.hashlink_nodes.specs.Kept.{with_entry}
-use Rattle.hashlink_nodes.specs.State.{state}
+use Rattle.hashlink_nodes.proofs.Names.{None, ap, refl, ◌∙◌, with_entry, state}
 use Rattle.hashlink_nodes.proofs.StateLemmas.{pair_at, held_anew}
 use Rattle.hashlink_nodes.proofs.pool.Pool.take.Goals as goal
 

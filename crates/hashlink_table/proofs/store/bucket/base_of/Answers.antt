@@ -1,8 +1,6 @@
 -- A power of two less sixteen is a mask of the bits above the lowest four.
-use Rattle.std.proofs.Common.{◌≡◌, ℕ, ◌+◌, ◌-◌, ◌%◌, ◌^◌, bit_and, sym, subst, arith}
-use Rattle.std.proofs.lemmas.Nat.{pow_pos}
-use lib.Bits.{and_high}
-use lib.Pow.{mod-pow-add}
+use Rattle.hashlink_table.proofs.Names.{◌≡◌, ℕ, ◌+◌, ◌-◌, ◌%◌, ◌^◌, bit_and, sym, subst, arith, pow_pos}
+use Rattle.hashlink_table.proofs.Names.{and_high, mod-pow-add}
 use Rattle.hashlink_table.proofs.Groups.{groups_of}
 use Rattle.hashlink_table.proofs.store.bucket.base_of.Goals as goal
 

@@ -1,6 +1,5 @@
 -- A power of two less one is a mask of the low bits.
-use Rattle.std.proofs.Common.{◌≡◌, ℕ, ◌-◌, ◌%◌, bit_and, sym, subst}
-use Rattle.std.proofs.lemmas.Nat.{and_mask}
+use Rattle.hashlink_table.proofs.Names.{◌≡◌, ℕ, ◌-◌, ◌%◌, bit_and, sym, subst, and_mask}
 use Rattle.hashlink_table.proofs.store.bucket.bucket_of.Goals as goal
 
 pub returns : goal.returns

@@ -1,9 +1,6 @@
-use Rattle.std.proofs.Common.{◌≡◌, ℕ, ◌+◌, ◌<◌, List, [], ◌++◌, length, take, Option, None, Some, Global, Vec}
-use Rattle.std.proofs.Common.{vec_capacity, vec_len, ap, ◌∙◌, sym, arith}
-use Rattle.std.proofs.lemmas.List.{append-nil}
-use Rattle.hashlink_table.specs.declared.hashed.Hashed.{Hashed}
-use Rattle.hashlink_table.specs.declared.store.cell.Cell.{Cell}
-use Rattle.hashlink_table.specs.Chains.{kept_at, nodes_in, with_node}
+use Rattle.hashlink_table.proofs.Names.{◌≡◌, ℕ, ◌+◌, ◌<◌, List, [], ◌++◌, length, take, Option, None, Some}
+use Rattle.hashlink_table.proofs.Names.{Global, Vec, vec_capacity, vec_len, ap, ◌∙◌, sym, arith, append-nil}
+use Rattle.hashlink_table.proofs.Names.{Hashed, Cell, kept_at, nodes_in, with_node}
 use Rattle.hashlink_table.proofs.Cells.{kept_at_read}
 use Rattle.hashlink_table.proofs.Copying.{next_in}
 use Rattle.hashlink_table.proofs.store.growth.chained.Goals as goal

@@ -1,5 +1,4 @@
-use Rattle.std.proofs.Common.{◌≡◌, ◌≤◌, length, take, vec_capacity, vec_len}
-use Rattle.hashlink_table.specs.Chains.{nodes_in}
+use Rattle.hashlink_table.proofs.Names.{◌≡◌, ◌≤◌, length, take, vec_capacity, vec_len, nodes_in}
 use Rattle.hashlink_table.proofs.store.growth.chained.Given as goal
 
 -- the nodes of the first so many cells were pushed, and there is room for those of the others

@@ -1,8 +1,5 @@
-use Rattle.std.proofs.Common.{ap, ◌∙◌, arith, List}
-use Rattle.std.proofs.lemmas.List.Sorted.{IsPermutation-append_left}
-use Rattle.std.proofs.lemmas.Grind.{common_steps}
-use Rattle.hashlink_table.specs.declared.store.cell.Cell.{Cell}
-use Rattle.hashlink_table.specs.Chains.{nodes_in}
+use Rattle.hashlink_table.proofs.Names.{ap, ◌∙◌, arith, List, IsPermutation-append_left, common_steps, Cell}
+use Rattle.hashlink_table.proofs.Names.{nodes_in}
 use Rattle.hashlink_table.proofs.Doubling.{arranged-doubled, nodes_in-doubled}
 use Rattle.hashlink_table.proofs.store.growth.double.Goals as goal
 

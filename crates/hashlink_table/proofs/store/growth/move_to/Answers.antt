@@ -1,5 +1,4 @@
-use Rattle.std.proofs.Common.{arith}
-use Rattle.std.proofs.lemmas.Grind.{common_steps}
+use Rattle.hashlink_table.proofs.Names.{arith, common_steps}
 use Rattle.hashlink_table.proofs.store.growth.move_to.Goals as goal
 
 pub loop-cell-preserved : goal.loop-cell-preserved

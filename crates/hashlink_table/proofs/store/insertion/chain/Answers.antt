@@ -1,9 +1,5 @@
-use Rattle.std.proofs.Common.{◌-◌, ◌%◌, length, refl, ap, ◌∙◌, inl, inr, arith}
-use Rattle.std.proofs.lemmas.Bool.{cases_eq}
-use Rattle.std.proofs.lemmas.List.{length_push}
-use Rattle.hashlink_table.specs.declared.store.cell.Cell.{Cell}
-use Rattle.hashlink_table.specs.Chains.{AreTaken}
-use Rattle.hashlink_table.specs.Slots.{with_next}
+use Rattle.hashlink_table.proofs.Names.{◌-◌, ◌%◌, length, refl, ap, ◌∙◌, inl, inr, arith, cases_eq}
+use Rattle.hashlink_table.proofs.Names.{length_push, Cell, AreTaken, with_next}
 use Rattle.hashlink_table.proofs.Chaining.{chained, chained-nodes, free_within}
 use Rattle.hashlink_table.proofs.Moving.{arranged-same, next-same, next-others, overflow-put}
 use Rattle.hashlink_table.proofs.store.insertion.chain.Goals as goal

@@ -1,13 +1,6 @@
-use Rattle.std.proofs.Common.{◌≡◌, ◌+◌, ◌-◌, ◌/◌, ◌%◌, ◌≤◌, List, length, inl, None, Some, refl, sym, ap, map}
-use Rattle.std.proofs.Common.{◌∙◌, subst, arith}
-use Rattle.std.specs.Prelude.{is_none}
-use Rattle.std.proofs.lemmas.Option.{same_Some}
-use lib.Count.{count_trailing_zeros}
-use lib.Lanes.{mask_l}
-use Rattle.hashlink_table.specs.declared.hashed.Hashed.{Hashed}
-use Rattle.hashlink_table.specs.declared.store.cell.Cell.{Cell}
-use Rattle.hashlink_table.specs.Chains.{nodes_in}
-use Rattle.hashlink_table.specs.Slots.{lanes_of}
+use Rattle.hashlink_table.proofs.Names.{◌≡◌, ◌+◌, ◌-◌, ◌/◌, ◌%◌, ◌≤◌, List, length, inl, None, Some, refl}
+use Rattle.hashlink_table.proofs.Names.{sym, ap, map, ◌∙◌, subst, arith, is_none, same_Some}
+use Rattle.hashlink_table.proofs.Names.{count_trailing_zeros, mask_l, Hashed, Cell, nodes_in, lanes_of}
 use Rattle.hashlink_table.proofs.Groups.{group_within, grouped_in}
 use Rattle.hashlink_table.proofs.Masks.{all_taken, first_free, IsFree}
 use Rattle.hashlink_table.proofs.Moving.{arranged-set, set-nodes}

@@ -1,5 +1,4 @@
-use Rattle.std.proofs.Common.{eqb, w8, arith}
-use Rattle.std.proofs.lemmas.Simd.{length-chunk, bitmask_splat}
+use Rattle.hashlink_table.proofs.Names.{eqb, w8, arith, length-chunk, bitmask_splat}
 use lib.Lanes.{chunk}
 use Rattle.hashlink_table.proofs.store.lanes.lanes_with.Goals as goal
 

@@ -1,6 +1,4 @@
-use Rattle.std.proofs.Common.{◌≡◌, ℕ, ◌<◌, ◌≤◌}
-use Rattle.hashlink_table.specs.declared.store.cell.TheConstants.{END}
-use Rattle.hashlink_table.specs.Chains.{next_at}
+use Rattle.hashlink_table.proofs.Names.{◌≡◌, ℕ, ◌<◌, ◌≤◌, END, next_at}
 use Rattle.hashlink_table.proofs.store.removal.first_chained.Given as goal
 
 -- no bucket before this one has a chain

@@ -1,10 +1,6 @@
-use Rattle.std.proofs.Common.{◌≡◌, ◌/◌, ◌%◌, ◌<◌, inl, inr, length, None, Some, refl, sym, ap, ◌∙◌}
-use Rattle.std.proofs.Common.{arith}
-use Rattle.std.proofs.lemmas.Option.{same_Some}
-use Rattle.std.proofs.lemmas.List.Sorted.{IsPermutation-trans}
-use Rattle.std.proofs.lemmas.Grind.{common_steps}
-use Rattle.hashlink_table.specs.declared.hashed.Hashed.{Hashed}
-use Rattle.hashlink_table.specs.Chains.{chain_at, nodes_in}
+use Rattle.hashlink_table.proofs.Names.{◌≡◌, ◌/◌, ◌%◌, ◌<◌, inl, inr, length, None, Some, refl, sym, ap, ◌∙◌}
+use Rattle.hashlink_table.proofs.Names.{arith, same_Some, IsPermutation-trans, common_steps, Hashed, chain_at}
+use Rattle.hashlink_table.proofs.Names.{nodes_in}
 use Rattle.hashlink_table.proofs.Cells.{within_by_kept}
 use Rattle.hashlink_table.proofs.Chaining.{kept-same, on_hash}
 use Rattle.hashlink_table.proofs.Groups.{group_within, grouped_in}

@@ -1,6 +1,5 @@
-use Rattle.std.proofs.Common.{◌≡◌, ◌<◌, IsSome, get_or, length, sym, ap, ◌∙◌, subst, arith}
-use Rattle.hashlink_table.specs.declared.store.cell.Cell.{Cell}
-use Rattle.hashlink_table.specs.Chains.{kept_at}
+use Rattle.hashlink_table.proofs.Names.{◌≡◌, ◌<◌, IsSome, get_or, length, sym, ap, ◌∙◌, subst, arith, Cell}
+use Rattle.hashlink_table.proofs.Names.{kept_at}
 use Rattle.hashlink_table.proofs.Cells.{kept_at_read}
 use Rattle.hashlink_table.proofs.Linking.{free_small, linked-give}
 use Rattle.hashlink_table.proofs.Chaining.{on_within, on_some, taken-nodes, kept-same}

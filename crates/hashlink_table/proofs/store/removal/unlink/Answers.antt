@@ -1,7 +1,5 @@
-use Rattle.std.proofs.Common.{◌<◌, length, sym, ap, ◌∙◌, subst, inl, inr, arith}
-use Rattle.std.proofs.Math.Seq.{map-set_same}
-use Rattle.hashlink_table.specs.declared.store.cell.Cell.{Cell}
-use Rattle.hashlink_table.specs.Chains.{next_at, Among, SameNodes, stored_in}
+use Rattle.hashlink_table.proofs.Names.{◌<◌, length, sym, ap, ◌∙◌, subst, inl, inr, arith, map-set_same, Cell}
+use Rattle.hashlink_table.proofs.Names.{next_at, Among, SameNodes, stored_in}
 use Rattle.hashlink_table.proofs.Chaining.{on_within}
 use Rattle.hashlink_table.proofs.Cells.{kept_at_read, next_at_read}
 use Rattle.hashlink_table.proofs.Linking.{unlinked_first, unlinked_next}

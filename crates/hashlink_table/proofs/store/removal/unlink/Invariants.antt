@@ -1,5 +1,4 @@
-use Rattle.std.proofs.Common.{◌≢◌, ◌<◌, length}
-use Rattle.hashlink_table.specs.Chains.{next_at, chain_at, Among}
+use Rattle.hashlink_table.proofs.Names.{◌≢◌, ◌<◌, length, next_at, chain_at, Among}
 use Rattle.hashlink_table.proofs.Walks.{IsWalk, steps_left}
 use Rattle.hashlink_table.proofs.store.removal.unlink.Given as goal
 

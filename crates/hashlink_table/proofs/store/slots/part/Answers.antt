@@ -1,8 +1,6 @@
 -- Both halves of a cell are in their lists, and are what the contract says.
-use Rattle.std.proofs.Common.{slice_index_or, true, false, refl, arith}
-use Rattle.std.proofs.lemmas.Bool.{lt-ltb, le-ltb}
-use Rattle.std.proofs.lemmas.List.{length-set}
-use Rattle.hashlink_table.specs.declared.store.slots.Rest.{Rest}
+use Rattle.hashlink_table.proofs.Names.{slice_index_or, true, false, refl, arith, lt-ltb, le-ltb, length-set}
+use Rattle.hashlink_table.proofs.Names.{Rest}
 use Rattle.hashlink_table.proofs.Storing.{sizes}
 use Rattle.hashlink_table.proofs.Halves.{IsApart, parted_in}
 use Rattle.hashlink_table.proofs.store.slots.part.Given as given

@@ -1,11 +1,5 @@
-use Rattle.std.proofs.Common.{refl, sym, ap, ◌∙◌}
-use Rattle.std.specs.Option.{option_map}
-use Rattle.hashlink_model.specs.Entry.{value_at}
-use Rattle.hashlink_core.specs.Keyed.{entries_of}
-use Rattle.hashlink_core.specs.Places.{place_number}
-use Rattle.hashlink_map.specs.Cursor.{cursor_node}
-use Rattle.hashlink_map.specs.Standing.{still_placed}
-use Rattle.hashlink_core.proofs.Keeping.{at-guard}
+use Rattle.hashlink_map.proofs.Names.{refl, sym, ap, ◌∙◌, option_map, value_at, entries_of, place_number}
+use Rattle.hashlink_map.proofs.Names.{cursor_node, still_placed, at-guard}
 use Rattle.hashlink_map.proofs.Written.{cursor_written}
 use Rattle.hashlink_map.proofs.cursor.methods.CursorMut+K+V+S.current_value.Goals as goal
 

@@ -1,7 +1,4 @@
-use Rattle.std.proofs.Common.{subst, rules}
-use Rattle.hashlink_model.specs.MapState.{Inserts}
-use Rattle.hashlink_core.specs.Keyed.{state_of}
-use Rattle.hashlink_map.specs.Cursor.{cursor_node}
+use Rattle.hashlink_map.proofs.Names.{subst, rules, Inserts, state_of, cursor_node}
 use Rattle.hashlink_map.proofs.cursor.methods.CursorMut+K+V+S.insert_after.Goals as goal
 
 pub invariant_of-self : goal.invariant_of-self

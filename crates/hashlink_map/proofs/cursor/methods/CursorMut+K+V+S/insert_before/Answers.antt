@@ -1,8 +1,4 @@
-use Rattle.std.proofs.Common.{sym, subst}
-use Rattle.hashlink_model.specs.MapState.{Inserts}
-use Rattle.hashlink_core.specs.Keyed.{state_of}
-use Rattle.hashlink_core.specs.Places.{place_number}
-use Rattle.hashlink_map.specs.Cursor.{cursor_node}
+use Rattle.hashlink_map.proofs.Names.{sym, subst, Inserts, state_of, place_number, cursor_node}
 use Rattle.hashlink_map.proofs.Written.{same_place}
 use Rattle.hashlink_map.proofs.cursor.methods.CursorMut+K+V+S.insert_before.Goals as goal
 

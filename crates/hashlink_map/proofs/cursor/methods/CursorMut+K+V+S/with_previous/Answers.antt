@@ -1,6 +1,4 @@
-use Rattle.std.proofs.Common.{ap, rules}
-use Rattle.hashlink_map.specs.Cursor.{cursor_node}
-use Rattle.hashlink_map.specs.Standing.{IsPlace-prop}
+use Rattle.hashlink_map.proofs.Names.{ap, rules, cursor_node, IsPlace-prop}
 use Rattle.hashlink_map.proofs.cursor.methods.CursorMut+K+V+S.with_previous.Goals as goal
 
 -- whatever shows that its place is still of the list

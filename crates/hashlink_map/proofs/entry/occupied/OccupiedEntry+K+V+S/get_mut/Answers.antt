@@ -1,5 +1,4 @@
-use Rattle.std.proofs.Common.{refl}
-use Rattle.hashlink_map.specs.Standing.{still_holds_match}
+use Rattle.hashlink_map.proofs.Names.{refl, still_holds_match}
 use Rattle.hashlink_map.proofs.Written.{is_written, occupied_with-is}
 use Rattle.hashlink_map.proofs.entry.occupied.OccupiedEntry+K+V+S.get_mut.Goals as goal
 

@@ -1,8 +1,5 @@
-use Rattle.std.proofs.Common.{sym, ap, ◌∙◌, rules}
-use Rattle.std.specs.Option.{option_map}
-use Rattle.std.specs.Map.Iter.{deref_pair}
-use Rattle.hashlink_core.specs.Keyed.{entries_of}
-use Rattle.hashlink_core.proofs.Steps.{lookup_entry-place, lookup_entry-unplaced}
+use Rattle.hashlink_map.proofs.Names.{sym, ap, ◌∙◌, rules, option_map, deref_pair, entries_of}
+use Rattle.hashlink_map.proofs.Names.{lookup_entry-place, lookup_entry-unplaced}
 use Rattle.hashlink_map.proofs.raw_entry.builders.RawEntryBuilder.from_hash.Goals as goal
 
 pub returns-in_err-node : goal.returns-in_err-node

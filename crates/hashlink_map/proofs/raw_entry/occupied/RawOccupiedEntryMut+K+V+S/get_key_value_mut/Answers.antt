@@ -1,5 +1,4 @@
-use Rattle.std.proofs.Common.{refl}
-use Rattle.hashlink_map.specs.Standing.{still_holds}
+use Rattle.hashlink_map.proofs.Names.{refl, still_holds}
 use Rattle.hashlink_map.proofs.Written.{raw_is_written, raw_with-is}
 use Rattle.hashlink_map.proofs.raw_entry.occupied.RawOccupiedEntryMut+K+V+S.get_key_value_mut.Goals as goal
 

@@ -1,36 +1,17 @@
 -- `into_key` lends the key, and the entry's map ends as it was.
-use Rattle.std.proofs.Common.{◌≡◌, List, [], ◌∷◌, ◌++◌, refl, sym, ap, subst, ◌∙◌}
-use base.Logic.{SProp, ent, id⊢, via}
-use base.Fml.{ftrue, flft, fsep}
-use mir.Syntax.{a_type, named, ty_ptr, dcons, dnil}
-use mir.MapTy.{inst_fn}
-use mir.Val.{Val, of_list, vstruct, vptr}
-use prog.Wp.{WpFn}
-use types.Logic.{sem}
-use types.Kit.{‵, raw, ◌⊛◌, some, later, ◌$◌, ◌∵◌, !, qed, by, move, keep, drop, split, join, fsplit, fjoin}
-use types.Kit.{fpick, pick, await, rewrite, use0, use1, suffices, feq_l, done}
-use types.Part.{whole, sub}
-use types.Run.{stop, fld, of_opd, addr, and_then, no_more, returns, enter}
-use types.ByLocal.{alloc_all, pass_all, free_all, look_at, get, get_in, through, sets, lands_as}
-use contract.Running.{tables}
-use contract.BorrowLft.{◌⊑◌}
-use denote.Exit.{no}
-use denote.Laws.{shows}
-use denote.Param.{param, bounded}
-use denote.RattleType.{RattleType, owns}
-use denote.Ref.{MutRef, ShrRef, mut_vals, mut_Tells, shr_Tells}
-use denote.Signature.{types_at, plain, named_lft}
-use denote.Steps.{nothing, peeks, only}
-use denote.Struct.Struct.{as_fields}
-use denote.Triple.Call.{calls_at}
-use denote.Triple.Clauses.{lasts, Lasts, at_exit}
-use denote.Triple.Spec.{triple_of}
-use denote.Triple.Table.{framed}
-use denote.Triple.Walked.{Stays, stay_dropped, walk_of}
-use Rattle.std.proofs.raw_atomic.Walks.{proved_at, leaves}
-use Rattle.std.proofs.RcSteps.{word, word_ty, word-Good}
+use Rattle.hashlink_map.proofs.Names.{◌≡◌, List, [], ◌∷◌, ◌++◌, refl, sym, ap, subst, ◌∙◌, SProp, ent, id⊢}
+use Rattle.hashlink_map.proofs.Names.{via, ftrue, flft, fsep, a_type, named, ty_ptr, dcons, dnil, inst_fn}
+use Rattle.hashlink_map.proofs.Names.{Val, of_list, vstruct, vptr, WpFn, sem, ‵, raw, ◌⊛◌, some, later, ◌$◌}
+use Rattle.hashlink_map.proofs.Names.{◌∵◌, !, qed, by, move, keep, drop, split, join, fsplit, fjoin, fpick}
+use Rattle.hashlink_map.proofs.Names.{pick, await, rewrite, use0, use1, suffices, feq_l, done, whole, sub}
+use Rattle.hashlink_map.proofs.Names.{stop, fld, of_opd, addr, and_then, no_more, returns, enter, alloc_all}
+use Rattle.hashlink_map.proofs.Names.{pass_all, free_all, look_at, get, get_in, through, sets, lands_as}
+use Rattle.hashlink_map.proofs.Names.{tables, ◌⊑◌, no, shows, param, bounded, RattleType, owns, MutRef}
+use Rattle.hashlink_map.proofs.Names.{ShrRef, mut_vals, mut_Tells, shr_Tells, types_at, plain, named_lft}
+use Rattle.hashlink_map.proofs.Names.{nothing, peeks, only, as_fields, calls_at, lasts, Lasts, at_exit}
+use Rattle.hashlink_map.proofs.Names.{triple_of, framed, Stays, stay_dropped, walk_of, proved_at, leaves}
+use Rattle.hashlink_map.proofs.Names.{word, word_ty, word-Good, Holds}
 use Rattle.hashlink_map.proofs.PairSteps.{word_had, node_made, adds_fact}
-use Rattle.hashlink_core.specs.Places.{Holds}
 use Rattle.hashlink_core.specs.contracts.Node.{the_row as node_row}
 use Rattle.hashlink_map.specs.contracts.as_node.NodeAsNode.TheImpl
 use Rattle.hashlink_map.specs.contracts.map.LinkedHashMap as map

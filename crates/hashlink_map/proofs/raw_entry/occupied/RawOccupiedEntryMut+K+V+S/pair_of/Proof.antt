@@ -1,42 +1,19 @@
 -- `pair_of` lends the pair of an entry that is there, and hands the other on.
-use Rattle.std.proofs.Common.{◌≡◌, List, [], ◌∷◌, ◌++◌, refl, sym, ap, subst, ◌∙◌, lit<}
-use base.Logic.{SProp, ent, id⊢, via, emp}
-use base.Fml.{ftrue, flft, fsep}
-use mir.Syntax.{a_type, dcons, dnil}
-use mir.MapTy.{inst_fn}
-use mir.Val.{Val, of_list, vstruct}
-use prog.Wp.{WpFn, Wp, after_seq}
-use types.Logic.{sem}
-use types.Kit.{‵, raw, ◌⊛◌, some, later, at_ret, any_q, post, ◌$◌, ◌∵◌, !, qed, by, move, keep, drop, split}
-use types.Kit.{join, fsplit, fjoin, pick, await, rewrite, use0, use1, suffices, done}
-use types.Match.{live, vrt, in_variant}
-use types.Part.{whole, agg}
-use types.Run.{stop, fld, of_opd, lit, and_then, no_more, first, switches_on, exec, returns, enter}
-use types.ByLocal.{alloc_all, pass_all, free_all, look_at, get, get_in, get_tag, sets, sets_last, lands_as}
-use types.ByLocal.{env}
-use contract.Monad.{fact, fact_i}
-use contract.Lifetimes.{Lfts}
-use contract.Running.{tables}
-use denote.Exit.{no, Last, left}
-use denote.Laws.{Is, shows, Typed}
-use denote.Param.{bounded, layout, param}
-use denote.Param.Laws.{Laws}
-use Rattle.std.proofs.cell.Inside.{Good}
-use denote.RattleType.{RattleType, owns}
-use denote.Ref.{mut_vals, shr_vals}
-use denote.Signature.{types_at, plain}
-use denote.Steps.{nothing, peeks, only}
-use denote.Triple.Call.{calls_at}
-use denote.Triple.Clauses.{lasts, Lasts}
-use denote.Triple.Spec.{triple_of}
-use denote.Triple.Table.{framed}
-use denote.Triple.Walked.{Stays, stay_dropped, walk_of}
-use Rattle.std.proofs.alloc.Shapes.{after, head, arm_body}
-use Rattle.std.proofs.raw_atomic.Walks.{proved_at, leaves}
-use Rattle.std.proofs.ResultValues.{ok_of, err_of}
-use Rattle.std.specs.Prelude.{Ok, Err, Some, slice_get}
-use Rattle.hashlink_map.specs.RawEntry.{raw_occupied_state, raw_place}
-use Rattle.hashlink_map.specs.RawLends.{RawLendsForGood}
+use Rattle.hashlink_map.proofs.Names.{◌≡◌, List, [], ◌∷◌, ◌++◌, refl, sym, ap, subst, ◌∙◌, lit<, SProp, ent}
+use Rattle.hashlink_map.proofs.Names.{id⊢, via, emp, ftrue, flft, fsep, a_type, dcons, dnil, inst_fn, Val}
+use Rattle.hashlink_map.proofs.Names.{of_list, vstruct, WpFn, Wp, after_seq, sem, ‵, raw, ◌⊛◌, some, later}
+use Rattle.hashlink_map.proofs.Names.{at_ret, any_q, post, ◌$◌, ◌∵◌, !, qed, by, move, keep, drop, split}
+use Rattle.hashlink_map.proofs.Names.{join, fsplit, fjoin, pick, await, rewrite, use0, use1, suffices, done}
+use Rattle.hashlink_map.proofs.Names.{live, vrt, in_variant, whole, agg, stop, fld, of_opd, lit, and_then}
+use Rattle.hashlink_map.proofs.Names.{no_more, first, switches_on, exec, returns, enter, alloc_all, pass_all}
+use Rattle.hashlink_map.proofs.Names.{free_all, look_at, get, get_in, get_tag, sets, sets_last, lands_as, env}
+use Rattle.hashlink_map.proofs.Names.{fact, fact_i, Lfts, tables, no, Last, left, Is, shows, Typed, bounded}
+use Rattle.hashlink_map.proofs.Names.{layout, param, Laws, Good, RattleType, owns, mut_vals, shr_vals}
+use Rattle.hashlink_map.proofs.Names.{types_at, plain, nothing, peeks, only, calls_at, lasts, Lasts}
+use Rattle.hashlink_map.proofs.Names.{triple_of, framed, Stays, stay_dropped, walk_of, after, head, arm_body}
+use Rattle.hashlink_map.proofs.Names.{proved_at, leaves, ok_of, err_of, Ok, Err, slice_get}
+use Rattle.hashlink_map.proofs.Names.{raw_occupied_state, raw_place, RawLendsForGood}
+use Rattle.std.specs.Prelude.{Some}
 use Rattle.hashlink_map.proofs.PairRows.{Given, given_laws, Lent, Answer, Held, held_laws, Entered}
 use Rattle.hashlink_map.proofs.PairRows.{entered_laws}
 use Rattle.hashlink_map.proofs.PairValues.{valued, ok_had, err_had}

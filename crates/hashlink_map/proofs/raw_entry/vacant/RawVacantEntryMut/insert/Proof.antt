@@ -1,21 +1,9 @@
 -- `insert` lends the pair of the entry that `insert_entry` answers.
-use Rattle.std.proofs.Common.{[], ◌∷◌, refl}
-use base.Fml.{ftrue, fsep}
-use base.Logic.{via}
-use types.Kit.{‵, raw, ◌$◌, ◌∵◌, !, qed, done, fjoin}
-use types.Logic.{sem}
-use types.Run.{of_opd, and_then, no_more, returns, enter}
-use types.ByLocal.{alloc_all, pass_all, free_all, look_at, get, sets, lands_as}
-use contract.Lifetimes.{Lfts}
-use contract.Running.{tables}
-use denote.Exit.{no}
-use denote.Param.{param}
-use denote.Param.Laws.{param_laws}
-use denote.Signature.{plain}
-use denote.Steps.{nothing}
-use denote.Triple.Call.{calls_from}
-use denote.Triple.Table.{framed}
-use denote.Triple.Walked.{stay_dropped, Goes-dropped}
+use Rattle.hashlink_map.proofs.Names.{[], ◌∷◌, refl, ftrue, fsep, via, ‵, raw, ◌$◌, ◌∵◌, !, qed, done, fjoin}
+use Rattle.hashlink_map.proofs.Names.{sem, of_opd, and_then, no_more, returns, enter, alloc_all, pass_all}
+use Rattle.hashlink_map.proofs.Names.{free_all, look_at, get, sets, lands_as, Lfts, tables, no, param}
+use Rattle.hashlink_map.proofs.Names.{param_laws, plain, nothing, calls_from, framed, stay_dropped}
+use Rattle.hashlink_map.proofs.Names.{Goes-dropped}
 use Rattle.hashlink_map.proofs.EnterAndLend.{all_five, entered_and_lent, returned}
 use Rattle.hashlink_map.proofs.PairRows.{Answer, Entered, Vacant, vacant_laws}
 use Rattle.hashlink_map.proofs.PairValues.{value_of}

@@ -1,24 +1,9 @@
 -- `insert_hashed_nocheck` lends the pair of the entry that `insert_entry_hashed_nocheck` answers.
-use Rattle.std.proofs.Common.{[], ◌∷◌, refl}
-use base.Fml.{ftrue, fsep}
-use base.Logic.{sep, via}
-use mir.Syntax.{w64}
-use mir.Val.{vint}
-use types.Kit.{‵, raw, ◌$◌, ◌∵◌, !, qed, done, fjoin}
-use types.Logic.{sem}
-use types.Run.{of_opd, and_then, no_more, returns, enter}
-use types.ByLocal.{alloc_all, pass_all, free_all, look_at, get, sets, lands_as}
-use contract.Lifetimes.{Lfts}
-use contract.Running.{tables}
-use denote.Builtin.{u64}
-use denote.Exit.{no, yes}
-use denote.Param.{param}
-use denote.Param.Laws.{param_laws}
-use denote.Signature.{plain}
-use denote.Steps.{nothing}
-use denote.Triple.Call.{calls_from}
-use denote.Triple.Table.{framed}
-use denote.Triple.Walked.{stay_dropped, Goes-dropped}
+use Rattle.hashlink_map.proofs.Names.{[], ◌∷◌, refl, ftrue, fsep, sep, via, w64, vint, ‵, raw, ◌$◌, ◌∵◌, ! }
+use Rattle.hashlink_map.proofs.Names.{qed, done, fjoin, sem, of_opd, and_then, no_more, returns, enter}
+use Rattle.hashlink_map.proofs.Names.{alloc_all, pass_all, free_all, look_at, get, sets, lands_as, Lfts}
+use Rattle.hashlink_map.proofs.Names.{tables, u64, no, yes, param, param_laws, plain, nothing, calls_from}
+use Rattle.hashlink_map.proofs.Names.{framed, stay_dropped, Goes-dropped}
 use Rattle.hashlink_map.proofs.EnterAndLend.{all_five, entered_and_lent, returned}
 use Rattle.hashlink_map.proofs.PairRows.{Answer, Entered, Vacant, vacant_laws}
 use Rattle.hashlink_map.proofs.PairValues.{value_of}

@@ -13,25 +13,14 @@ use Rattle.hashlink_nodes.proofs.Walks.{sets, sets_last, env, no, part_at, param
 use Rattle.hashlink_nodes.proofs.Walks.{RattleType, owns, block_ptr, types_at, plain, heard, nothing, Stays}
 use Rattle.hashlink_nodes.proofs.Walks.{stay_dropped, walk_of, Goes-dropped, Al, α, handle_tells, after}
 use Rattle.hashlink_nodes.proofs.Walks.{proved_at, leaves}
-use Rattle.std.proofs.Common.{true, false}
-use Rattle.std.specs.Prelude.{Ok, Err}
-use base.Logic.{wand, apply∗}
-use base.Fml.{Share}
-use mir.Syntax.{Body}
-use prog.Wp.{Wp, after_seq, at_return}
+use Rattle.hashlink_nodes.proofs.Names.{true, false, Ok, Err, wand, apply∗, Share, Body, Wp, after_seq}
+use Rattle.hashlink_nodes.proofs.Names.{at_return, live, vrt, in_variant, lit, switches_on, get_tag, lands_as}
+use Rattle.hashlink_nodes.proofs.Names.{layout, calls_at, Answer-typed, Answered, seen, Lent, lends, Takes}
+use Rattle.hashlink_nodes.proofs.Names.{at_takes, Takes-goes, Takes-gives, answers, head, arm_body, ok_of}
+use Rattle.hashlink_nodes.proofs.Names.{err_of, first_Good, some_Good, block_room, block_type}
 use types.Kit.{Post as After, any_q}
-use types.Match.{live, vrt, in_variant}
-use types.Run.{lit, switches_on}
-use types.ByLocal.{get_tag, lands_as}
-use denote.Param.{layout}
-use denote.Triple.Call.{calls_at}
 use Rattle.std.specs.contracts.result.Result as result
-use Rattle.std.proofs.alloc.Calls.{Answer-typed, Answered, seen, Lent, lends, Takes, at_takes, Takes-goes}
-use Rattle.std.proofs.alloc.Calls.{Takes-gives, answers, Fits}
-use Rattle.std.proofs.alloc.Shapes.{head, arm_body}
-use Rattle.std.proofs.ResultValues.{ok_of, err_of}
-use Rattle.std.proofs.RcSteps.{first_Good, some_Good}
-use Rattle.hashlink_nodes.specs.Ownership.{block_room, block_type}
+use Rattle.std.proofs.alloc.Calls.{Fits}
 use Rattle.hashlink_nodes.proofs.LooseSteps.{both, Lo, loose_good, loose_in, written, Rejoins, block_cut}
 use Rattle.hashlink_nodes.specs.contracts.arena.loose.Loose.allocate.{ended, clauses}
 use Rattle.hashlink_nodes.specs.contracts.arena.loose.Loose.allocate.Key.{name as #self}

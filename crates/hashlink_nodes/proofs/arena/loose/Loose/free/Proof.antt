@@ -12,14 +12,9 @@ use Rattle.hashlink_nodes.proofs.Walks.{give_at, get, get_in, sets, env, no, par
 use Rattle.hashlink_nodes.proofs.Walks.{RattleType, owns, types_at, plain, heard, nothing, Stays}
 use Rattle.hashlink_nodes.proofs.Walks.{stay_dropped, walk_of, Al, α, Goes-blank, after, proved_at, leaves}
 use lib.Dec.{T as Holds}
-use mir.Syntax.{Tys, tcons, tnil, ty_ptr, ty_unit}
-use mir.Val.{Vals, has_ty, WT}
-use prog.Memory.{up}
-use types.Kit.{use3}
-use types.ByLocal.{lands_last}
-use denote.Triple.Call.{calls_at_last}
-use Rattle.std.proofs.alloc.Calls.{lends_field, takes_back, Gives, at_gives, Gives-goes, Gives-Gives}
-use Rattle.hashlink_nodes.specs.Ownership.{block_type}
+use Rattle.hashlink_nodes.proofs.Names.{Tys, tcons, tnil, ty_ptr, ty_unit, Vals, has_ty, WT, up, use3}
+use Rattle.hashlink_nodes.proofs.Names.{lands_last, calls_at_last, lends_field, takes_back, Gives, at_gives}
+use Rattle.hashlink_nodes.proofs.Names.{Gives-goes, Gives-Gives, block_type}
 use Rattle.hashlink_nodes.specs.contracts.arena.loose.Loose as loose
 use Rattle.hashlink_nodes.proofs.LooseSteps.{both, Lo, loose_good, loose_out, written, block_glue}
 use Rattle.hashlink_nodes.specs.contracts.arena.loose.Loose.free.{ended, clauses}

@@ -1,10 +1,6 @@
 -- Each cell is doubled in its turn, and the lists keep their lengths.
-use Rattle.std.proofs.Common.{◌≡◌, ◌*◌, ◌++◌, length, replicate, refl, sym, ap, ◌∙◌, subst, arith}
-use Rattle.std.specs.Int.{IsPowerOfTwo}
-use Rattle.std.specs.Vec.{with_items}
-use Rattle.std.proofs.lemmas.List.{with_items_is}
-use Rattle.hashlink_table.specs.Stored.{bare_cell}
-use Rattle.hashlink_table.specs.Slots.{parted}
+use Rattle.hashlink_table.proofs.Names.{◌≡◌, ◌*◌, ◌++◌, length, replicate, refl, sym, ap, ◌∙◌, subst, arith}
+use Rattle.hashlink_table.proofs.Names.{IsPowerOfTwo, with_items, with_items_is, bare_cell, parted}
 use Rattle.hashlink_table.proofs.Storing.{sizes}
 use Rattle.hashlink_table.proofs.Halves.{doubled-all, doubled-on, length-doubled_to, twice_power}
 use Rattle.hashlink_table.proofs.store.slots.Slots.double.Given as given

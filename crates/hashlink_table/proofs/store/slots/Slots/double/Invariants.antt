@@ -1,5 +1,4 @@
-use Rattle.std.proofs.Common.{◌≡◌}
-use Rattle.hashlink_table.specs.Slots.{cells_in, IsTagged}
+use Rattle.hashlink_table.proofs.Names.{◌≡◌, cells_in, IsTagged}
 use Rattle.hashlink_table.proofs.Halves.{doubled_to}
 use Rattle.hashlink_table.proofs.store.slots.Slots.double.Given as goal
 

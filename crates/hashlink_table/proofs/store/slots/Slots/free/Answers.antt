@@ -1,5 +1,4 @@
-use Rattle.std.proofs.Common.{eqb, length, ap, arith}
-use Rattle.std.specs.Prelude.{is_none}
+use Rattle.hashlink_table.proofs.Names.{eqb, length, ap, arith, is_none}
 use Rattle.hashlink_table.proofs.Storing.{agrees_free, group_tests, sizes}
 use Rattle.hashlink_table.proofs.store.slots.Slots.free.Goals as goal
 

@@ -1,6 +1,4 @@
-use Rattle.std.proofs.Common.{eqb, length, ap, arith}
-use Rattle.hashlink_table.specs.Stored.{tag_of}
-use Rattle.hashlink_table.specs.Slots.{may_be}
+use Rattle.hashlink_table.proofs.Names.{eqb, length, ap, arith, tag_of, may_be}
 use Rattle.hashlink_table.proofs.Storing.{agrees_may_have, group_tests, sizes}
 use Rattle.hashlink_table.proofs.store.slots.Slots.may_have.Goals as goal
 

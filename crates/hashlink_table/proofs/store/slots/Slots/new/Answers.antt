@@ -1,6 +1,4 @@
-use Rattle.std.proofs.Common.{[]}
-use Rattle.std.proofs.lemmas.List.Elements.{All-nil}
-use Rattle.hashlink_table.specs.Slots.{IsStored}
+use Rattle.hashlink_table.proofs.Names.{[], All-nil, IsStored}
 use Rattle.hashlink_table.proofs.store.slots.Slots.new.Goals as goal
 
 pub invariant_of-result : goal.invariant_of-result

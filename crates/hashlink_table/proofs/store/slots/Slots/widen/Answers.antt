@@ -1,7 +1,5 @@
 -- Each list grows by as many.
-use Rattle.std.proofs.Common.{◌++◌, replicate, refl}
-use Rattle.std.proofs.lemmas.List.{length-replicate}
-use Rattle.hashlink_table.specs.Stored.{bare_cell}
+use Rattle.hashlink_table.proofs.Names.{◌++◌, replicate, refl, length-replicate, bare_cell}
 use Rattle.hashlink_table.proofs.Storing.{bare_cells, more_cells, AreCells}
 use Rattle.hashlink_table.proofs.store.slots.Slots.widen.Given as given
 use Rattle.hashlink_table.proofs.store.slots.Slots.widen.Goals as goal

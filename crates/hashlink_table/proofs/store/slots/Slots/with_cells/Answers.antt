@@ -1,5 +1,4 @@
-use Rattle.std.proofs.Common.{length, ap, refl, ◌∙◌}
-use Rattle.std.proofs.lemmas.List.{length-replicate}
+use Rattle.hashlink_table.proofs.Names.{length, ap, refl, ◌∙◌, length-replicate}
 use Rattle.hashlink_table.proofs.Storing.{bare_cells}
 use Rattle.hashlink_table.proofs.store.slots.Slots.with_cells.Goals as goal
 

@@ -1,5 +1,4 @@
-use Rattle.std.proofs.Common.{[], length, ap, ◌∙◌}
-use Rattle.hashlink_table.specs.Contents.{Contents}
+use Rattle.hashlink_table.proofs.Names.{[], length, ap, ◌∙◌, Contents}
 use Rattle.hashlink_table.proofs.Sound.{sound-bare, contents-bare}
 use Rattle.hashlink_table.proofs.store.table.Table.clear.Goals as goal
 

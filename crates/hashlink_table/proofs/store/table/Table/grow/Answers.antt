@@ -1,11 +1,6 @@
-use Rattle.std.proofs.Common.{◌≡◌, ◌+◌, ◌*◌, ◌++◌, List, length, sym, ap, ◌∙◌, subst, arith}
-use Rattle.std.specs.Prelude.{IsPermutation}
-use Rattle.std.proofs.lemmas.Bool.{eqb-true, not-false}
-use Rattle.std.proofs.lemmas.List.{append-nil, length-append}
-use Rattle.std.proofs.lemmas.List.Sorted.{IsPermutation-trans, length_permutation}
-use Rattle.hashlink_table.specs.declared.store.cell.Cell.{Cell}
-use Rattle.hashlink_table.specs.Contents.{Contents}
-use Rattle.hashlink_table.specs.Chains.{nodes_in}
+use Rattle.hashlink_table.proofs.Names.{◌≡◌, ◌+◌, ◌*◌, ◌++◌, List, length, sym, ap, ◌∙◌, subst, arith}
+use Rattle.hashlink_table.proofs.Names.{IsPermutation, eqb-true, not-false, append-nil, length-append}
+use Rattle.hashlink_table.proofs.Names.{IsPermutation-trans, length_permutation, Cell, Contents, nodes_in}
 use Rattle.hashlink_table.proofs.Sound.{sound-doubled, sound-moved}
 use Rattle.hashlink_table.proofs.store.table.Table.grow.Goals as goal
 use Rattle.hashlink_table.proofs.store.table.Table.grow.Goals.{then-buckets-now, else-buckets-now}

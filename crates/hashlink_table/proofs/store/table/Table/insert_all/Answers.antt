@@ -1,6 +1,5 @@
-use Rattle.std.proofs.Common.{◌≡◌, ℕ, ◌+◌, ◌<◌, List, ◌∷◌, ◌++◌, [], length, take, slice_index_or, sym, ap}
-use Rattle.std.proofs.Common.{◌∙◌, arith}
-use Rattle.std.proofs.lemmas.List.{length-take, take_more}
+use Rattle.hashlink_table.proofs.Names.{◌≡◌, ℕ, ◌+◌, ◌<◌, List, ◌∷◌, ◌++◌, [], length, take, slice_index_or}
+use Rattle.hashlink_table.proofs.Names.{sym, ap, ◌∙◌, arith, length-take, take_more}
 use Rattle.hashlink_table.proofs.Copying.{has_room, one_copied}
 use Rattle.hashlink_table.proofs.store.table.Table.insert_all.Goals as goal
 

@@ -1,8 +1,5 @@
-use Rattle.std.proofs.Common.{◌∷◌, ◌++◌, ap, subst, arith}
-use Rattle.std.specs.Prelude.{IsPermutation}
-use Rattle.hashlink_table.specs.declared.hashed.Hashed.{Hashed}
-use Rattle.hashlink_table.specs.Chains.{nodes_in}
-use Rattle.hashlink_table.specs.Contents.{Contents, len_of}
+use Rattle.hashlink_table.proofs.Names.{◌∷◌, ◌++◌, ap, subst, arith, IsPermutation, Hashed, nodes_in}
+use Rattle.hashlink_table.proofs.Names.{Contents, len_of}
 use Rattle.hashlink_table.proofs.Sound.{full_overflow, sound-put}
 use Rattle.hashlink_table.proofs.store.table.Table.insert_reserved.Goals as goal
 

@@ -1,5 +1,4 @@
-use Rattle.std.proofs.Common.{take}
-use Rattle.hashlink_table.specs.Chains.{nodes_in}
+use Rattle.hashlink_table.proofs.Names.{take, nodes_in}
 use Rattle.hashlink_table.proofs.Copying.{IsCopied}
 use Rattle.hashlink_table.proofs.store.table.Table.insert_slots.Given as goal
 

@@ -1,10 +1,7 @@
-use Rattle.std.proofs.Common.{◌≡◌, ℕ, [], ◌++◌, List, length, sym, ap, ◌∙◌, subst, arith}
-use Rattle.std.specs.Prelude.{IsPermutation}
-use Rattle.std.proofs.lemmas.List.{length-append}
-use Rattle.std.proofs.lemmas.List.Sorted.{IsPermutation-append_left, IsPermutation-trans, length_permutation}
-use Rattle.hashlink_table.specs.declared.hashed.Hashed.{Hashed}
-use Rattle.hashlink_table.specs.Contents.{Contents, len_of}
-use Rattle.hashlink_table.specs.Chains.{nodes_in}
+use Rattle.hashlink_table.proofs.Names.{◌≡◌, ℕ, [], ◌++◌, List, length, sym, ap, ◌∙◌, subst, arith}
+use Rattle.hashlink_table.proofs.Names.{IsPermutation, length-append, IsPermutation-append_left}
+use Rattle.hashlink_table.proofs.Names.{IsPermutation-trans, length_permutation, Hashed, Contents, len_of}
+use Rattle.hashlink_table.proofs.Names.{nodes_in}
 use Rattle.hashlink_table.proofs.store.table.Table.rebuild.Goals as goal
 
 -- some nodes were put into an empty table

@@ -1,10 +1,5 @@
-use Rattle.std.proofs.Common.{◌∷◌, ◌++◌, true, length, sym, ap, ◌∙◌, subst}
-use Rattle.std.specs.Prelude.{IsPermutation}
-use Rattle.std.proofs.lemmas.Option.{same_Some}
-use Rattle.std.proofs.lemmas.List.{with_items_is}
-use Rattle.hashlink_table.specs.declared.hashed.Hashed.{Hashed}
-use Rattle.hashlink_table.specs.Contents.{Contents}
-use Rattle.hashlink_table.specs.Chains.{nodes_in}
+use Rattle.hashlink_table.proofs.Names.{◌∷◌, ◌++◌, true, length, sym, ap, ◌∙◌, subst, IsPermutation}
+use Rattle.hashlink_table.proofs.Names.{same_Some, with_items_is, Hashed, Contents, nodes_in}
 use Rattle.hashlink_table.proofs.Sound.{sound-take}
 use Rattle.hashlink_table.proofs.Views.{can_ask, no_cost, search_cost}
 use Rattle.hashlink_table.proofs.store.table.Table.remove_counted.Goals as goal

@@ -1,5 +1,4 @@
-use Rattle.std.proofs.Common.{ap, arith}
-use Rattle.hashlink_table.specs.Contents.{Contents, len_of}
+use Rattle.hashlink_table.proofs.Names.{ap, arith, Contents, len_of}
 use Rattle.hashlink_table.proofs.store.table.Table.reserve.Goals as goal
 
 pub returns-then-additional-self-clause-ok : goal.returns-then-additional-self-clause-ok

@@ -1,7 +1,4 @@
-use Rattle.std.proofs.Common.{length, ap, ◌∙◌}
-use Rattle.std.proofs.lemmas.List.{nil_from_length}
-use Rattle.std.proofs.lemmas.List.Sorted.{length_permutation}
-use Rattle.hashlink_table.specs.Contents.{Contents}
+use Rattle.hashlink_table.proofs.Names.{length, ap, ◌∙◌, nil_from_length, length_permutation, Contents}
 use Rattle.hashlink_table.proofs.store.table.Table.with_room.Goals as goal
 
 pub returns-clause-empty : goal.returns-clause-empty
