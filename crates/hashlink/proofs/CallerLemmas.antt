@@ -20,6 +20,7 @@ use Rattle.std.proofs.lemmas.List.Elements.{All-take, All-drop, All-push, All-fi
 use Rattle.std.proofs.lemmas.List.Sums.{AllPass-from_list_all}
 use Rattle.std.proofs.lemmas.List.Sorted.{IsNonDecreasingBy-drop, IsNonDecreasingBy-push}
 use Rattle.std.proofs.lemmas.Map.{NonePasses, keys-set_value}
+use Rattle.std.proofs.lemmas.Map.Entries.{place_from_lookup}
 use Rattle.std.proofs.lemmas.Map.Made.{is_some-lookup}
 use Rattle.std.proofs.lemmas.Option.{none-some, same_Some, slice_get-get_or}
 use Rattle.hashlink_model.specs.Cache.{CacheState, CacheInserts, cache_put}
@@ -45,7 +46,7 @@ use Rattle.hashlink_model.proofs.Finds.{lookup_is}
 use Rattle.hashlink_model.proofs.SetElements.{keys-filter, set_inserts}
 use Rattle.hashlink_model.proofs.SetViews.{keys_of-pairs_of, pairs_of-keys_of}
 use Rattle.hashlink_model.proofs.Splits.{Stands, splits, remove_entry-here, none_from_lookup}
-use Rattle.hashlink_model.proofs.Splits.{remove_entry-none, place_of-none, place_of-here}
+use Rattle.hashlink_model.proofs.Splits.{remove_entry-none, lookup_key-none, place_of-none, place_of-here}
 -- ---- handed on
 
 -- goal: `lookup`, or `lookup_entry`, at the key that was put, at another key, after a removal, and after a
@@ -118,6 +119,13 @@ module _ {K V : Type 0} (P : K × V → Type 0) where
   All-at [] j e h a = absurd (none-some e h)
   All-at (x ∷ es) zero e h a = subst P (same_Some x e h) (All-head P x es a)
   All-at (x ∷ es) (suc j) e h a = All-at es j e h (All-tail P x es a)
+
+  -- goal: P of what a look-up finds, at a key that passes its test
+  pub All-found : (test : K → Bool) (es : List (K × V)) (v : V) → lookup test es ≡ Some v → All P es
+      → (k : K) × P (k, v) × (test k ≡ true)
+  All-found test es v l a =
+      let at = place_from_lookup test es v l in
+      (at.1, All-at es at.0 (at.1, v) at.2 a, at.3)
 
   -- goal: `All P (moved_match test es b)`, so `All P (moved eq es k b)`, as after a move or a hit of a
   -- cache's `get`
@@ -286,7 +294,7 @@ by_first (y ∷ xs) None is = absurd (none-some y is)
 by_first (y ∷ xs) (Some x) is = ap (λ z. z ∷ xs) (same_Some y x (sym is))
 
 module _ {K V : Type 0} where
-  -- goal: `lookup` in one list of entries behind another
+  -- goal: `lookup` in one list of entries behind another, and `set_value` there
   pub lookup-append : (test : K → Bool) (xs ys : List (K × V))
       → lookup test (xs ++ ys) ≡ option_or (lookup test xs) (lookup test ys)
   lookup-append test [] ys = refl
@@ -297,6 +305,25 @@ module _ {K V : Type 0} where
           ≡ option_or (cond b (Some x.1) (lookup test xs)) (lookup test ys)
       by true h = refl
       by false h = h
+
+  pub set_value-append : (test : K → Bool) (xs ys : List (K × V)) (w : V)
+      → set_value test (xs ++ ys) w
+      ≡ cond (is_some (lookup test xs)) (set_value test xs w ++ ys) (xs ++ set_value test ys w)
+  set_value-append test [] ys w = refl
+  set_value-append test (x ∷ xs) ys w = by (test x.0) (set_value-append test xs ys w)
+    where
+      further : (b : Bool) → x ∷ cond b (set_value test xs w ++ ys) (xs ++ set_value test ys w)
+          ≡ cond b (x ∷ (set_value test xs w ++ ys)) (x ∷ (xs ++ set_value test ys w))
+      further true = refl
+      further false = refl
+
+      by : (b : Bool) → set_value test (xs ++ ys) w
+          ≡ cond (is_some (lookup test xs)) (set_value test xs w ++ ys) (xs ++ set_value test ys w)
+          → cond b ((x.0, w) ∷ (xs ++ ys)) (x ∷ set_value test (xs ++ ys) w)
+          ≡ cond (is_some (cond b (Some x.1) (lookup test xs)))
+          (cond b ((x.0, w) ∷ xs) (x ∷ set_value test xs w) ++ ys) (x ∷ (xs ++ set_value test ys w))
+      by true h = refl
+      by false h = ap (λ zs. x ∷ zs) h ∙ further (is_some (lookup test xs))
 
   -- goal: the entries after the first one moved last, as by `to_back` or a cache's `get`
   pub moved_first : (test : K → Bool) (e : K × V) (es : List (K × V)) → test e.0 ≡ true
@@ -548,6 +575,11 @@ module _ {T S : Type 0} (old new : SetState T S) where
 -- ---- the key object that is stored
 
 module _ {K V : Type 0} (eq : K → K → Bool) (es : List (K × V)) (k : K) where
+  -- goal: the stored key of an absent key is the one given
+  pub stored_key-absent : lookup (eq k) es ≡ None → stored_key eq es k ≡ k
+  stored_key-absent none = ap (λ o. unwrap_or o k)
+      (lookup_key-none (eq k) es (none_from_lookup (eq k) es none))
+
   -- goal: what is seen of the stored key is what is seen of the one given, where equal keys look alike: the
   -- very key for numbers (f is `λ x. x`), the bytes for texts (f is `string_bytes`)
   pub stored_key-seen : {B : Type 0} → IsEquivalence eq → (f : K → B)

@@ -7,5 +7,6 @@ returns g c = record {
   answer = inserts_answer;
   entries = inserts_entries;
   refused = inserts_refused;
-  nodes = λ eq old new k v s. omega (arith, ap length s.map.fits.entries, ap length s.map.inserts.adds.entries);
+  nodes = λ eq old new k v s.
+      omega (arith, ap length s.map.fits.entries, ap length s.map.inserts.adds.entries);
 }
