@@ -1,21 +1,31 @@
 -- What the calls of the keyed list leave, from the clauses of the ring and of the table.
-use Rattle.hashlink_core.proofs.Names.{◌≡◌, Result, Ok, Err, OnErr, ℕ, ◌+◌, ◌-◌, ◌≤◌, Bool, true, List, ◌∷◌}
-use Rattle.hashlink_core.proofs.Names.{◌++◌, length, drop, Option, None, Some, refl, ap, ap₂, sym, subst, ◌∙◌}
-use Rattle.hashlink_core.proofs.Names.{arith, length-drop, slice_get, insert, remove, IsPermutation}
-use Rattle.hashlink_core.proofs.Names.{IsDistinct, option_map, option_map_or, IfSome, IsEquivalence}
-use Rattle.hashlink_core.proofs.Names.{IsPowerOfTwo, lookup, remove_entry, set_value, keys_of, values_of}
-use Rattle.hashlink_core.proofs.Names.{NonePasses, lookup-none, length-values_of, following_place}
-use Rattle.hashlink_core.proofs.Names.{preceding_place, Changes, StoresAtMost, place_of, moved_at, place_left}
-use Rattle.hashlink_core.proofs.Names.{Node, Held, same_node, same_node_equiv, Holds, IsPlace, next_place}
-use Rattle.hashlink_core.proofs.Names.{prev_place, Ring, held, pair_of, with_key, MovesBefore, MovesAfter}
-use Rattle.hashlink_core.proofs.Names.{put_before, Contents, len_of, Keyed, nodes_of, pairs_in, entries_of}
-use Rattle.hashlink_core.proofs.Names.{state_of, keyed, seen_as, pair_with_value, pair_with_key, IsKeyed}
-use Rattle.hashlink_core.proofs.Names.{HoldsKey, with_value_at, place_number, IsPlaceAt, renewed_at, AddsNode}
-use Rattle.hashlink_core.proofs.Names.{RemovesNode, MovesNode, WritesNode, SetsNodeKey, GrowsRoom, IsInStep}
-use Rattle.hashlink_core.proofs.Names.{short}
-use Rattle.std.proofs.Common.{OnOk}
-use Rattle.hashlink_nodes.specs.Ring.{with_value}
+use Rattle.std.proofs.Common.{◌≡◌, Result, Ok, Err, OnOk, OnErr, ℕ, ◌+◌, ◌-◌, ◌≤◌, Bool, true, List, ◌∷◌}
+use Rattle.std.proofs.Common.{◌++◌, length, drop, Option, None, Some, refl, ap, ap₂, sym, subst, ◌∙◌, arith}
+use Rattle.std.proofs.Common.{length-drop}
+use Rattle.std.specs.Prelude.{slice_get, insert, remove, IsPermutation}
+use Rattle.std.specs.List.{IsDistinct}
+use Rattle.std.specs.Option.{option_map, option_map_or, IfSome}
+use Rattle.std.specs.Cmp.{IsEquivalence}
+use Rattle.std.specs.Int.{IsPowerOfTwo}
+use Rattle.std.specs.Map.{lookup, remove_entry, set_value, keys_of, values_of}
+use Rattle.std.proofs.lemmas.Map.{NonePasses, lookup-none}
+use Rattle.std.proofs.lemmas.Map.Entries.{length-values_of}
+use Rattle.hashlink_model.specs.Cursor.{following_place, preceding_place}
+use Rattle.hashlink_model.specs.MapState.{Changes, StoresAtMost}
+use Rattle.hashlink_model.specs.Entries.{place_of, moved_at, place_left}
+use Rattle.hashlink_nodes.specs.declared.node.Node.{Node}
+use Rattle.hashlink_nodes.specs.declared.held.Held.{Held}
+use Rattle.hashlink_nodes.specs.Node.{same_node, same_node_equiv}
+use Rattle.hashlink_nodes.specs.Ring.{Holds, IsPlace, next_place, prev_place, Ring, held, pair_of, with_value}
+use Rattle.hashlink_nodes.specs.Ring.{with_key, MovesBefore, MovesAfter, put_before}
 use Rattle.hashlink_nodes.specs.NodesLends.{with_value_at as ring_with_value_at}
+use Rattle.hashlink_table.specs.Contents.{Contents, len_of}
+use Rattle.hashlink_core.specs.Keyed.{Keyed, nodes_of, pairs_in, entries_of, state_of, keyed, seen_as}
+use Rattle.hashlink_core.specs.Keyed.{pair_with_value, pair_with_key, IsKeyed, HoldsKey}
+use Rattle.hashlink_core.specs.KeyedLends.{with_value_at}
+use Rattle.hashlink_core.specs.Places.{place_number, IsPlaceAt, renewed_at}
+use Rattle.hashlink_core.specs.Steps.{AddsNode, RemovesNode, MovesNode, WritesNode, SetsNodeKey, GrowsRoom}
+use Rattle.hashlink_core.specs.Tied.{IsInStep, short}
 use Rattle.hashlink_core.proofs.Edits.{insert-map, remove-map, length-inserted, length-removed, moved-map}
 use Rattle.hashlink_core.proofs.Edits.{remove_entry-at, moved_at-is, none-inserted, passes-at}
 use Rattle.hashlink_core.proofs.Mapped.{length-mapped, remove_entry-mapped, keys-mapped, lookup-mapped}

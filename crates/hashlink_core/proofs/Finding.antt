@@ -1,19 +1,32 @@
 -- Finding a key's node by the table. A node is marked by a number that is no short hash: so the table finds
 -- it, and so it is told from another.
-use Rattle.hashlink_core.proofs.Names.{◌++◌, ◌≡◌, ℕ, ◌^◌, ◌<◌, ◌≤◌, Bool, true, false, cond, eqb, eqb-true}
-use Rattle.hashlink_core.proofs.Names.{eq-eqb, List, ◌∷◌, Option, None, Some, refl, ap, sym, subst, ◌∙◌}
-use Rattle.hashlink_core.proofs.Names.{arith, ◌⊎◌, inl, inr, length, Bor, IsEquivalence, Shared, FnReturnsAt}
-use Rattle.hashlink_core.proofs.Names.{fold, lookup, remove_entry, set_value, keys_of, option_map, IfSome}
-use Rattle.hashlink_core.proofs.Names.{IfNone, MatchOption, is_some, IsTrue, IsPermutation, slice_get}
-use Rattle.hashlink_core.proofs.Names.{Contains, fun_ext, lookup-set_value, NonePasses, set_value_same}
-use Rattle.hashlink_core.proofs.Names.{Contains-from_lookup, lookup-from_Contains, place_of_its_key}
-use Rattle.hashlink_core.proofs.Names.{slice_get_here, Stands, splits, place_of-none, stands_from_lookup}
-use Rattle.hashlink_core.proofs.Names.{set_value-here, remove_entry-here, place_of, IsKeyTest, same_node}
-use Rattle.hashlink_core.proofs.Names.{same_node_equiv, eq-same_node, Ring, ring, Holds, pair_of, with_number}
-use Rattle.hashlink_core.proofs.Names.{Held, Node, Contents, Keeps, nodes_of, pairs_in, HoldsMatch}
-use Rattle.hashlink_core.proofs.Names.{place_number, Tells, IsInStep, short, hash_with}
-use Rattle.std.specs.Option.{is_some}
-use Rattle.std.specs.Prelude.{IfSome, IfNone}
+use Rattle.std.proofs.Common.{◌++◌, ◌≡◌, ℕ, ◌^◌, ◌<◌, ◌≤◌, Bool, true, false, cond, eqb, eqb-true, eq-eqb}
+use Rattle.std.proofs.Common.{List, ◌∷◌, Option, None, Some, refl, ap, sym, subst, ◌∙◌, arith, ◌⊎◌, inl, inr}
+use Rattle.std.proofs.Common.{length}
+use Rattle.std.specs.Borrow.{Bor}
+use Rattle.std.specs.Cmp.{IsEquivalence}
+use Rattle.std.specs.Fn.{Shared, FnReturnsAt}
+use Rattle.std.specs.List.{fold}
+use Rattle.std.specs.Map.{lookup, remove_entry, set_value, keys_of}
+use Rattle.std.specs.Option.{option_map, is_some, IfSome, IfNone, MatchOption}
+use Rattle.std.specs.Prelude.{is_some, IfSome, IfNone, IsTrue, IsPermutation, slice_get, Contains}
+use Rattle.std.proofs.Math.Path.{fun_ext}
+use Rattle.std.proofs.lemmas.Map.{lookup-set_value, NonePasses}
+use Rattle.std.proofs.lemmas.Map.Steps.{set_value_same}
+use Rattle.std.proofs.lemmas.Map.Views.{Contains-from_lookup, lookup-from_Contains}
+use Rattle.hashlink_model.proofs.Places.{place_of_its_key, slice_get_here}
+use Rattle.hashlink_model.proofs.Splits.{Stands, splits, place_of-none, stands_from_lookup, set_value-here}
+use Rattle.hashlink_model.proofs.Splits.{remove_entry-here}
+use Rattle.hashlink_model.specs.Entries.{place_of, IsKeyTest}
+use Rattle.hashlink_nodes.specs.Node.{same_node, same_node_equiv, eq-same_node}
+use Rattle.hashlink_nodes.specs.Ring.{Ring, ring, Holds, pair_of, with_number}
+use Rattle.hashlink_nodes.specs.declared.held.Held.{Held}
+use Rattle.hashlink_nodes.specs.declared.node.Node.{Node}
+use Rattle.hashlink_table.specs.Contents.{Contents, Keeps}
+use Rattle.hashlink_core.specs.Keyed.{nodes_of, pairs_in, HoldsMatch}
+use Rattle.hashlink_core.specs.Places.{place_number}
+use Rattle.hashlink_core.specs.Telling.{Tells}
+use Rattle.hashlink_core.specs.Tied.{IsInStep, short, hash_with}
 use Rattle.hashlink_core.proofs.Edits.{mapped-at, from_part, element-at, at-element}
 use Rattle.hashlink_core.proofs.Mapped.{lookup-mapped, place_number-mapped}
 use Rattle.hashlink_core.proofs.Places.{node-at}

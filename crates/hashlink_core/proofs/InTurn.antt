@@ -1,7 +1,9 @@
 -- Items that go in, in turn.
-use Rattle.hashlink_core.proofs.Names.{◌≡◌, ℕ, ◌+◌, ◌-◌, ◌^◌, List, [], ◌∷◌, ◌++◌, length, map, min, Result}
-use Rattle.hashlink_core.proofs.Names.{Ok, Err, refl, ap, ◌∙◌, arith, length-append, append_assoc, map-append}
-use Rattle.hashlink_core.proofs.Names.{AcceptsAll, StopsAt, accepts_in_parts}
+use Rattle.std.proofs.Common.{◌≡◌, ℕ, ◌+◌, ◌-◌, ◌^◌, List, [], ◌∷◌, ◌++◌, length, map, min, Result, Ok, Err}
+use Rattle.std.proofs.Common.{refl, ap, ◌∙◌, arith, length-append, append_assoc}
+use Rattle.std.proofs.lemmas.List.{map-append}
+use Rattle.hashlink_model.specs.Many.{AcceptsAll, StopsAt}
+use Rattle.hashlink_model.proofs.InTurn.{accepts_in_parts}
 
 module _ {State Item A : Type 0} (step : State → State → Item → Result A Item → Type 0) where
   -- one item more was accepted

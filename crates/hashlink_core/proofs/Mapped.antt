@@ -1,9 +1,14 @@
 -- Lists whose elements are seen through a function: the ring's entries as the pairs with their nodes, and
 -- those as the pairs alone.
-use Rattle.hashlink_core.proofs.Names.{◌≡◌, ℕ, zero, suc, Bool, true, false, cond, List, [], ◌∷◌, length}
-use Rattle.hashlink_core.proofs.Names.{Option, Some, refl, ap, map, option_map, lookup, remove_entry, keys_of}
-use Rattle.hashlink_core.proofs.Names.{values_of, length-map, set_value_at, set_key_at, Node, place_number}
-use Rattle.hashlink_core.proofs.Names.{renewed_at, pair_with_value, pair_with_key}
+use Rattle.std.proofs.Common.{◌≡◌, ℕ, zero, suc, Bool, true, false, cond, List, [], ◌∷◌, length, Option, Some}
+use Rattle.std.proofs.Common.{refl, ap, map}
+use Rattle.std.specs.Option.{option_map}
+use Rattle.std.specs.Map.{lookup, remove_entry, keys_of, values_of}
+use Rattle.std.proofs.lemmas.List.{length-map}
+use Rattle.hashlink_model.specs.Entries.{set_value_at, set_key_at}
+use Rattle.hashlink_nodes.specs.declared.node.Node.{Node}
+use Rattle.hashlink_core.specs.Places.{place_number, renewed_at}
+use Rattle.hashlink_core.specs.Keyed.{pair_with_value, pair_with_key}
 use Rattle.hashlink_core.proofs.Places.{same-number}
 
 module _ {X Y : Type 0} (f : X → Y) where

@@ -1,19 +1,31 @@
 -- The numbers of places, and the ring's words by places in terms of them.
-use Rattle.hashlink_core.proofs.Names.{◌≡◌, ◌≢◌, ℕ, zero, suc, ◌+◌, ◌<◌, ◌≤◌, Bool, true, false, cond, List}
-use Rattle.hashlink_core.proofs.Names.{[], ◌∷◌, length, Option, None, Some, refl, ap, sym, subst, ◌∙◌, arith}
-use Rattle.hashlink_core.proofs.Names.{add-one, ⊎_elim, nat_tests, slice_get, insert, remove, is_some}
-use Rattle.hashlink_core.proofs.Names.{option_map, IfSome, list_any, lookup, lookup_entry, remove_entry}
-use Rattle.hashlink_core.proofs.Names.{set_value, keys_of, cases_lt, lookup-remove_entry, length-keys_of}
-use Rattle.hashlink_core.proofs.Names.{is_some-lookup, insert_end, slice_get_within, IsEntries, place_left}
-use Rattle.hashlink_core.proofs.Names.{moved_at, lookup_is, slice_get-place_or_end, stands_from_lookup}
-use Rattle.hashlink_core.proofs.Names.{lookup_entry-here, Node, same_node, same_node_equiv, eq-same_node}
-use Rattle.hashlink_core.proofs.Names.{put_before, put_before_node, put_after, put_after_node, Holds, IsPlace}
-use Rattle.hashlink_core.proofs.Names.{MovesBefore, MovesAfter, place_number, renewed_at, mod-eq_of_lt}
-use Rattle.hashlink_core.proofs.Names.{mod_self}
+use Rattle.std.proofs.Common.{◌≡◌, ◌≢◌, ℕ, zero, suc, ◌+◌, ◌<◌, ◌≤◌, Bool, true, false, cond, List, [], ◌∷◌}
+use Rattle.std.proofs.Common.{length, Option, None, Some, refl, ap, sym, subst, ◌∙◌, arith, add-one, ⊎_elim}
+use Rattle.std.proofs.lemmas.Bool.Decides.{nat_tests}
+use Rattle.std.specs.Prelude.{slice_get, insert, remove, is_some}
+use Rattle.std.specs.Option.{option_map, IfSome}
+use Rattle.std.specs.List.{list_any}
+use Rattle.std.specs.Map.{lookup, lookup_entry, remove_entry, set_value, keys_of}
+use Rattle.std.proofs.lemmas.Bool.{cases_lt}
+use Rattle.std.proofs.lemmas.Map.{lookup-remove_entry}
+use Rattle.std.proofs.lemmas.Map.Entries.{length-keys_of}
+use Rattle.std.proofs.lemmas.Map.Made.{is_some-lookup}
+use Rattle.std.proofs.lemmas.List.Edits.{insert_end}
+use Rattle.std.proofs.lemmas.Option.{slice_get_within}
 use Rattle.hashlink_model.specs.Cursor as cursor
+use Rattle.hashlink_model.specs.Entries.{IsEntries, place_left, moved_at}
+use Rattle.hashlink_model.proofs.Finds.{lookup_is}
+use Rattle.hashlink_model.proofs.Places.{slice_get-place_or_end}
+use Rattle.hashlink_model.proofs.Splits.{stands_from_lookup, lookup_entry-here}
+use Rattle.hashlink_nodes.specs.declared.node.Node.{Node}
+use Rattle.hashlink_nodes.specs.Node.{same_node, same_node_equiv, eq-same_node}
+use Rattle.hashlink_nodes.specs.Ring.{put_before, put_before_node, put_after, put_after_node, Holds, IsPlace}
+use Rattle.hashlink_nodes.specs.Ring.{MovesBefore, MovesAfter}
+use Rattle.hashlink_core.specs.Places.{place_number, renewed_at}
 use Rattle.hashlink_core.proofs.Edits.{length-removed, place_or_end-cons, place_or_end-most, remove_entry-at}
 use Rattle.hashlink_core.proofs.Edits.{place_left-past, place_left-first, place_left-suc, moved_at-is}
 use Rattle.hashlink_core.proofs.Edits.{mapped-at}
+use native.Mathlib.Nat.{mod-eq_of_lt, mod_self}
 
 pub around : (n : ℕ) → cursor.following_place n n ≡ 0
 around n = mod_self (n + 1)

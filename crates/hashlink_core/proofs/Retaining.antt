@@ -1,14 +1,27 @@
 -- A retain, as it comes along the list: what it has kept, and what is left to call the closure on.
-use Rattle.hashlink_core.proofs.Names.{◌≡◌, suc, ◌+◌, ◌-◌, ◌<◌, Bool, true, false, cond, List, [], ◌∷◌, ◌++◌}
-use Rattle.hashlink_core.proofs.Names.{length, Option, None, Some, refl, ap, ap₂, sym, subst, ◌∙◌, arith}
-use Rattle.hashlink_core.proofs.Names.{filter, append_assoc, slice_get, remove, Bor, MutBor, Mut, Called}
-use Rattle.hashlink_core.proofs.Names.{IsDistinct, keys_of, remove_entry, CallableOnEachPair, CalledAtPair}
-use Rattle.hashlink_core.proofs.Names.{length-values_of, following_place, set_value_at, KeepsInOrder}
-use Rattle.hashlink_core.proofs.Names.{RetainsInOrder, KeepsOnly, length-set_value_at, keys-set_value_at}
-use Rattle.hashlink_core.proofs.Names.{set_value_at-here, remove-here, Node, same_node, IsPlace, Keyed}
-use Rattle.hashlink_core.proofs.Names.{IsKeyed, entries_of, state_of, pair_with_value, with_value_at}
-use Rattle.hashlink_core.proofs.Names.{place_number, IsPlaceAt, RemovesNode}
+use Rattle.std.proofs.Common.{◌≡◌, suc, ◌+◌, ◌-◌, ◌<◌, Bool, true, false, cond, List, [], ◌∷◌, ◌++◌, length}
+use Rattle.std.proofs.Common.{Option, None, Some, refl, ap, ap₂, sym, subst, ◌∙◌, arith, filter, append_assoc}
+use Rattle.std.specs.Prelude.{slice_get, remove}
+use Rattle.std.specs.Borrow.{Bor, MutBor}
+use Rattle.std.specs.Fn.{Mut, Called}
+use Rattle.std.specs.List.{IsDistinct}
+use Rattle.std.specs.Map.{keys_of, remove_entry}
+use Rattle.std.specs.Map.Calls.{CallableOnEachPair, CalledAtPair}
 use Rattle.std.proofs.lemmas.List.{length-append}
+use Rattle.std.proofs.lemmas.Map.Entries.{length-values_of}
+use Rattle.hashlink_model.specs.Cursor.{following_place}
+use Rattle.hashlink_model.specs.Entries.{set_value_at}
+use Rattle.hashlink_model.specs.Retain.{KeepsInOrder, RetainsInOrder}
+use Rattle.hashlink_model.specs.Steps.{KeepsOnly}
+use Rattle.hashlink_model.proofs.ByPlace.{length-set_value_at, keys-set_value_at, set_value_at-here}
+use Rattle.hashlink_model.proofs.ByPlace.{remove-here}
+use Rattle.hashlink_nodes.specs.declared.node.Node.{Node}
+use Rattle.hashlink_nodes.specs.Node.{same_node}
+use Rattle.hashlink_nodes.specs.Ring.{IsPlace}
+use Rattle.hashlink_core.specs.Keyed.{Keyed, IsKeyed, entries_of, state_of, pair_with_value}
+use Rattle.hashlink_core.specs.KeyedLends.{with_value_at}
+use Rattle.hashlink_core.specs.Places.{place_number, IsPlaceAt}
+use Rattle.hashlink_core.specs.Steps.{RemovesNode}
 use Rattle.hashlink_core.proofs.Edits.{place_left-before, remove_entry-at}
 use Rattle.hashlink_core.proofs.Keeping.{left-place}
 use Rattle.hashlink_core.proofs.Mapped.{values-renewed_value}

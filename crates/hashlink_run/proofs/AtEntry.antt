@@ -1,13 +1,24 @@
 -- What is done through an entry is a step at the place of its key.
-use Rattle.hashlink_run.proofs.Names.{◌≡◌, ℕ, ◌-◌, Bool, List, [], ◌∷◌, ◌++◌, length, slice_get, Option, None}
-use Rattle.hashlink_run.proofs.Names.{Some, refl, sym, ap, ap₂, ◌∙◌, subst, arith, length-append, true, false}
-use Rattle.hashlink_run.proofs.Names.{nat_lt, if◌then◌else◌, unwrap_or, lookup_entry, option_map, insert}
-use Rattle.hashlink_run.proofs.Names.{remove, IsErrAnd, none-some, same_Some, place_of, moved_at, EntryState}
-use Rattle.hashlink_run.proofs.Names.{entry_of, key_at, value_at, TakesEntry, MapState, AddsEntry, MovesAt}
-use Rattle.hashlink_run.proofs.Names.{RemovesAt, moved_at-last, split_at, slice_get_here, put_back_absent}
-use Rattle.hashlink_run.proofs.Names.{stands_from_place, lookup_entry-here, none_from_lookup, EntryStep}
-use Rattle.hashlink_run.proofs.Names.{Reply, Refused, reply_or_refused, OccupiedStep, VacantStep, EntrySteps}
-use Rattle.std.specs.Prelude.{Result, Ok, Err}
+use Rattle.std.proofs.Common.{◌≡◌, ℕ, ◌-◌, Bool, List, [], ◌∷◌, ◌++◌, length, slice_get, Option, None, Some}
+use Rattle.std.proofs.Common.{refl, sym, ap, ap₂, ◌∙◌, subst, arith, length-append, true, false, nat_lt}
+use Rattle.std.proofs.Common.{if◌then◌else◌, unwrap_or}
+use Rattle.std.specs.Map.{lookup_entry}
+use Rattle.std.specs.Option.{option_map}
+use Rattle.std.specs.Prelude.{Result, Ok, Err, insert, remove}
+use Rattle.std.specs.Result.{IsErrAnd}
+use Rattle.std.proofs.lemmas.Option.{none-some, same_Some}
+use Rattle.hashlink_model.specs.Entries.{place_of, moved_at}
+use Rattle.hashlink_model.specs.Entry.{EntryState, entry_of, key_at, value_at, TakesEntry}
+use Rattle.hashlink_model.specs.MapState.{MapState, AddsEntry, MovesAt, RemovesAt}
+use Rattle.hashlink_model.proofs.ByPlace.{moved_at-last}
+use Rattle.hashlink_model.proofs.Places.{split_at, slice_get_here}
+use Rattle.hashlink_model.proofs.Puts.{put_back_absent}
+use Rattle.hashlink_model.proofs.Splits.{stands_from_place, lookup_entry-here, none_from_lookup}
+use Rattle.hashlink_run.specs.declared.commands.EntryStep.{EntryStep}
+use Rattle.hashlink_run.specs.declared.replies.Reply.{Reply}
+use Rattle.hashlink_run.specs.declared.replies.Reply.TheVariants.{Refused}
+use Rattle.hashlink_run.specs.CallReplies.{reply_or_refused}
+use Rattle.hashlink_run.specs.EntrySteps.{OccupiedStep, VacantStep, EntrySteps}
 use Rattle.hashlink_run.proofs.Moved.{lookup_entry-absent}
 
 module _ {K V B S : Type 0} (eq : K → K → Bool) (Says : K → V → B → Type 0) {m : MapState K V S} {k : K}

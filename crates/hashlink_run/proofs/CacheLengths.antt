@@ -1,12 +1,21 @@
 -- Along the steps of a cache: how much longer than its capacity it is.
-use Rattle.hashlink_run.proofs.Names.{◌≡◌, ℕ, ◌+◌, ◌-◌, ◌≤◌, Bool, true, List, length, Some, ◌⊎◌, inl, inr}
-use Rattle.hashlink_run.proofs.Names.{⊎_elim, refl, sym, ap, subst, arith, lookup_entry, CacheState, IsWithin}
-use Rattle.hashlink_run.proofs.Names.{EvictsFront, MapState, first_of, within-inserts, within-gets}
-use Rattle.hashlink_run.proofs.Names.{within-removes, within-sets, within-clears, within-pops_front}
-use Rattle.hashlink_run.proofs.Names.{front_evicted-at_most, CacheCommand, EntryStep, Reply, names_no_entry}
-use Rattle.hashlink_run.proofs.Names.{KeepsBounds, StaysBounded, CacheStep, CacheRun, CacheRuns, Answered}
-use Rattle.hashlink_run.proofs.Names.{EntrySteps}
+use Rattle.std.proofs.Common.{◌≡◌, ℕ, ◌+◌, ◌-◌, ◌≤◌, Bool, true, List, length, Some, ◌⊎◌, inl, inr}
+use Rattle.std.proofs.Common.{⊎_elim, refl, sym, ap, subst, arith}
+use Rattle.std.specs.Map.{lookup_entry}
+use Rattle.hashlink_model.specs.Cache.{CacheState, IsWithin, EvictsFront}
+use Rattle.hashlink_model.specs.MapState.{MapState}
+use Rattle.hashlink_model.specs.Walk.{first_of}
+use Rattle.hashlink_model.proofs.CacheBounds.{within-inserts, within-gets, within-removes, within-sets}
+use Rattle.hashlink_model.proofs.CacheBounds.{within-clears, within-pops_front}
+use Rattle.hashlink_model.proofs.Caches.{front_evicted-at_most}
+use Rattle.hashlink_run.specs.declared.cache_commands.CacheCommand.{CacheCommand}
 use Rattle.hashlink_run.specs.declared.cache_commands.CacheCommand.TheVariants as cache
+use Rattle.hashlink_run.specs.declared.commands.EntryStep.{EntryStep}
+use Rattle.hashlink_run.specs.declared.replies.Reply.{Reply}
+use Rattle.hashlink_run.specs.CacheRun.{names_no_entry, KeepsBounds, StaysBounded}
+use Rattle.hashlink_run.specs.CacheStep.{CacheStep, CacheRun, CacheRuns}
+use Rattle.hashlink_run.specs.Chain.{Answered}
+use Rattle.hashlink_run.specs.EntrySteps.{EntrySteps}
 use Rattle.hashlink_run.proofs.CachePuts.{use_cases}
 use Rattle.hashlink_run.proofs.Chained.{Chain-between, Chain-keeps}
 use Rattle.hashlink_run.proofs.EntryNodes.{entry-leaves}

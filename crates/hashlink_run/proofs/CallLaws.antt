@@ -1,14 +1,24 @@
 -- What holds of every list of calls of caches that start empty.
-use Rattle.hashlink_run.proofs.Names.{◌≡◌, ℕ, zero, suc, ◌+◌, ◌≤◌, Bool, cond, List, [], ◌∷◌, take, map}
-use Rattle.hashlink_run.proofs.Names.{slice_get, Result, Ok, Err, OnOk, Option, None, Some, is_some, is_none}
-use Rattle.hashlink_run.proofs.Names.{refl, sym, ap, ap₂, ◌∙◌, IsEquivalence, count_by, lookup, keys_of}
-use Rattle.hashlink_run.proofs.Names.{sum_by-cons, same_Some, CacheState, CacheUses, cache_use, missed_uses}
-use Rattle.hashlink_run.proofs.Names.{CacheEvent, used_keys, answer_to, after_event, after_events, answers}
-use Rattle.hashlink_run.proofs.Names.{IsEntries, keys_along, finds_along, entries_along, finds_the_same_along}
-use Rattle.hashlink_run.proofs.Names.{holds_along, answers_along, IsEntries-after_events, uses_entries}
-use Rattle.hashlink_run.proofs.Names.{IsEntries-nil, competitive, missed_uses-history, held_exactly}
-use Rattle.hashlink_run.proofs.Names.{HoldsRecent-cache_use, RunsFromEmpty, use_of, Includes, FollowsHistory}
-use Rattle.hashlink_run.proofs.Names.{MissesOfHistory, BearsComparison, UsedLast}
+use Rattle.std.proofs.Common.{◌≡◌, ℕ, zero, suc, ◌+◌, ◌≤◌, Bool, cond, List, [], ◌∷◌, take, map, slice_get}
+use Rattle.std.proofs.Common.{Result, Ok, Err, OnOk, Option, None, Some, is_some, is_none, refl, sym, ap, ap₂}
+use Rattle.std.proofs.Common.{◌∙◌}
+use Rattle.std.specs.Cmp.{IsEquivalence}
+use Rattle.std.specs.List.{count_by}
+use Rattle.std.specs.Map.{lookup, keys_of}
+use Rattle.std.proofs.lemmas.List.Sums.{sum_by-cons}
+use Rattle.std.proofs.lemmas.Option.{same_Some}
+use Rattle.hashlink_model.specs.Cache.{CacheState, CacheUses, cache_use, missed_uses}
+use Rattle.hashlink_history.specs.CacheRuns.{CacheEvent, used_keys, answer_to, after_event, after_events}
+use Rattle.hashlink_history.specs.CacheRuns.{answers}
+use Rattle.hashlink_model.specs.Entries.{IsEntries}
+use Rattle.hashlink_history.proofs.CacheRuns.{keys_along, finds_along, entries_along, finds_the_same_along}
+use Rattle.hashlink_history.proofs.CacheRuns.{holds_along, answers_along, IsEntries-after_events}
+use Rattle.hashlink_model.proofs.CacheSteps.{uses_entries}
+use Rattle.hashlink_model.proofs.Distinct.{IsEntries-nil}
+use Rattle.hashlink_history.proofs.Competitive.{competitive, missed_uses-history}
+use Rattle.hashlink_history.proofs.Reuse.{held_exactly, HoldsRecent-cache_use}
+use Rattle.hashlink_run.specs.CacheCalls.{RunsFromEmpty, use_of}
+use Rattle.hashlink_run.specs.CacheLaws.{Includes, FollowsHistory, MissesOfHistory, BearsComparison, UsedLast}
 
 module _ {K V : Type 0} (eq : K → K → Bool) where
   -- the answer to the call at the place n is what its key has after the calls before it

@@ -1,8 +1,13 @@
 -- What a keep leaves by one closure, another may leave that answers at least what it answers.
-use Rattle.hashlink_run.proofs.Names.{◌≡◌, Bool, Contains, List, [], ◌∷◌, arith, refl, subst, sym, filter}
-use Rattle.hashlink_run.proofs.Names.{FoldsTo, CallableOnEachPair, SomeCallAtPair, Contains-append_right}
-use Rattle.hashlink_run.proofs.Names.{MapState, KeepsInOrder, RetainsInOrder, KeepsOnly}
-use Rattle.hashlink_run.proofs.Names.{retained_by_predicate, AskedAt, KeepsWhere}
+use Rattle.std.proofs.Common.{◌≡◌, Bool, Contains, List, [], ◌∷◌, arith, refl, subst, sym, filter}
+use Rattle.std.specs.List.{FoldsTo}
+use Rattle.std.specs.Map.Calls.{CallableOnEachPair, SomeCallAtPair}
+use Rattle.std.proofs.lemmas.List.Elements.{Contains-append_right}
+use Rattle.hashlink_model.specs.MapState.{MapState}
+use Rattle.hashlink_model.specs.Retain.{KeepsInOrder, RetainsInOrder}
+use Rattle.hashlink_model.specs.Steps.{KeepsOnly}
+use Rattle.hashlink_model.proofs.Filtered.{retained_by_predicate}
+use Rattle.hashlink_run.specs.Keeps.{AskedAt, KeepsWhere}
 
 module _ {F K V : Type 0} (T : F → K → V → Bool → V → F → Type 0) (Keeps : K → V → Bool → Type 0) (f : F)
     (asks : (k : K) (v : V) (b : Bool) (w : V) (g : F) → T f k v b w g → Keeps k v b

@@ -1,5 +1,4 @@
 -- Lemmas on runs of commands.
-pub mod Names
 pub mod AtEntry
 pub mod CursorProgress
 pub mod Kept

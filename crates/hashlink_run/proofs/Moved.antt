@@ -1,11 +1,19 @@
 -- A pair that was moved to an end and lent: where nothing is written it has moved, and it stands at that end.
-use Rattle.hashlink_run.proofs.Names.{◌≡◌, ℕ, ◌-◌, Bool, List, [], ◌∷◌, ◌++◌, length, Option, None, Some}
-use Rattle.hashlink_run.proofs.Names.{refl, sym, ap, ◌∙◌, subst, arith, length-append, MatchOption}
-use Rattle.hashlink_run.proofs.Names.{IsEquivalence, option_map, lookup, lookup_entry, set_value_same}
-use Rattle.hashlink_run.proofs.Names.{IsEntries, moved, stored_key, without, MapState, Changes, Moves}
-use Rattle.hashlink_run.proofs.Names.{MovesAndWrites, first_of, last_of, lookup-moved, moved-there, lookup_is}
-use Rattle.hashlink_run.proofs.Names.{lookup_key_is, slice_get_here, put_back, put_front, lookup_entry-none}
-use Rattle.hashlink_run.proofs.Names.{none_from_lookup}
+use Rattle.std.proofs.Common.{◌≡◌, ℕ, ◌-◌, Bool, List, [], ◌∷◌, ◌++◌, length, Option, None, Some, refl, sym}
+use Rattle.std.proofs.Common.{ap, ◌∙◌, subst, arith, length-append, MatchOption}
+use Rattle.std.specs.Cmp.{IsEquivalence}
+use Rattle.std.specs.Option.{option_map}
+use Rattle.std.specs.Map.{lookup, lookup_entry}
+use Rattle.std.proofs.lemmas.Map.Steps.{set_value_same}
+use Rattle.hashlink_model.specs.Entries.{IsEntries, moved, stored_key, without}
+use Rattle.hashlink_model.specs.MapState.{MapState, Changes}
+use Rattle.hashlink_model.specs.Steps.{Moves, MovesAndWrites}
+use Rattle.hashlink_model.specs.Walk.{first_of, last_of}
+use Rattle.hashlink_model.proofs.Afterwards.{lookup-moved, moved-there}
+use Rattle.hashlink_model.proofs.Finds.{lookup_is, lookup_key_is}
+use Rattle.hashlink_model.proofs.Places.{slice_get_here}
+use Rattle.hashlink_model.proofs.Puts.{put_back, put_front}
+use Rattle.hashlink_model.proofs.Splits.{lookup_entry-none, none_from_lookup}
 
 module _ {K V : Type 0} (eq : K → K → Bool) (es : List (K × V)) (k : K) (v : V) where
   stored_pair : (e : Option (K × V)) → lookup_entry (eq k) es ≡ e → lookup (eq k) es ≡ Some v

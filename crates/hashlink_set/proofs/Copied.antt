@@ -1,8 +1,13 @@
 -- What std's `copied` gave and read, said of the references that it copied.
-use Rattle.hashlink_set.proofs.Names.{◌≡◌, List, map, Option, None, Some, sym, none-some, same_Some, Bor}
-use Rattle.hashlink_set.proofs.Names.{copied_source, copied_steps, deref, Copied, GivesAll, GivesSome}
-use Rattle.hashlink_set.proofs.Names.{ReadsAll, ReadsSome, copies_all, copies_some}
+use Rattle.std.proofs.Common.{◌≡◌, List, map, Option, None, Some, sym}
+use Rattle.std.proofs.lemmas.Option.{none-some, same_Some}
+use Rattle.std.specs.Borrow.{Bor}
+use Rattle.std.specs.Iterator.Adapters.{copied_source, copied_steps}
+use Rattle.std.specs.Map.Iter.{deref}
 use Rattle.std.specs.Option.{option_copied}
+use Rattle.std.specs.declared.iter.Copied.{Copied}
+use Rattle.hashlink_map.specs.Reading.{GivesAll, GivesSome, ReadsAll, ReadsSome}
+use Rattle.hashlink_map.proofs.Copying.{copies_all, copies_some}
 
 module _ {It T : Type 0} (nexts : It → Option (Bor T) → It → Type 0) where
   none_of : (s t : It) (o : Option (Bor T)) → nexts s o t → None ≡ option_copied o → nexts s None t

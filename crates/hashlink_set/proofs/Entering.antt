@@ -1,8 +1,10 @@
 -- The elements after an insert and a replace, by their answers.
-use Rattle.hashlink_set.proofs.Names.{◌≡◌, Bool, not, length, Option, Result, Ok, Err, refl, sym, ◌∙◌, IfOk}
-use Rattle.hashlink_set.proofs.Names.{IsOk, IsTrue, OnOk, find, is_member, SetState, elements_of, put_element}
-use Rattle.hashlink_set.proofs.Names.{replaced, SetInserts, SetReplaces, inserts_refused, set_inserts}
-use Rattle.hashlink_set.proofs.Names.{set_replaces}
+use Rattle.std.proofs.Common.{◌≡◌, Bool, not, length, Option, Result, Ok, Err, refl, sym, ◌∙◌}
+use Rattle.std.specs.Prelude.{IfOk, IsOk, IsTrue, OnOk}
+use Rattle.std.specs.List.{find}
+use Rattle.std.specs.Set.{is_member}
+use Rattle.hashlink_model.specs.Sets.{SetState, elements_of, put_element, replaced, SetInserts, SetReplaces}
+use Rattle.hashlink_model.proofs.SetElements.{inserts_refused, set_inserts, set_replaces}
 
 module _ {T S : Type 0} (eq : T → T → Bool) (old new : SetState T S) (t : T) where
   pub inserts_by_answer : (r : Result Bool T) → SetInserts eq old new t r

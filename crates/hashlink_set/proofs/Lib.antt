@@ -1,4 +1,3 @@
-pub mod Names
 pub mod Looking
 pub mod Lookups
 pub mod Copied

@@ -1,12 +1,21 @@
 -- What a step of a lazy walk looks at, gives and leaves.
-use Rattle.hashlink_set.proofs.Names.{◌≡◌, ℕ, ◌+◌, ◌^◌, ◌≤◌, nat_lt, Bool, true, false, cond, List, [], ◌∷◌}
-use Rattle.hashlink_set.proofs.Names.{filter, not, Option, None, Some, refl, sym, ap, ap₂, ◌∙◌, beq}
-use Rattle.hashlink_set.proofs.Names.{option_copied, is_none, IfSome, at_most, UpTo, is_member, Bor}
-use Rattle.hashlink_set.proofs.Names.{TakesFirst, deref, PairWalk, first_passing, left_or_right, left_to_give}
-use Rattle.hashlink_set.proofs.Names.{is_nil, at_most_both, elements_in, first_passing-takes, pair_step-takes}
-use Rattle.hashlink_set.proofs.Names.{lacks, sifts, LooksOn, LooksOnBoth, SiftedSteps, union_walk, UnionSteps}
-use Rattle.hashlink_set.proofs.Names.{symmetric_difference_walk, SymmetricDifferenceSteps, Sifted}
-use Rattle.hashlink_set.proofs.Names.{SymmetricDifference, Union}
+use Rattle.std.proofs.Common.{◌≡◌, ℕ, ◌+◌, ◌^◌, ◌≤◌, nat_lt, Bool, true, false, cond, List, [], ◌∷◌, filter}
+use Rattle.std.proofs.Common.{not, Option, None, Some, refl, sym, ap, ap₂, ◌∙◌}
+use Rattle.std.specs.Bool.{beq}
+use Rattle.std.specs.Prelude.{option_copied, is_none, IfSome}
+use Rattle.std.specs.Iterator.{at_most, UpTo}
+use Rattle.std.specs.Set.{is_member}
+use Rattle.std.specs.Borrow.{Bor}
+use Rattle.std.specs.Map.Iter.{TakesFirst, deref}
+use Rattle.hashlink_model.specs.Algebra.{PairWalk, first_passing, left_or_right, left_to_give, is_nil}
+use Rattle.hashlink_model.specs.Algebra.{at_most_both}
+use Rattle.hashlink_set.specs.Elements.{elements_in}
+use Rattle.hashlink_model.proofs.LazyWalks.{first_passing-takes, pair_step-takes}
+use Rattle.hashlink_set.specs.Walks.{lacks, sifts, LooksOn, LooksOnBoth, SiftedSteps, union_walk, UnionSteps}
+use Rattle.hashlink_set.specs.Walks.{symmetric_difference_walk, SymmetricDifferenceSteps}
+use Rattle.hashlink_set.specs.declared.sifted.Sifted.{Sifted}
+use Rattle.hashlink_set.specs.declared.symmetric_difference.SymmetricDifference.{SymmetricDifference}
+use Rattle.hashlink_set.specs.declared.union.Union.{Union}
 
 module _ {T : Type 0} where
   -- a step on a list seen through references

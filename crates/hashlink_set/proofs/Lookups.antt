@@ -1,7 +1,11 @@
 -- What the map's lookups say of a set's elements.
-use Rattle.hashlink_set.proofs.Names.{◌≡◌, Bool, List, is_some, option_map, sym, ap, ◌∙◌, find, list_any}
-use Rattle.hashlink_set.proofs.Names.{keys_of, lookup_entry, is_some-lookup, lookup_is, lookup_key_is}
-use Rattle.hashlink_set.proofs.Names.{find-keys, is_some-map}
+use Rattle.std.proofs.Common.{◌≡◌, Bool, List, is_some, option_map, sym, ap, ◌∙◌}
+use Rattle.std.specs.List.{find, list_any}
+use Rattle.std.specs.Map.{keys_of, lookup_entry}
+use Rattle.std.proofs.lemmas.Map.Made.{is_some-lookup}
+use Rattle.hashlink_model.proofs.Finds.{lookup_is, lookup_key_is}
+use Rattle.hashlink_model.proofs.SetElements.{find-keys}
+use Rattle.hashlink_core.proofs.AtKeyNode.{is_some-map}
 
 module _ {T : Type 0} (es : List (T × Unit {0})) where
   -- the element that an entry has

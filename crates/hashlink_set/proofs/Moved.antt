@@ -1,7 +1,10 @@
 -- A move of an element, as the map's move of a key whose value is nothing.
-use Rattle.hashlink_set.proofs.Names.{◌≡◌, ℕ, Bool, true, false, cond, List, [], ◌∷◌, Some, refl, sym, ap}
-use Rattle.hashlink_set.proofs.Names.{subst, ◌∙◌, lookup, set_value, moved_match, Changes, MovesMatch}
-use Rattle.hashlink_set.proofs.Names.{MovesMatchAndWrites, SetState}
+use Rattle.std.proofs.Common.{◌≡◌, ℕ, Bool, true, false, cond, List, [], ◌∷◌, Some, refl, sym, ap, subst, ◌∙◌}
+use Rattle.std.specs.Map.{lookup, set_value}
+use Rattle.hashlink_model.specs.Entries.{moved_match}
+use Rattle.hashlink_model.specs.MapState.{Changes}
+use Rattle.hashlink_model.specs.Steps.{MovesMatch, MovesMatchAndWrites}
+use Rattle.hashlink_model.specs.Sets.{SetState}
 
 -- nothing that is written changes nothing
 set_value-nothing : {T : Type 0} (test : T → Bool) (es : List (T × Unit {0})) → set_value test es tt ≡ es

@@ -1,11 +1,23 @@
 -- What a set is that was made of clones of distinct elements.
-use Rattle.hashlink_set.proofs.Names.{◌≡◌, Bool, true, cond, List, [], ◌∷◌, ◌++◌, Option, None, Some, map, ap}
-use Rattle.hashlink_set.proofs.Names.{Result, Ok, Err, subst, sym, ◌∙◌, append-nil, IfOk, OnErr, MatchResult}
-use Rattle.hashlink_set.proofs.Names.{map-id, AllZip-map, Bor, IsEquivalence, Yields, Drains, AllZip}
-use Rattle.hashlink_set.proofs.Names.{IsDistinct, keys_of, TakesFirst, deref, elements_eq, extended}
-use Rattle.hashlink_set.proofs.Names.{AcceptsAll, MadeFrom, InsertsPair, empty_map, SetState, elements_of}
-use Rattle.hashlink_set.proofs.Names.{pairs_of, SetInserts, accepts_entries, own_elements, clone_of_a_set}
-use Rattle.hashlink_set.proofs.Names.{IsOfClones}
+use Rattle.std.proofs.Common.{◌≡◌, Bool, true, cond, List, [], ◌∷◌, ◌++◌, Option, None, Some, map, ap}
+use Rattle.std.proofs.Common.{Result, Ok, Err, subst, sym, ◌∙◌, append-nil}
+use Rattle.std.specs.Prelude.{IfOk, OnErr, MatchResult}
+use Rattle.std.proofs.lemmas.List.{map-id}
+use Rattle.std.proofs.lemmas.Slice.Zip.{AllZip-map}
+use Rattle.std.specs.Borrow.{Bor}
+use Rattle.std.specs.Cmp.{IsEquivalence}
+use Rattle.std.specs.Iterator.{Yields, Drains}
+use Rattle.std.specs.List.{AllZip, IsDistinct}
+use Rattle.std.specs.Map.{keys_of}
+use Rattle.std.specs.Map.Iter.{TakesFirst, deref}
+use Rattle.hashlink_model.specs.Compare.{elements_eq}
+use Rattle.hashlink_model.specs.Entries.{extended}
+use Rattle.hashlink_model.specs.Many.{AcceptsAll, MadeFrom, InsertsPair}
+use Rattle.hashlink_model.specs.MapState.{empty_map}
+use Rattle.hashlink_model.specs.Sets.{SetState, elements_of, pairs_of, SetInserts}
+use Rattle.hashlink_model.proofs.InTurn.{accepts_entries}
+use Rattle.hashlink_model.proofs.SetElements.{own_elements, clone_of_a_set}
+use Rattle.hashlink_set.specs.Cloned.{IsOfClones}
 
 -- one more of each
 pub zip_another : {A B : Type 0} (C : A → B → Type 0) (xs : List A) (ys : List B) (x : A) (y : B)

@@ -1,12 +1,24 @@
 -- Which element stands last after one came in or moved there.
-use Rattle.hashlink_set.proofs.Names.{◌≡◌, ℕ, ◌-◌, Result, Bool, true, false, List, [], ◌∷◌, ◌++◌, length}
-use Rattle.hashlink_set.proofs.Names.{Option, None, Some, Ok, Err, cond, ◌||◌, is_some, unwrap_or, refl, sym}
-use Rattle.hashlink_set.proofs.Names.{ap, subst, ◌∙◌, arith, length-append, IfOk, IfErr, IsEquivalence, find}
-use Rattle.hashlink_set.proofs.Names.{IsDistinct, keys_of, is_member, remove_key, length-keys_of}
-use Rattle.hashlink_set.proofs.Names.{is_some-lookup, AddsEntry, RefusesEntry, SetState, elements_of}
-use Rattle.hashlink_set.proofs.Names.{put_element, stored_element, SetInserts, SetReplaces, Moves, last_of}
-use Rattle.hashlink_set.proofs.Names.{slice_get_here, moves_elements, set_inserts, set_replaces}
-use Rattle.hashlink_set.proofs.Names.{put_element_back, IsDistinct-replaced, as_value, GetsOrMakes}
+use Rattle.std.proofs.Common.{◌≡◌, ℕ, ◌-◌, Result, Bool, true, false, List, [], ◌∷◌, ◌++◌, length, Option}
+use Rattle.std.proofs.Common.{None, Some, Ok, Err, cond, ◌||◌, is_some, unwrap_or, refl, sym, ap, subst, ◌∙◌}
+use Rattle.std.proofs.Common.{arith, length-append}
+use Rattle.std.specs.Prelude.{IfOk, IfErr}
+use Rattle.std.specs.Cmp.{IsEquivalence}
+use Rattle.std.specs.List.{find, IsDistinct}
+use Rattle.std.specs.Map.{keys_of}
+use Rattle.std.specs.Set.{is_member, remove_key}
+use Rattle.std.proofs.lemmas.Map.Entries.{length-keys_of}
+use Rattle.std.proofs.lemmas.Map.Made.{is_some-lookup}
+use Rattle.hashlink_model.specs.MapState.{AddsEntry, RefusesEntry}
+use Rattle.hashlink_model.specs.Sets.{SetState, elements_of, put_element, stored_element, SetInserts}
+use Rattle.hashlink_model.specs.Sets.{SetReplaces}
+use Rattle.hashlink_model.specs.Steps.{Moves}
+use Rattle.hashlink_model.specs.Walk.{last_of}
+use Rattle.hashlink_model.proofs.Places.{slice_get_here}
+use Rattle.hashlink_model.proofs.SetElements.{moves_elements, set_inserts, set_replaces, put_element_back}
+use Rattle.hashlink_model.proofs.SetSteps.{IsDistinct-replaced}
+use Rattle.hashlink_set.specs.Answers.{as_value}
+use Rattle.hashlink_set.specs.Made.{GetsOrMakes}
 
 last_of-end : {X : Type 0} (xs : List X) (x : X) → last_of (xs ++ x ∷ []) ≡ Some x
 last_of-end xs x =

@@ -1,9 +1,13 @@
 -- What a pop gives and leaves, as a step of a walk over the elements.
-use Rattle.hashlink_set.proofs.Names.{◌≡◌, false, List, [], ◌∷◌, filter, Option, None, Some, refl, ap, ◌∙◌}
-use Rattle.hashlink_set.proofs.Names.{keys_of, TakesFirst, TakesLast, SetState, elements_of, PopsFront}
-use Rattle.hashlink_set.proofs.Names.{PopsBack, first_of, after_first_of, last_of, before_last_of}
-use Rattle.hashlink_set.proofs.Names.{pops_front_elements, pops_back_elements, takes_first, takes_last}
-use Rattle.hashlink_set.proofs.Names.{as_entry}
+use Rattle.std.proofs.Common.{◌≡◌, false, List, [], ◌∷◌, filter, Option, None, Some, refl, ap, ◌∙◌}
+use Rattle.std.specs.Map.{keys_of}
+use Rattle.std.specs.Map.Iter.{TakesFirst, TakesLast}
+use Rattle.hashlink_model.specs.Sets.{SetState, elements_of}
+use Rattle.hashlink_model.specs.Steps.{PopsFront, PopsBack}
+use Rattle.hashlink_model.specs.Walk.{first_of, after_first_of, last_of, before_last_of}
+use Rattle.hashlink_model.proofs.SetElements.{pops_front_elements, pops_back_elements}
+use Rattle.hashlink_model.proofs.Walks.{takes_first, takes_last}
+use Rattle.hashlink_set.specs.Answers.{as_entry}
 
 module _ {X : Type 0} (xs : List X) where
   empty_front : None ≡ first_of xs → xs ≡ []

@@ -1,6 +1,10 @@
 -- Items that go to those that were seen, one after another, where they appear first.
-use Rattle.hashlink_uses.proofs.Names.{◌≡◌, Bool, true, false, cond, ◌||◌, List, [], ◌∷◌, ◌++◌, ap, map, refl}
-use Rattle.hashlink_uses.proofs.Names.{◌∙◌, append_assoc, list_any, is_member, map_push, first_appearances}
+use Rattle.std.proofs.Common.{◌≡◌, Bool, true, false, cond, ◌||◌, List, [], ◌∷◌, ◌++◌, ap, map, refl, ◌∙◌}
+use Rattle.std.proofs.Common.{append_assoc}
+use Rattle.std.specs.List.{list_any}
+use Rattle.std.specs.Set.{is_member}
+use Rattle.std.proofs.lemmas.List.{map_push}
+use Rattle.hashlink_uses.specs.Appearances.{first_appearances}
 
 module _ {X : Type 0} (eq : X → X → Bool) where
   pub appears : (seen : List X) (x : X) (xs : List X)

@@ -1,8 +1,11 @@
 -- What a retain leaves whose closure counts down.
-use Rattle.hashlink_uses.proofs.Names.{◌≡◌, ◌+◌, ◌≤◌, ℕ, zero, suc, Bool, true, false, cond, not, ◌&&◌}
-use Rattle.hashlink_uses.proofs.Names.{nat_lt, List, [], ◌∷◌, length, ap, refl, sym, subst, ◌∙◌, arith}
-use Rattle.hashlink_uses.proofs.Names.{keys_of, MapState, KeepsInOrder, RetainsInOrder, KeepsOnly}
-use Rattle.hashlink_uses.proofs.Names.{without_first}
+use Rattle.std.proofs.Common.{◌≡◌, ◌+◌, ◌≤◌, ℕ, zero, suc, Bool, true, false, cond, not, ◌&&◌, nat_lt, List}
+use Rattle.std.proofs.Common.{[], ◌∷◌, length, ap, refl, sym, subst, ◌∙◌, arith}
+use Rattle.std.specs.Map.{keys_of}
+use Rattle.hashlink.specs.MapState.{MapState}
+use Rattle.hashlink.specs.Retain.{KeepsInOrder, RetainsInOrder}
+use Rattle.hashlink.specs.Steps.{KeepsOnly}
+use Rattle.hashlink_uses.specs.WithoutFirst.{without_first}
 
 module _ {X : Type 0} (passes : X → Bool) where
   without_first-none : (n : ℕ) → without_first passes n [] ≡ []

@@ -1,9 +1,12 @@
 -- A key is found exactly where it has a place, and a first value exactly where there is an entry.
-use Rattle.hashlink_uses.proofs.Names.{◌≡◌, ℕ, zero, suc, ◌+◌, ◌-◌, ◌<◌, ◌%◌, Bool, true, false, cond, List}
-use Rattle.hashlink_uses.proofs.Names.{[], ◌∷◌, Option, None, Some, is_some, is_none, refl, sym, ap, ◌∙◌}
-use Rattle.hashlink_uses.proofs.Names.{arith, mod-eq_of_lt, add-mod_right, option_map, slice_get, take}
-use Rattle.hashlink_uses.proofs.Names.{lookup, preceding_place, place_of, first_of}
-use Rattle.std.specs.Prelude.{drop, length}
+use Rattle.std.proofs.Common.{◌≡◌, ℕ, zero, suc, ◌+◌, ◌-◌, ◌<◌, ◌%◌, Bool, true, false, cond, List, [], ◌∷◌}
+use Rattle.std.proofs.Common.{Option, None, Some, is_some, is_none, refl, sym, ap, ◌∙◌, arith, mod-eq_of_lt}
+use Rattle.std.proofs.Math.Nat.{add-mod_right}
+use Rattle.std.specs.Prelude.{drop, length, option_map, slice_get, take}
+use Rattle.std.specs.Map.{lookup}
+use Rattle.hashlink.specs.Cursor.{preceding_place}
+use Rattle.hashlink.specs.Entries.{place_of}
+use Rattle.hashlink.specs.Walk.{first_of}
 
 module _ {K V : Type 0} (test : K → Bool) where
   found-head : (b : Bool) (e : K × V) (o : Option V) (p : Option ℕ) → is_some o ≡ is_some p

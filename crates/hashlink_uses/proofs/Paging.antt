@@ -1,10 +1,17 @@
 -- What is read of a page, as the cache holds it or not, and as it is stored.
-use Rattle.hashlink_uses.proofs.Names.{◌≡◌, ℕ, Bool, true, false, cond, List, Option, None, Some, Result, Ok}
-use Rattle.hashlink_uses.proofs.Names.{Err, drop, ap, refl, sym, true≢false, ◌∙◌, arith, length, nat_eq}
-use Rattle.hashlink_uses.proofs.Names.{lookup, OnErr, OnOk, nat_eq_equiv, TakesFirst, none-some, Page}
-use Rattle.hashlink_uses.proofs.Names.{cache_get, IsEntries, length-moved, lookup-moved, Follows, IsSound}
-use Rattle.hashlink_uses.proofs.Names.{Reads, page_read}
+use Rattle.std.proofs.Common.{◌≡◌, ℕ, Bool, true, false, cond, List, Option, None, Some, Result, Ok, Err}
+use Rattle.std.proofs.Common.{drop, ap, refl, sym, true≢false, ◌∙◌, arith, length, nat_eq}
+use Rattle.std.specs.Map.{lookup}
+use Rattle.std.specs.Prelude.{OnErr, OnOk}
 use Rattle.std.specs.Option.{option_map}
+use Rattle.std.proofs.lemmas.Cmp.{nat_eq_equiv}
+use Rattle.std.specs.Map.Iter.{TakesFirst}
+use Rattle.std.proofs.lemmas.Option.{none-some}
+use Rattle.hashlink_uses.specs.declared.pages.Page.{Page}
+use Rattle.hashlink.specs.Cache.{cache_get}
+use Rattle.hashlink.specs.Entries.{IsEntries}
+use Rattle.hashlink.proofs.CallerLemmas.{length-moved, lookup-moved}
+use Rattle.hashlink_uses.specs.Contents.{Follows, IsSound, Reads, page_read}
 
 -- what is left once the first item is taken
 pub taken : {X : Type 0} (xs ys : List X) (o : Option X) → TakesFirst (λ x. x) xs o ys → ys ≡ drop 1 xs

@@ -1,5 +1,6 @@
 -- What is left compares as the whole lists do.
-use Rattle.hashlink_core.proofs.Names.{◌≡◌, length, entries_cmp}
+use Rattle.std.proofs.Common.{◌≡◌, length}
+use Rattle.hashlink_model.specs.Compare.{entries_cmp}
 use Rattle.hashlink_core.proofs.compare.iter_cmp.Given as goal
 
 abbrev pub invariant-loop-key : goal.invariant-loop-key

@@ -1,5 +1,6 @@
 -- What is left is as long on both sides, and equal where the whole lists are.
-use Rattle.hashlink_core.proofs.Names.{◌≡◌, length, entries_eq}
+use Rattle.std.proofs.Common.{◌≡◌, length}
+use Rattle.hashlink_model.specs.Compare.{entries_eq}
 use Rattle.hashlink_core.proofs.compare.iter_eq.Given as goal
 
 abbrev pub invariant-loop-key : goal.invariant-loop-key

@@ -1,4 +1,5 @@
-use Rattle.hashlink_run.proofs.Names.{state_of, ClosureSays}
+use Rattle.hashlink_lru.specs.Cached.{state_of}
+use Rattle.hashlink_run.specs.Reads.{ClosureSays}
 use Rattle.hashlink_run.proofs.CacheUsed.{used_hit, used_insert, used_refused}
 use Rattle.hashlink_run.proofs.cache_steps.answer_use.Goals as goal
 

@@ -1,4 +1,5 @@
-use Rattle.hashlink_run.proofs.Names.{rules, Some, Ok, state_of}
+use Rattle.std.proofs.Common.{rules, Some, Ok}
+use Rattle.hashlink_lru.specs.Cached.{state_of}
 use Rattle.hashlink_run.proofs.CallLaws.{use-recent}
 use Rattle.hashlink_run.proofs.calls.use_pair.Goals as goal
 

@@ -1,4 +1,5 @@
-use Rattle.hashlink_run.proofs.Names.{ap, sym, ◌∙◌, entry_in}
+use Rattle.std.proofs.Common.{ap, sym, ◌∙◌}
+use Rattle.hashlink_model.specs.Cursor.{entry_in}
 use Rattle.hashlink_run.proofs.cursors.reply_of_step.Goals as goal
 
 pub said_of-requires : goal.said_of-requires

@@ -1,7 +1,10 @@
-use Rattle.hashlink_run.proofs.Names.{rules, [], ◌∷◌, Some, None, refl, sym, ap, ◌∙◌, is_ok, Ok, Err, ⊎_elim}
-use Rattle.hashlink_run.proofs.Names.{deref_pair, raw_place, Value, Pair, Seen, Inserted, reply_or_refused}
-use Rattle.hashlink_run.proofs.Names.{ClosureSays}
+use Rattle.std.proofs.Common.{rules, [], ◌∷◌, Some, None, refl, sym, ap, ◌∙◌, is_ok, Ok, Err, ⊎_elim}
+use Rattle.std.specs.Map.Iter.{deref_pair}
 use Rattle.hashlink_core.specs.Keyed.{state_of}
+use Rattle.hashlink_map.specs.RawEntry.{raw_place}
+use Rattle.hashlink_run.specs.declared.replies.Reply.TheVariants.{Value, Pair, Seen, Inserted}
+use Rattle.hashlink_run.specs.CallReplies.{reply_or_refused}
+use Rattle.hashlink_run.specs.Reads.{ClosureSays}
 use Rattle.hashlink_run.proofs.AtEntry.{at_occupied, at_vacant, added, handed_on, taken, read_new}
 use Rattle.hashlink_run.proofs.AtEntry.{there, there_at_end, there_at_front}
 use Rattle.hashlink_run.proofs.entries.done_at_entry.Goals as goal

@@ -1,4 +1,5 @@
-use Rattle.hashlink_run.proofs.Names.{refl, occupied_place, occupied_state}
+use Rattle.std.proofs.Common.{refl}
+use Rattle.hashlink_map.specs.Entry.{occupied_place, occupied_state}
 use Rattle.hashlink_run.proofs.Said.{said_by}
 use Rattle.hashlink_run.proofs.AtEntry.{pair_at}
 use Rattle.hashlink_run.proofs.entries.said_of_entry.Goals as goal

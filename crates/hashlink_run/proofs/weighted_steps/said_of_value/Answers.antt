@@ -1,4 +1,5 @@
-use Rattle.hashlink_run.proofs.Names.{ap, option_copied, refl, option_map}
+use Rattle.std.proofs.Common.{ap, option_copied, refl}
+use Rattle.std.specs.Option.{option_map}
 use Rattle.hashlink_run.proofs.Said.{said_by}
 use Rattle.hashlink_run.proofs.weighted_steps.said_of_value.Goals as goal
 

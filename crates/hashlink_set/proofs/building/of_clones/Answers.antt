@@ -1,6 +1,11 @@
-use Rattle.hashlink_set.proofs.Names.{[], ◌∷◌, ◌++◌, refl, sym, subst, AllZip, deref, AcceptsAll, SetInserts}
-use Rattle.hashlink_set.proofs.Names.{accepts_another, mapped_another, on_err}
+use Rattle.std.proofs.Common.{[], ◌∷◌, ◌++◌, refl, sym, subst}
 use Rattle.std.proofs.iter.Next as it
+use Rattle.std.specs.List.{AllZip}
+use Rattle.std.specs.Map.Iter.{deref}
+use Rattle.hashlink_model.specs.Many.{AcceptsAll}
+use Rattle.hashlink_model.specs.Sets.{SetInserts}
+use Rattle.hashlink_map.proofs.InTurn.{accepts_another, mapped_another}
+use Rattle.hashlink_map.proofs.Extending.{on_err}
 use Rattle.hashlink_set.proofs.OfClones.{first_gave, zip_another}
 use Rattle.hashlink_set.proofs.building.of_clones.Goals as goal
 

@@ -1,6 +1,9 @@
-use Rattle.hashlink_uses.proofs.Names.{◌≢◌, ℕ, Bool, All, [], ◌∷◌, inl, inr, length, subst, sym, rules}
-use Rattle.hashlink_uses.proofs.Names.{All-contains, MapState, ShownBy, Insert, Keep, All-inserts}
-use Rattle.hashlink_uses.proofs.Names.{shown_now_or_later}
+use Rattle.std.proofs.Common.{◌≢◌, ℕ, Bool, All, [], ◌∷◌, inl, inr, length, subst, sym, rules}
+use Rattle.std.proofs.lemmas.List.Elements.{All-contains}
+use Rattle.hashlink.specs.MapState.{MapState}
+use Rattle.hashlink.specs.Run.{ShownBy}
+use Rattle.hashlink.specs.declared.run.Command.TheVariants.{Insert, Keep}
+use Rattle.hashlink.proofs.CallerLemmas.{All-inserts, shown_now_or_later}
 use Rattle.hashlink_uses.proofs.commands.insert_then_keep_divisors.Goals as goal
 
 -- the closure is shown no value that is zero

@@ -1,4 +1,5 @@
-use Rattle.hashlink_uses.proofs.Names.{IfOk-weaker, answered_after_removal}
+use Rattle.std.proofs.lemmas.Result.{IfOk-weaker}
+use Rattle.hashlink.proofs.CallerLemmas.{answered_after_removal}
 use Rattle.hashlink_uses.proofs.commands.remove_then_insert.Goals as goal
 
 pub returns : goal.returns

@@ -1,4 +1,5 @@
-use Rattle.hashlink_uses.proofs.Names.{ap, sym, ◌∙◌, cache_misses}
+use Rattle.std.proofs.Common.{ap, sym, ◌∙◌}
+use Rattle.hashlink.specs.History.{cache_misses}
 use Rattle.hashlink_uses.proofs.curves.misses_by_replies_and_by_curve.Goals as goal
 
 pub returns : goal.returns

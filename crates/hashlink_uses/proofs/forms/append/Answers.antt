@@ -1,4 +1,7 @@
-use Rattle.hashlink_uses.proofs.Names.{sym, subst, ◌∙◌, AcceptsAll, InsertsPair, state_of, taken_all}
+use Rattle.std.proofs.Common.{sym, subst, ◌∙◌}
+use Rattle.hashlink.specs.Many.{AcceptsAll, InsertsPair}
+use Rattle.hashlink.specs.Keyed.{state_of}
+use Rattle.hashlink.proofs.Taken.{taken_all}
 use Rattle.hashlink_uses.proofs.forms.append.Goals as goal
 
 pub returns : goal.returns

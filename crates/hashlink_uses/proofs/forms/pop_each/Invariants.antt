@@ -1,4 +1,5 @@
-use Rattle.hashlink_uses.proofs.Names.{length, entries_of}
+use Rattle.std.proofs.Common.{length}
+use Rattle.hashlink.specs.Keyed.{entries_of}
 use Rattle.hashlink_uses.proofs.forms.pop_each.Given as goal
 
 -- each turn removes an entry

@@ -1,4 +1,5 @@
-use Rattle.hashlink_uses.proofs.Names.{Ok, sym, ◌∙◌, set_inserts_new}
+use Rattle.std.proofs.Common.{Ok, sym, ◌∙◌}
+use Rattle.hashlink.proofs.CallerLemmas.{set_inserts_new}
 use Rattle.hashlink_uses.proofs.lines.add_new.Goals as goal
 
 pub returns-in-Ok : goal.returns-in-Ok

@@ -1,4 +1,7 @@
-use Rattle.hashlink_uses.proofs.Names.{[], ap, map, ◌∙◌, IfOk-weaker, bytes_eq, first_appearances}
+use Rattle.std.proofs.Common.{[], ap, map, ◌∙◌}
+use Rattle.std.proofs.lemmas.Result.{IfOk-weaker}
+use Rattle.std.specs.Str.{bytes_eq}
+use Rattle.hashlink_uses.specs.Appearances.{first_appearances}
 use Rattle.hashlink_uses.proofs.Appearing.{map-appearances}
 use Rattle.hashlink_uses.proofs.lines.distinct_lines.Goals as goal
 

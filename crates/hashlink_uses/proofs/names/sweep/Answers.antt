@@ -1,4 +1,6 @@
-use Rattle.hashlink_uses.proofs.Names.{◌≡◌, refl, rules, retained_where, holds_at}
+use Rattle.std.proofs.Common.{◌≡◌, refl, rules}
+use Rattle.hashlink.proofs.CallerLemmas.{retained_where}
+use Rattle.hashlink_uses.specs.Answers.{holds_at}
 use Rattle.hashlink_uses.proofs.names.sweep.Goals as goal
 
 pub returns-clause-left : goal.returns-clause-left

@@ -1,6 +1,9 @@
-use Rattle.hashlink_uses.proofs.Names.{nat_eq, length, ap, sym, ◌∙◌, eqb-true, nat_eq_equiv, lookup}
-use Rattle.hashlink_uses.proofs.Names.{cache_inserts_entries, lookup-put}
+use Rattle.std.proofs.Common.{nat_eq, length, ap, sym, ◌∙◌}
+use Rattle.std.proofs.lemmas.Bool.{eqb-true}
+use Rattle.std.proofs.lemmas.Cmp.{nat_eq_equiv}
+use Rattle.std.specs.Map.{lookup}
 use Rattle.hashlink.specs.Cached.{entries_of, state_of}
+use Rattle.hashlink.proofs.CallerLemmas.{cache_inserts_entries, lookup-put}
 use Rattle.hashlink_uses.proofs.Paging.{reads-put}
 use Rattle.hashlink_uses.proofs.pages.keep.Goals as goal
 

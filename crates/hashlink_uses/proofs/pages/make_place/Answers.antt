@@ -1,5 +1,7 @@
-use Rattle.hashlink_uses.proofs.Names.{arith, nat_eq, on_ok_weaker, cache_put-with_a_place}
+use Rattle.std.proofs.Common.{arith, nat_eq}
+use Rattle.std.proofs.lemmas.Result.{on_ok_weaker}
 use Rattle.hashlink.specs.Cached.{entries_of, state_of}
+use Rattle.hashlink.proofs.CallerLemmas.{cache_put-with_a_place}
 use Rattle.hashlink_uses.proofs.pages.make_place.Goals as goal
 
 pub returns-clause-free : goal.returns-clause-free

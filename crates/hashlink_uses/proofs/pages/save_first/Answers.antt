@@ -1,7 +1,10 @@
-use Rattle.hashlink_uses.proofs.Names.{◌≡◌, true, Some, drop, nat_eq, ap, subst, sym, ◌∙◌, eqb-true}
-use Rattle.hashlink_uses.proofs.Names.{nat_eq_equiv, lookup, IsEntries, IsEntries-head, by_first, lookup-none}
-use Rattle.hashlink_uses.proofs.Names.{none_equal}
+use Rattle.std.proofs.Common.{◌≡◌, true, Some, drop, nat_eq, ap, subst, sym, ◌∙◌}
+use Rattle.std.proofs.lemmas.Bool.{eqb-true}
+use Rattle.std.proofs.lemmas.Cmp.{nat_eq_equiv}
+use Rattle.std.specs.Map.{lookup}
 use Rattle.hashlink.specs.Cached.{entries_of}
+use Rattle.hashlink.specs.Entries.{IsEntries}
+use Rattle.hashlink.proofs.CallerLemmas.{IsEntries-head, by_first, lookup-none, none_equal}
 use Rattle.hashlink_uses.proofs.Paging.{follows-failed, follows-left, taken}
 use Rattle.hashlink_uses.proofs.pages.save_first.Goals as goal
 use Rattle.hashlink_uses.proofs.pages.save_first.Goals.{then-page+in_ok-save, else-page}

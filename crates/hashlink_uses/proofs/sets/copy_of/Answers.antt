@@ -1,4 +1,5 @@
-use Rattle.hashlink_uses.proofs.Names.{rules, IfOk-weaker}
+use Rattle.std.proofs.Common.{rules}
+use Rattle.std.proofs.lemmas.Result.{IfOk-weaker}
 use Rattle.hashlink_uses.proofs.sets.copy_of.Goals as goal
 
 pub returns-clause-same : goal.returns-clause-same

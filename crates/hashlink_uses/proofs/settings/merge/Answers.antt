@@ -1,5 +1,8 @@
-use Rattle.hashlink_uses.proofs.Names.{List, [], ◌∷◌, ◌++◌, append_assoc, ap, sym, ◌∙◌, fold-append}
-use Rattle.hashlink_uses.proofs.Names.{err_from_is_err_and, place_or_end, put, entries_of}
+use Rattle.std.proofs.Common.{List, [], ◌∷◌, ◌++◌, append_assoc, ap, sym, ◌∙◌}
+use Rattle.std.proofs.lemmas.List.Sums.{fold-append}
+use Rattle.std.proofs.lemmas.Result.{err_from_is_err_and}
+use Rattle.hashlink.specs.Entries.{place_or_end, put}
+use Rattle.hashlink.specs.Keyed.{entries_of}
 use Rattle.hashlink_uses.proofs.settings.merge.Goals as goal
 
 pub returns-in_err-set-clause-stopped : goal.returns-in_err-set-clause-stopped

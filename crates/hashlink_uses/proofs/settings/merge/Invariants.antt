@@ -1,4 +1,6 @@
-use Rattle.hashlink_uses.proofs.Names.{◌≡◌, ◌++◌, List, entries_of, merged}
+use Rattle.std.proofs.Common.{◌≡◌, ◌++◌, List}
+use Rattle.hashlink.specs.Keyed.{entries_of}
+use Rattle.hashlink_uses.specs.Merged.{merged}
 use Rattle.hashlink_uses.proofs.settings.merge.Given as goal
 
 -- those that have gone were set in turn

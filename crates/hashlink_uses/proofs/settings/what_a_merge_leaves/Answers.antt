@@ -1,6 +1,10 @@
-use Rattle.hashlink_uses.proofs.Names.{◌≡◌, Bool, List, [], ◌∷◌, ◌++◌, ap, sym, ◌∙◌, keys_of, append-nil}
-use Rattle.hashlink_uses.proofs.Names.{place_or_end, put, keys-put_in_place, lookup-replaced_each}
-use Rattle.hashlink_uses.proofs.Names.{first_appearances, merged}
+use Rattle.std.proofs.Common.{◌≡◌, Bool, List, [], ◌∷◌, ◌++◌, ap, sym, ◌∙◌}
+use Rattle.std.specs.Map.{keys_of}
+use Rattle.std.proofs.lemmas.List.{append-nil}
+use Rattle.hashlink.specs.Entries.{place_or_end, put}
+use Rattle.hashlink.proofs.CallerLemmas.{keys-put_in_place, lookup-replaced_each}
+use Rattle.hashlink_uses.specs.Appearances.{first_appearances}
+use Rattle.hashlink_uses.specs.Merged.{merged}
 use Rattle.hashlink_uses.proofs.Appearing.{appears}
 use Rattle.hashlink_uses.proofs.settings.what_a_merge_leaves.Goals as goal
 

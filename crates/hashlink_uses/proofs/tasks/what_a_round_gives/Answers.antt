@@ -1,5 +1,6 @@
-use Rattle.hashlink_uses.proofs.Names.{◌≡◌, List, [], ◌∷◌, ◌++◌, length, append_assoc, ap, refl, sym, ◌∙◌}
-use Rattle.hashlink_uses.proofs.Names.{append-nil, order_left, turns_given}
+use Rattle.std.proofs.Common.{◌≡◌, List, [], ◌∷◌, ◌++◌, length, append_assoc, ap, refl, sym, ◌∙◌}
+use Rattle.std.proofs.lemmas.List.{append-nil}
+use Rattle.hashlink_uses.specs.Turns.{order_left, turns_given}
 use Rattle.hashlink_uses.proofs.tasks.what_a_round_gives.Goals as goal
 
 module _ {T : Type 0} where

@@ -1,5 +1,8 @@
-use Rattle.hashlink_core.proofs.Names.{◌≡◌, Some, refl, rules, Inserts, state_of, IsKeyed, place_number}
-use Rattle.hashlink_core.proofs.Names.{WritesNode}
+use Rattle.std.proofs.Common.{◌≡◌, Some, refl, rules}
+use Rattle.hashlink_model.specs.MapState.{Inserts}
+use Rattle.hashlink_core.specs.Keyed.{state_of, IsKeyed}
+use Rattle.hashlink_core.specs.Places.{place_number}
+use Rattle.hashlink_core.specs.Steps.{WritesNode}
 use Rattle.hashlink_core.proofs.AtKey.{stays-key}
 use Rattle.hashlink_core.proofs.AtKeyNode.{written-number, written-holds, put, added, refused, passed-on}
 use Rattle.hashlink_core.proofs.Keeping.{keeps-place, keys-added, keys-grown, keys-moved, keys-place}

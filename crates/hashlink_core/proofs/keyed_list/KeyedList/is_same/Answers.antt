@@ -1,4 +1,5 @@
-use Rattle.hashlink_core.proofs.Names.{ap, ◌∙◌, arith, seen_as}
+use Rattle.std.proofs.Common.{ap, ◌∙◌, arith}
+use Rattle.hashlink_core.specs.Keyed.{seen_as}
 use Rattle.hashlink_core.proofs.Calls.{held-inside}
 use Rattle.hashlink_core.proofs.Finding.{Marked, asked-short, marked-holds, marked-same, restored-ring}
 use Rattle.hashlink_core.proofs.Finding.{restored-step}

@@ -1,4 +1,5 @@
-use Rattle.hashlink_core.proofs.Names.{rules, false, retained_by_predicate}
+use Rattle.std.proofs.Common.{rules, false}
+use Rattle.hashlink_model.proofs.Filtered.{retained_by_predicate}
 use Rattle.hashlink_core.proofs.Retaining.{none-passes}
 use Rattle.hashlink_core.proofs.keyed_list.KeyedList.remove_all.Goals as goal
 

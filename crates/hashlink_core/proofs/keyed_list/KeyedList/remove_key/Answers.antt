@@ -1,5 +1,6 @@
-use Rattle.hashlink_core.proofs.Names.{◌≡◌, Some, None, refl, ap, sym, ◌∙◌, entries_of, state_of, seen_as}
-use Rattle.hashlink_core.proofs.Names.{HoldsMatch, hash_with}
+use Rattle.std.proofs.Common.{◌≡◌, Some, None, refl, ap, sym, ◌∙◌}
+use Rattle.hashlink_core.specs.Keyed.{entries_of, state_of, seen_as, HoldsMatch}
+use Rattle.hashlink_core.specs.Tied.{hash_with}
 use Rattle.hashlink_core.proofs.Calls.{sound, stored, removed-step, removed-node}
 use Rattle.hashlink_core.proofs.Finding.{Search, query-search, listed-holds, listed-number, told-hash}
 use Rattle.hashlink_core.proofs.Finding.{found-by_table}

@@ -1,4 +1,6 @@
-use Rattle.hashlink_set.proofs.Names.{MadeFrom, SetInserts, made_by_answer}
+use Rattle.hashlink_model.specs.Many.{MadeFrom}
+use Rattle.hashlink_model.specs.Sets.{SetInserts}
+use Rattle.hashlink_map.proofs.Extending.{made_by_answer}
 use Rattle.hashlink_set.proofs.building.LinkedHashSetFromIterator.from_iter.Goals as goal
 
 pub returns-clause-ran : goal.returns-clause-ran

@@ -1,5 +1,6 @@
 -- What is left takes the hasher to where the whole list does.
-use Rattle.hashlink_set.proofs.Names.{◌≡◌, fold, length, elements_hash_input}
+use Rattle.std.proofs.Common.{◌≡◌, fold, length}
+use Rattle.hashlink_model.specs.Compare.{elements_hash_input}
 use Rattle.hashlink_set.proofs.compared.LinkedHashSetHash.hash.Given as goal
 
 abbrev pub invariant-loop-element : goal.invariant-loop-element

@@ -1,4 +1,6 @@
-use Rattle.hashlink_set.proofs.Names.{rules, false, subst, retained_by_predicate, KeepsOnly}
+use Rattle.std.proofs.Common.{rules, false, subst}
+use Rattle.hashlink_model.proofs.Filtered.{retained_by_predicate}
+use Rattle.hashlink_model.specs.Steps.{KeepsOnly}
 use Rattle.hashlink_set.proofs.Taking.{none_passes}
 use Rattle.hashlink_set.proofs.drain.Drain.drop.Goals as goal
 

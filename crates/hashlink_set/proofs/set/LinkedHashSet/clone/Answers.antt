@@ -1,4 +1,7 @@
-use Rattle.hashlink_set.proofs.Names.{◌∙◌, rules, if_ok_then, TakesFirst, deref, elements_of}
+use Rattle.std.proofs.Common.{◌∙◌, rules}
+use Rattle.std.proofs.result.Match.{if_ok_then}
+use Rattle.std.specs.Map.Iter.{TakesFirst, deref}
+use Rattle.hashlink_model.specs.Sets.{elements_of}
 use Rattle.hashlink_set.proofs.OfClones.{is_of_items, given_all}
 use Rattle.hashlink_set.proofs.set.LinkedHashSet.clone.Goals as goal
 

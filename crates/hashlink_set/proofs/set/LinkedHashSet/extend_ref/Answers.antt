@@ -1,5 +1,7 @@
-use Rattle.hashlink_set.proofs.Names.{[], subst, sym, on_ok_weaker, IfErr-weaker, AcceptsAll, StopsAt}
-use Rattle.hashlink_set.proofs.Names.{SetInserts}
+use Rattle.std.proofs.Common.{[], subst, sym}
+use Rattle.std.proofs.lemmas.Result.{on_ok_weaker, IfErr-weaker}
+use Rattle.hashlink_model.specs.Many.{AcceptsAll, StopsAt}
+use Rattle.hashlink_model.specs.Sets.{SetInserts}
 use Rattle.hashlink_set.proofs.Copied.{copied_all, copied_some}
 use Rattle.hashlink_set.proofs.set.LinkedHashSet.extend_ref.Goals as goal
 

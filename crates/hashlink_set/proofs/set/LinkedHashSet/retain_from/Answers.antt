@@ -1,5 +1,9 @@
-use Rattle.hashlink_set.proofs.Names.{rules, subst, sym, CalledAt, state_of, RetainsInOrder, at_element}
-use Rattle.hashlink_set.proofs.Names.{CallableOnEachElement}
+use Rattle.std.proofs.Common.{rules, subst, sym}
+use Rattle.std.specs.Fn.{CalledAt}
+use Rattle.hashlink_core.specs.Keyed.{state_of}
+use Rattle.hashlink_model.specs.Retain.{RetainsInOrder}
+use Rattle.hashlink_model.specs.Sets.{at_element}
+use Rattle.hashlink_set.specs.Called.{CallableOnEachElement}
 use Rattle.hashlink_set.proofs.Retaining.{callable_seen, retains_seen, name_kept, back}
 use Rattle.hashlink_set.proofs.set.LinkedHashSet.retain_from.Goals as goal
 

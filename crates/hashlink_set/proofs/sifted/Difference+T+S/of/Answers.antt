@@ -1,4 +1,7 @@
-use Rattle.hashlink_set.proofs.Names.{rules, subst, IsDistinct, elements_in, IsDistinct-difference}
+use Rattle.std.proofs.Common.{rules, subst}
+use Rattle.std.specs.List.{IsDistinct}
+use Rattle.hashlink_set.specs.Elements.{elements_in}
+use Rattle.hashlink_model.proofs.Members.{IsDistinct-difference}
 use Rattle.hashlink_set.proofs.sifted.Difference+T+S.of.Goals as goal
 
 pub returns-clause-unique : goal.returns-clause-unique

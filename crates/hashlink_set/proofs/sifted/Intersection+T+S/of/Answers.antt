@@ -1,4 +1,7 @@
-use Rattle.hashlink_set.proofs.Names.{rules, subst, IsDistinct, elements_in, IsDistinct-intersection}
+use Rattle.std.proofs.Common.{rules, subst}
+use Rattle.std.specs.List.{IsDistinct}
+use Rattle.hashlink_set.specs.Elements.{elements_in}
+use Rattle.hashlink_model.proofs.Members.{IsDistinct-intersection}
 use Rattle.hashlink_set.proofs.sifted.Intersection+T+S.of.Goals as goal
 
 pub returns-clause-unique : goal.returns-clause-unique

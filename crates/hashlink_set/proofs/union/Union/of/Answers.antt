@@ -1,5 +1,8 @@
-use Rattle.hashlink_set.proofs.Names.{◌++◌, sym, ap₂, ◌∙◌, subst, IsDistinct, elements_in, filter-all}
-use Rattle.hashlink_set.proofs.Names.{IsDistinct-union}
+use Rattle.std.proofs.Common.{◌++◌, sym, ap₂, ◌∙◌, subst}
+use Rattle.std.specs.List.{IsDistinct}
+use Rattle.hashlink_set.specs.Elements.{elements_in}
+use Rattle.hashlink_model.proofs.LazyWalks.{filter-all}
+use Rattle.hashlink_model.proofs.Members.{IsDistinct-union}
 use Rattle.hashlink_set.proofs.union.Union.of.Goals as goal
 
 pub returns-clause-rest : goal.returns-clause-rest

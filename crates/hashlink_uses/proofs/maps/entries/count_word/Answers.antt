@@ -1,5 +1,8 @@
-use Rattle.hashlink_uses.proofs.Names.{◌≡◌, ◌+◌, ap, subst, ◌∙◌, is_ok, rules, unwrap_or, IsOk, state_of}
-use Rattle.hashlink_uses.proofs.Names.{entries_of, lookup, PutsLast}
+use Rattle.std.proofs.Common.{◌≡◌, ◌+◌, ap, subst, ◌∙◌, is_ok, rules}
+use Rattle.std.specs.Prelude.{unwrap_or, IsOk}
+use Rattle.hashlink.specs.Keyed.{state_of, entries_of}
+use Rattle.std.specs.Map.{lookup}
+use Rattle.hashlink.specs.MapEntryLends.{PutsLast}
 use Rattle.hashlink_uses.proofs.maps.entries.count_word.Goals as goal
 
 pub returns-clause-counts : goal.returns-clause-counts

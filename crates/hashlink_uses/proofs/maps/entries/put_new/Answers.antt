@@ -1,4 +1,6 @@
-use Rattle.hashlink_uses.proofs.Names.{rules, entries_of, occupied_place}
+use Rattle.std.proofs.Common.{rules}
+use Rattle.hashlink.specs.Keyed.{entries_of}
+use Rattle.hashlink.specs.MapEntry.{occupied_place}
 use Rattle.hashlink_uses.proofs.Found.{is-not-absent}
 use Rattle.hashlink_uses.proofs.maps.entries.put_new.Goals as goal
 

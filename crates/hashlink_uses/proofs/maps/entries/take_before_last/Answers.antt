@@ -1,5 +1,6 @@
-use Rattle.hashlink_uses.proofs.Names.{◌≡◌, None, sym, subst, rules, IfNone, entries_of}
-use Rattle.std.specs.Prelude.{◌<◌, length}
+use Rattle.std.proofs.Common.{◌≡◌, None, sym, subst, rules}
+use Rattle.std.specs.Prelude.{◌<◌, length, IfNone}
+use Rattle.hashlink.specs.Keyed.{entries_of}
 use Rattle.hashlink_uses.proofs.Found.{few-before-last}
 use Rattle.hashlink_uses.proofs.maps.entries.take_before_last.Goals as goal
 

@@ -1,5 +1,8 @@
-use Rattle.hashlink_uses.proofs.Names.{◌∙◌, ap, ap₂, subst, rules, OnSome, with_value, entries_of, state_of}
-use Rattle.hashlink_uses.proofs.Names.{CursorWritten, cursor_state}
+use Rattle.std.proofs.Common.{◌∙◌, ap, ap₂, subst, rules}
+use Rattle.std.specs.Prelude.{OnSome}
+use Rattle.hashlink.specs.MapState.{with_value}
+use Rattle.hashlink.specs.Keyed.{entries_of, state_of}
+use Rattle.hashlink.specs.MapCursor.{CursorWritten, cursor_state}
 use Rattle.hashlink_uses.proofs.Found.{no-value-first}
 use Rattle.hashlink_uses.proofs.maps.entries.write_first.Goals as goal
 

@@ -1,5 +1,9 @@
-use Rattle.hashlink_uses.proofs.Names.{sym, subst, ◌∙◌, on_ok_weaker, IfErr-weaker, AcceptsAll, StopsAt}
-use Rattle.hashlink_uses.proofs.Names.{InsertsPair, state_of, stops_before, taken_all, taken_front}
+use Rattle.std.proofs.Common.{sym, subst, ◌∙◌}
+use Rattle.std.proofs.lemmas.Result.{on_ok_weaker, IfErr-weaker}
+use Rattle.hashlink.specs.Many.{AcceptsAll, StopsAt, InsertsPair}
+use Rattle.hashlink.specs.Keyed.{state_of}
+use Rattle.hashlink.proofs.MapInTurn.{stops_before}
+use Rattle.hashlink.proofs.Taken.{taken_all, taken_front}
 use Rattle.hashlink_uses.proofs.maps.extended.append.Goals as goal
 
 pub returns-clause-all : goal.returns-clause-all

@@ -1,5 +1,11 @@
-use Rattle.hashlink_uses.proofs.Names.{[], ap, sym, ◌∙◌, IfOk-weaker, extended, empty_map, extended-own}
-use Rattle.hashlink_uses.proofs.Names.{accepts_entries, entries_of, state_of, taken_all}
+use Rattle.std.proofs.Common.{[], ap, sym, ◌∙◌}
+use Rattle.std.proofs.lemmas.Result.{IfOk-weaker}
+use Rattle.hashlink.specs.Entries.{extended}
+use Rattle.hashlink.specs.MapState.{empty_map}
+use Rattle.hashlink.proofs.Extends.{extended-own}
+use Rattle.hashlink.proofs.InTurn.{accepts_entries}
+use Rattle.hashlink.specs.Keyed.{entries_of, state_of}
+use Rattle.hashlink.proofs.Taken.{taken_all}
 use Rattle.hashlink_uses.proofs.maps.extended.rebuild.Goals as goal
 
 pub returns : goal.returns

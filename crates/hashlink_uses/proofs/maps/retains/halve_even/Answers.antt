@@ -1,4 +1,5 @@
-use Rattle.hashlink_uses.proofs.Names.{nat_eq, rules, ◌/◌, ◌%◌, retained_writing}
+use Rattle.std.proofs.Common.{nat_eq, rules, ◌/◌, ◌%◌}
+use Rattle.hashlink.proofs.CallerLemmas.{retained_writing}
 use Rattle.hashlink_uses.proofs.maps.retains.halve_even.Goals as goal
 
 pub returns : goal.returns

@@ -1,4 +1,5 @@
-use Rattle.hashlink_uses.proofs.Names.{◌≡◌, nat_lt, refl, rules, set_retained_where}
+use Rattle.std.proofs.Common.{◌≡◌, nat_lt, refl, rules}
+use Rattle.hashlink.proofs.CallerLemmas.{set_retained_where}
 use Rattle.hashlink_uses.proofs.maps.retains.keep_below.Goals as goal
 
 pub returns : goal.returns

@@ -1,4 +1,7 @@
-use Rattle.hashlink_uses.proofs.Names.{rules, ap, ◌∙◌, entries_of, with_value, on-some, walk-ends}
+use Rattle.std.proofs.Common.{rules, ap, ◌∙◌}
+use Rattle.hashlink.specs.Keyed.{entries_of}
+use Rattle.hashlink.specs.MapState.{with_value}
+use Rattle.hashlink.proofs.Walking.{on-some, walk-ends}
 use Rattle.hashlink_uses.proofs.Found.{no-value-left}
 use Rattle.hashlink_uses.proofs.maps.writing_walks.write_first.Goals as goal
 

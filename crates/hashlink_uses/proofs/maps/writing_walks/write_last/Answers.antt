@@ -1,5 +1,8 @@
-use Rattle.hashlink_uses.proofs.Names.{◌≡◌, ◌+◌, ◌-◌, rules, ap, arith, length, ◌∙◌, with_value, state_of}
-use Rattle.hashlink_uses.proofs.Names.{entries_of, last_place, on-some, walk-ends}
+use Rattle.std.proofs.Common.{◌≡◌, ◌+◌, ◌-◌, rules, ap, arith, length, ◌∙◌}
+use Rattle.hashlink.specs.MapState.{with_value}
+use Rattle.hashlink.specs.Keyed.{state_of, entries_of}
+use Rattle.hashlink.specs.WritingWalk.{last_place}
+use Rattle.hashlink.proofs.Walking.{on-some, walk-ends}
 use Rattle.hashlink_uses.proofs.maps.writing_walks.write_last.Goals as goal
 
 pub returns-clause-written : goal.returns-clause-written

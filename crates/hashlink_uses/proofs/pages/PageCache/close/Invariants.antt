@@ -1,5 +1,7 @@
-use Rattle.hashlink_uses.proofs.Names.{◌≤◌, ◌+◌, ℕ, length, nat_eq, lookup, Reads, content}
+use Rattle.std.proofs.Common.{◌≤◌, ◌+◌, ℕ, length, nat_eq}
+use Rattle.std.specs.Map.{lookup}
 use Rattle.hashlink.specs.Cached.{entries_of, state_of}
+use Rattle.hashlink_uses.specs.Contents.{Reads, content}
 use Rattle.hashlink_uses.proofs.pages.PageCache.close.Given as goal
 
 -- what is read stays

@@ -1,6 +1,9 @@
-use Rattle.hashlink_uses.proofs.Names.{ℕ, ap, arith, nat_eq, subst, sym, ◌∙◌, lookup, eqb-true, on_err_weaker}
-use Rattle.hashlink_uses.proofs.Names.{on_ok_weaker, Reads, page_read}
+use Rattle.std.proofs.Common.{ℕ, ap, arith, nat_eq, subst, sym, ◌∙◌}
+use Rattle.std.specs.Map.{lookup}
+use Rattle.std.proofs.lemmas.Bool.{eqb-true}
+use Rattle.std.proofs.lemmas.Result.{on_err_weaker, on_ok_weaker}
 use Rattle.hashlink.specs.Cached.{entries_of}
+use Rattle.hashlink_uses.specs.Contents.{Reads, page_read}
 use Rattle.hashlink_uses.proofs.Paging.{cond-same, kept_moved, moved, none_held, on_either, reads-one}
 use Rattle.hashlink_uses.proofs.pages.PageCache.read.Given.{Over}
 use Rattle.hashlink_uses.proofs.pages.PageCache.read.Goals as goal

@@ -1,4 +1,5 @@
-use Rattle.hashlink_uses.proofs.Names.{arith, on_err_weaker, on_ok_weaker}
+use Rattle.std.proofs.Common.{arith}
+use Rattle.std.proofs.lemmas.Result.{on_err_weaker, on_ok_weaker}
 use Rattle.hashlink_uses.proofs.Paging.{on_either, reads-one}
 use Rattle.hashlink_uses.proofs.pages.PageCache.write.Goals as goal
 
