@@ -42,16 +42,8 @@ impl<S: BuildHasher + Default> Listed for LinkedHashMap<u64, u64, S> {
         seen: Seen,
         answers: &mut Answers,
     ) -> Result<bool, Stop> {
-        let mut commands = Vec::with_capacity(alloc, lines.len())?;
-        for line in lines {
-            let command = command_of(alloc, cut(line).0)?;
-            push(&mut commands, command)?;
-        }
-        let replies = match seen {
-            Seen::Even => run(self, commands, &is_even),
-            Seen::Always => run(self, commands, &is_any),
-        };
-        say_all(replies, answers)
+        let commands = commands_of(alloc, lines)?;
+        say_all(replies_of(self, commands, seen), answers)
     }
 
     fn stand(&self, rt: &HostRuntime) {
@@ -113,6 +105,27 @@ fn is_even(_key: &u64, value: &u64) -> bool {
 
 fn is_any(_key: &u64, _value: &u64) -> bool {
     true
+}
+
+/// Runs the commands on a map.
+fn replies_of<S: BuildHasher>(
+    map: &mut LinkedHashMap<u64, u64, S>,
+    commands: Vec<Command<u64, u64>>,
+    seen: Seen,
+) -> Result<Vec<Reply<u64, u64>>, AllocError> {
+    match seen {
+        Seen::Even => run(map, commands, &is_even),
+        Seen::Always => run(map, commands, &is_any),
+    }
+}
+
+/// The commands to a map that the lines say.
+fn commands_of(alloc: Global, lines: &[&str]) -> Result<Vec<Command<u64, u64>>, Stop> {
+    let mut commands = Vec::with_capacity(alloc, lines.len())?;
+    for line in lines {
+        push(&mut commands, command_of(alloc, cut(line).0)?)?;
+    }
+    Ok(commands)
 }
 
 /// The command to a map that a line says.

@@ -1,9 +1,6 @@
 //! Iterators over two sets, with their bounds, and beside a clone.
 use crate::items::{Item, Line, Name, Stop, Word, lent_item};
 
-/// The bounds of how many are left, and what comes.
-type Came = [Word; 3];
-
 /// Says the bounds of how many are left and what comes, in turn, for so many steps, or where no number of
 /// steps is given until nothing comes. Then nothing more may come, and a clone that is made after the first
 /// step has to say the same.
@@ -18,7 +15,7 @@ pub fn say_steps<'s, I: Iterator<Item = &'s Item> + Clone + Drop>(
         return say_all(first, line);
     };
     for _ in 0..steps.group {
-        line.say_all(&step(&mut first))?;
+        say_step(&mut first, line)?;
     }
     Ok(())
 }
@@ -29,9 +26,7 @@ fn say_all<'s, I: Iterator<Item = &'s Item> + Clone + Drop>(
 ) -> Result<(), Stop>
     requires { (s : I) → I.can_next s }
 {
-    let came = step(&mut first);
-    line.say_all(&came)?;
-    if is_end(came) {
+    if say_step(&mut first, line)? == Word::Nothing {
         return say_end(&mut first, line);
     }
     let mut clone = first.clone()?;
@@ -46,12 +41,12 @@ fn say_alike<'s, I: Iterator<Item = &'s Item>>(
     requires { (s : I) → I.can_next s }
 {
     for _ in 0..64 {
-        let came = step(first);
-        line.say_all(&came)?;
-        if step(clone) != came {
+        let left = first.size_hint();
+        let came = say_step(first, line)?;
+        if clone.size_hint() != left || lent_item(clone.next()) != came {
             line.say(Word::Wrong)?;
         }
-        if is_end(came) {
+        if came == Word::Nothing {
             return say_end(first, line);
         }
     }
@@ -62,23 +57,23 @@ fn say_alike<'s, I: Iterator<Item = &'s Item>>(
 fn say_end<'s, I: Iterator<Item = &'s Item>>(walk: &mut I, line: &mut Line<'_>) -> Result<(), Stop>
     requires { (s : I) → I.can_next s }
 {
-    if walk.next().is_none() && walk.size_hint() == (0, Some(0)) {
+    if walk.next().is_none() && matches!(walk.size_hint(), (0, Some(0))) {
         return Ok(());
     }
     line.say(Word::Wrong)
 }
 
-fn is_end(came: Came) -> bool {
-    came[2] == Word::Nothing
-}
-
-fn step<'s, I: Iterator<Item = &'s Item>>(walk: &mut I) -> Came
+/// Says the bounds of how many are left, and then what comes, which it returns.
+fn say_step<'s, I: Iterator<Item = &'s Item>>(
+    walk: &mut I,
+    line: &mut Line<'_>,
+) -> Result<Word, Stop>
     requires { (s : I) → I.can_next s }
 {
     let (least, most) = walk.size_hint();
-    [
-        Word::count(least),
-        most.map_or(Word::Nothing, Word::count),
-        lent_item(walk.next()),
-    ]
+    line.say(Word::count(least))?;
+    line.say(most.map_or(Word::Nothing, Word::count))?;
+    let came = lent_item(walk.next());
+    line.say(came)?;
+    Ok(came)
 }
