@@ -12,6 +12,5 @@ pub mod LooseSteps
 pub mod Neighbours
 pub mod Opening
 pub mod Paths
-pub mod Shapes
 pub mod StateLemmas
 pub mod Walks

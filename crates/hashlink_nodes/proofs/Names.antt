@@ -14,11 +14,11 @@ pub use Rattle.hashlink_nodes.specs.Ring.{Held, Holds, IsPlace, Ring, held, last
 pub use Rattle.hashlink_nodes.specs.Ring.{node_before, pair_of, prev_place, put_after, put_after_node}
 pub use Rattle.hashlink_nodes.specs.Ring.{put_before, put_before_node, ring, with_key, with_number}
 pub use Rattle.hashlink_nodes.specs.Ring.{with_value}
-pub use Rattle.hashlink_nodes.specs.Shape.{IsChain, IsLinked, IsRing, IsShaped, IsSound, SoundAt, entry_of}
+pub use Rattle.hashlink_nodes.specs.Shape.{IsChain, IsLinked, IsRing, IsSound, SoundAt, entry_of}
 pub use Rattle.hashlink_nodes.specs.Shape.{ring_at, ring_of}
 unfoldable pub use Rattle.hashlink_nodes.specs.Shape.{entries_of, walk}
-pub use Rattle.hashlink_nodes.specs.State.{Adds, Blocks, Drops, GuardIs, MakesGuard, State, held_in, next_in}
-pub use Rattle.hashlink_nodes.specs.State.{prev_in, set_at, state}
+pub use Rattle.hashlink_nodes.specs.State.{Adds, Blocks, Differs, Drops, AreThere, GuardIs, MakesGuard, State, held_in}
+pub use Rattle.hashlink_nodes.specs.State.{next_in, prev_in, set_at, state}
 unfoldable pub use Rattle.hashlink_nodes.specs.State.{attached, detached, hold, store_next, store_prev}
 pub use Rattle.hashlink_nodes.specs.declared.arena.Arena.{Arena}
 pub use Rattle.hashlink_nodes.specs.declared.link_writes.LinkWrites.{LinkWrites}

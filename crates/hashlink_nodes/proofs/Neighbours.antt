@@ -41,7 +41,7 @@ module _ {K V : Type 0} where
           has_place = ap s.has (is_q ∙ at.node) ∙ l.has_prev;
           has_answer = ap s.has is ∙ l.has_next;
           tells = subst (λ (x : Node × Option Node). Tells s x.0 x.1) (λ i. (sym is i, sym at.beside i))
-              (tells_head s g at.gap.after r.shape.bare.0 full);
+              (tells_head s g at.gap.after r.bare.0 full);
         }
 
     pub prev_to : m ≡ s.prev q → NextTo s q m (prev_place (keys_of v.entries) place)
@@ -55,7 +55,7 @@ module _ {K V : Type 0} where
           has_place = ap s.has (is_q ∙ at.node) ∙ l.has_next;
           has_answer = ap s.has is ∙ l.has_prev;
           tells = subst (λ (x : Node × Option Node). Tells s x.0 x.1) (λ i. (sym is i, sym at.beside i))
-              (tells_last s g None at.gap.before (inl (r.shape.bare.0, refl)) full);
+              (tells_last s g None at.gap.before (inl (r.bare.0, refl)) full);
         }
 
   -- what is returned where the node is tested for an entry

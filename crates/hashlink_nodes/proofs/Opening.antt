@@ -72,10 +72,10 @@ module _ {K V : Type 0} where
       let is_length : length (keys_of v.entries) ≡ len = length-keys_of v.entries ∙ is_len in
       let entries : entries_of s.held (walk s.next (s.next g) len) ≡ v.entries
       = ap (λ k. entries_of s.held (walk s.next (s.next g) k)) (sym is_length)
-      ∙ ap (entries_of s.held) (walk-linked s.next s.prev g (keys_of v.entries) g r.shape.links)
+      ∙ ap (entries_of s.held) (walk-linked s.next s.prev g (keys_of v.entries) g r.links)
       ∙ entries-held s.held v.entries r.full in
       let free : walk s.next first spare ≡ v.free
-      = ap (walk s.next first) (sym is_spare) ∙ walk-chain s.next first v.free r.shape.chain in
+      = ap (walk s.next first) (sym is_spare) ∙ walk-chain s.next first v.free r.chain in
       let view : ring_at s (Some g) first len spare ≡ v
       = λ i. record { entries = entries i; free = free i; link_writes = r.writes i } in
       subst (λ o. Leaves s o first len spare v) (sym is) (record {
@@ -85,7 +85,7 @@ module _ {K V : Type 0} where
         free = free;
         link_writes = r.writes;
         apart = subst (λ (x : Ring K V). IsDistinct same_node (keys_of x.entries ++ x.free)) (sym view)
-            (IsDistinct-tail same_node g (keys_of v.entries ++ v.free) r.shape.apart);
+            (IsDistinct-tail same_node g (keys_of v.entries ++ v.free) r.apart);
       })
 
   -- ---- a ring is opened
@@ -104,9 +104,7 @@ module _ {K V : Type 0} where
   pub record NodeAt (s : State K V) (guard : Option Node) (g first : Node) (len spare : ℕ) (v : Ring K V)
       (n : Node) : Type 0 where
     pub is : guard ≡ Some g
-    pub ring : IsRing s [] g first v
-    pub is_len : length v.entries ≡ len
-    pub is_spare : length v.free ≡ spare
+    pub whole : Opened s g first len spare v
     pub cut : Cut v.entries n
     pub here : InRing s n cut.value
     pub shows : lookup (same_node n) v.entries ≡ s.held n
@@ -155,8 +153,8 @@ module _ {K V : Type 0} where
       | Some g ↦ λ is. let o = opened is in record {
         is_len = o.is_len;
         is_spare = o.is_spare;
-        small = omega (arith, o.ring.shape.few, length-keys_of v.entries, o.is_len, o.is_spare);
-        differ = IsDistinct-tail same_node g (keys_of v.entries ++ v.free) o.ring.shape.apart;
+        small = omega (arith, o.ring.few, o.is_len, o.is_spare);
+        differ = IsDistinct-tail same_node g (keys_of v.entries ++ v.free) o.ring.apart;
       }
     ]) refl
 
@@ -167,9 +165,7 @@ module _ {K V : Type 0} where
         let here = in_ring o.ring c.before m c.value c.after c.is in
         record {
           is = is;
-          ring = o.ring;
-          is_len = o.is_len;
-          is_spare = o.is_spare;
+          whole = o;
           cut = c;
           here = here;
           shows = cut-looked c ∙ sym here.holds;

@@ -2,7 +2,7 @@
 use Rattle.hashlink_nodes.proofs.Names.{◌≡◌, ℕ, ◌+◌, Bool, true, false, cond, List, [], ◌∷◌, length, Option}
 use Rattle.hashlink_nodes.proofs.Names.{None, Some, refl, sym, subst, ap, ◌∙◌, arith, IsNone, is_some, lookup}
 use Rattle.hashlink_nodes.proofs.Names.{set_value, remove_entry, lookup-set_value, length-set_value}
-use Rattle.hashlink_nodes.proofs.Names.{same_node, same_node_equiv, eq-same_node, State, Blocks, state}
+use Rattle.hashlink_nodes.proofs.Names.{same_node, same_node-refl, Differs, same_node_equiv, eq-same_node, State, Blocks, state}
 use Rattle.hashlink_nodes.proofs.Names.{set_at, next_in, prev_in, held_in, store_next, store_prev, hold, Adds}
 use Rattle.hashlink_nodes.proofs.Names.{MakesGuard, Drops, Node, Link, Kept, kept, alter, entry_in}
 use Rattle.hashlink_nodes.proofs.Names.{with_links, with_pair, Pool, state_of, kept_with, pool_with, held}
@@ -190,7 +190,7 @@ module _ {K V : Type 0} (bs : Blocks K V) (count count' : ℕ) (n : Node) (k : K
 
   -- both links of n, which is new, lead to n itself
   pub looped : (s : State K V) (next prev : Link) → next ≡ record { to = n } → prev ≡ record { to = n }
-      → count' ≡ count → Adds n None s (state bs count)
+      → count' ≡ count → Adds n s (state bs count)
       → MakesGuard n s (state (changed (with_links (record { next = next; prev = prev }))) count')
   looped s next prev is_next is_prev is_count a =
       let is : state (changed (with_links (record { next = next; prev = prev }))) count' ≡ record S {
@@ -204,11 +204,15 @@ module _ {K V : Type 0} (bs : Blocks K V) (count count' : ℕ) (n : Node) (k : K
       }) in
       subst (MakesGuard n s) (sym is) (record {
         adds = record {
+          differs = record {
+            next = λ m h. set_at_other S.next n m n h ∙ a.differs.next m h;
+            prev = λ m h. set_at_other S.prev n m n h ∙ a.differs.prev m h;
+            held = a.differs.held;
+            has = a.differs.has;
+          };
           absent = a.absent;
-          next = λ m h. set_at_other S.next n m n h ∙ a.next m h;
-          prev = λ m h. set_at_other S.prev n m n h ∙ a.prev m h;
-          held = a.held;
-          has = a.has;
+          there = a.there;
+          bare = a.bare;
           size = a.size;
           link_writes = a.link_writes;
         };
@@ -217,44 +221,39 @@ module _ {K V : Type 0} (bs : Blocks K V) (count count' : ℕ) (n : Node) (k : K
       })
 
 module _ {K V : Type 0} where
+  differs : (bs bs' : Blocks K V) {count count' : ℕ} {n : Node}
+      → ((m : Node) → same_node m n ≡ false → lookup (same_node m) bs' ≡ lookup (same_node m) bs)
+      → Differs n (state bs count) (state bs' count')
+  differs bs bs' at = record {
+    next = λ m k. ap (next_in m) (at m k);
+    prev = λ m k. ap (prev_in m) (at m k);
+    held = λ m k. ap held_in (at m k);
+    has = λ m k. ap is_some (at m k);
+  }
+
   -- a block came in
-  pub added : (bs bs' : Blocks K V) (count : ℕ) (n : Node) (b : Kept (K × V))
-      (h : Option (Held K V))
-      → bs' ≡ (n, b) ∷ bs → IsNone (lookup (same_node n) bs) → held_in (Some b) ≡ h
-      → Adds n h (state bs count) (state bs' count)
-  added bs bs' count n b h is apart held =
-      let at : (m : Node) → lookup (same_node m) bs' ≡ cond (same_node m n) (Some b) (lookup (same_node m) bs)
-      = λ m. ap (lookup (same_node m)) is in
-      let off : (m : Node) → same_node m n ≡ false → lookup (same_node m) bs' ≡ lookup (same_node m) bs
-      = λ m k. at m ∙ ap (λ y. cond y (Some b) (lookup (same_node m) bs)) k in
-      record {
+  pub added : (bs : Blocks K V) (count : ℕ) (n : Node) (l : Links) {bs' : Blocks K V}
+      → bs' ≡ (n, kept l None) ∷ bs → IsNone (lookup (same_node n) bs)
+      → Adds n (state bs count) (state bs' count)
+  added bs count n l is apart =
+      let b = kept {T = K × V} l None in let found = λ (m : Node) (y : Bool). cond y (Some b) (lookup (same_node m) bs) in
+      subst (λ x. Adds n (state bs count) (state x count)) (sym is) (record {
+        differs = differs bs ((n, b) ∷ bs) (λ m k. ap (found m) k);
         absent = apart;
-        next = λ m k. ap (next_in m) (off m k);
-        prev = λ m k. ap (prev_in m) (off m k);
-        held = λ i m.
-            (ap held_in (at m) ∙ seen_first (λ (k : Node). held_in) n m b (lookup (same_node m) bs)
-            ∙ ap (λ x. cond (same_node m n) x ((state bs count).held m)) held)
-            i;
-        has = λ i m.
-            (ap is_some (at m) ∙ seen_first (λ (k : Node). is_some) n m b (lookup (same_node m) bs)) i;
-        size = ap length is ∙ omega arith;
+        there = ap (λ y. is_some (found n y)) (same_node-refl n);
+        bare = ap (λ y. held_in (found n y)) (same_node-refl n);
+        size = omega arith;
         link_writes = refl;
-      }
+      })
 
   pub dropped : (bs bs' : Blocks K V) (count : ℕ) (n : Node) → is_some (lookup (same_node n) bs) ≡ true
       → bs' ≡ remove_entry (same_node n) bs
       → Drops n (state bs count) (state bs' count)
-  dropped bs bs' count n there is =
-      let at : (m : Node) → same_node m n ≡ false → lookup (same_node m) bs' ≡ lookup (same_node m) bs
-      = λ m h. ap (lookup (same_node m)) is ∙ lookup_removed n m bs h in
-      record {
-        next = λ m h. ap (next_in m) (at m h);
-        prev = λ m h. ap (prev_in m) (at m h);
-        held = λ m h. ap held_in (at m h);
-        has = λ m h. ap is_some (at m h);
-        size = ap (λ (cs : Blocks K V). length cs + 1) is ∙ length-removed bs (cut bs n there);
-        link_writes = refl;
-      }
+  dropped bs bs' count n there is = record {
+    differs = differs bs bs' (λ m k. ap (lookup (same_node m)) is ∙ lookup_removed n m bs k);
+    size = ap (λ (cs : Blocks K V). length cs + 1) is ∙ length-removed bs (cut bs n there);
+    link_writes = refl;
+  }
 
   -- a store changes no node's block
   pub next_has : {s' : State K V} (n to : Node) (s : State K V) → s' ≡ store_next n to s → (m : Node)

@@ -59,21 +59,33 @@ module _ {K V : Type 0} where
   unfoldable pub hold : Node → Option (Held K V) → State K V → State K V
   hold n h s = record s { held = set_at s.held n h }
 
-  -- n is new and holds h, its links lead anywhere, and no other node changed
-  pub record Adds (n : Node) (h : Option (Held K V)) (old new : State K V) : Type 0 where
-    pub absent : old.has n ≡ false
+  -- new is as old but at n
+  pub record Differs (n : Node) (old new : State K V) : Type 0 where
     pub next : (m : Node) → same_node m n ≡ false → new.next m ≡ old.next m
     pub prev : (m : Node) → same_node m n ≡ false → new.prev m ≡ old.prev m
-    pub held : new.held ≡ set_at old.held n h
-    pub has : new.has ≡ set_at old.has n true
+    pub held : (m : Node) → same_node m n ≡ false → new.held m ≡ old.held m
+    pub has : (m : Node) → same_node m n ≡ false → new.has m ≡ old.has m
+
+  -- n is new and holds nothing, its links lead anywhere, and no other node changed
+  pub record Adds (n : Node) (old new : State K V) : Type 0 where
+    pub differs : Differs n old new
+    pub absent : old.has n ≡ false
+    pub there : new.has n ≡ true
+    pub bare : new.held n ≡ None
     pub size : new.size ≡ old.size + 1
     pub link_writes : new.link_writes ≡ old.link_writes
 
   -- g is new: it links to itself, and holds nothing
   pub record MakesGuard (g : Node) (old new : State K V) : Type 0 where
-    pub adds : Adds g None old new
+    pub adds : Adds g old new
     pub next : new.next g ≡ g
     pub prev : new.prev g ≡ g
+
+  -- n, p and q have blocks
+  pub record AreThere (s : State K V) (n p q : Node) : Type 0 where
+    pub node : s.has n ≡ true
+    pub prev : s.has p ≡ true
+    pub next : s.has q ≡ true
 
   -- the neighbours of n link past it
   unfoldable pub detached : Node → State K V → State K V
@@ -85,10 +97,7 @@ module _ {K V : Type 0} where
 
   -- n has no block any more, and no other node changed
   pub record Drops (n : Node) (old new : State K V) : Type 0 where
-    pub next : (m : Node) → same_node m n ≡ false → new.next m ≡ old.next m
-    pub prev : (m : Node) → same_node m n ≡ false → new.prev m ≡ old.prev m
-    pub held : (m : Node) → same_node m n ≡ false → new.held m ≡ old.held m
-    pub has : (m : Node) → same_node m n ≡ false → new.has m ≡ old.has m
+    pub differs : Differs n old new
     pub size : new.size + 1 ≡ old.size
     pub link_writes : new.link_writes ≡ old.link_writes
 

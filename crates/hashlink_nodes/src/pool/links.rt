@@ -1,5 +1,5 @@
 //! The links of the blocks. All code that makes a link or stores one is in this file.
-ghost use Rattle.std.specs.Prelude.{◌≡◌, ◌+◌, false, true, IfOk, None, OnErr};
+ghost use Rattle.std.specs.Prelude.{◌≡◌, ◌+◌, false, true, IfOk, OnErr};
 ghost use Rattle.hashlink_nodes.specs.Pool.{state_of};
 ghost use Rattle.hashlink_nodes.specs.State.{store_next, store_prev, Adds, MakesGuard};
 
@@ -90,7 +90,7 @@ impl<K, V> Pool<K, V> {
 
     /// Allocates a node that holds nothing. Its links lead nowhere until they are stored.
     pub(crate) fn make(&mut self, alloc: Global) -> Result<Node, AllocError>
-        ensures made { IfOk result (λ n. Adds n None (state_of self.old) (state_of self.new)) }
+        ensures made { IfOk result (λ n. Adds n (state_of self.old) (state_of self.new)) }
         ensures refused { OnErr result (self.new ≡ self.old) }
     {
         match Loose::allocate(alloc) {

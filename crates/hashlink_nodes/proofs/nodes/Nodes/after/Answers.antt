@@ -4,11 +4,11 @@ use Rattle.hashlink_nodes.proofs.Opening.{known, node_in}
 use Rattle.hashlink_nodes.proofs.nodes.Nodes.after.Goals as goal
 
 pub next-requires : goal.next-requires
-next-requires g c = (node_in c.self.invariant c.self.view_is c.args.node c.requires).here.has_node
+next-requires g c = (node_in c.self.invariant c.self.view_is c.args.node c.requires).here.fits.node
 
 pub returns : goal.returns
 returns g c =
-    let r = (node_in c.self.invariant c.self.view_is c.args.node c.requires).ring in record {
+    let r = (node_in c.self.invariant c.self.view_is c.args.node c.requires).whole.ring in record {
       next = told (state_of c.self.inside.pool)
           (next_to r (Some c.args.node) c.requires refl c.next.ensures).tells;
       apart = (known c.self.invariant c.self.view_is).differ;
