@@ -15,6 +15,16 @@ use Rattle.hashlink_nodes.proofs.Walks.{unhide, RattleType, owns, Ptr, block_ptr
 use Rattle.hashlink_nodes.proofs.Walks.{lies_at, lent_at, MutRef, types_at, plain, mut_ref_to, param, nothing}
 use Rattle.hashlink_nodes.proofs.Walks.{heard, opens, Stays, stay_dropped, walk_of, Goes-dropped}
 use Rattle.hashlink_nodes.proofs.Walks.{Goes-spent_ref, word, proved_at, leaves, ◌⊑◌}
+use Rattle.hashlink_nodes.proofs.Walks.{enter, alloc_all, pass_all, env, heard, first, blocks, sets, sets_last}
+use Rattle.hashlink_nodes.proofs.Walks.{is, of_opd, get_in, fld, stop, sub, whole, ptr_val, addr, through, exec}
+use Rattle.hashlink_nodes.proofs.Walks.{after, at_ret, get, returns, look_at, free_all, word-Good, subst, Ty, ap}
+use mir.Syntax.{Mutability, erased, local, value_local, ty_ref, ty_ptr, seq, block}
+use denote.Memory.{pointee, lone}
+use denote.Param.{layout}
+use Rattle.hashlink_nodes.specs.contracts.arena.Block as blocks
+use mathlib.Core.Option.{some as just}
+use prog.Memory.{field_of}
+use mir.Syntax.{assign, place, rv_opd, copy, field, deref, addr_of, return}
 use Rattle.hashlink_nodes.specs.contracts.arena.Arena.{the_row}
 use Rattle.hashlink_nodes.proofs.ArenaSteps.{Mark, Nd, word_had, args_are}
 use Rattle.hashlink_nodes.proofs.ArenaBlocks.{blocks_cut, blocks_glue}
@@ -28,29 +38,61 @@ signed self result = record {
   result = result;
 }
 
+-- its code, where it lends the field k of a block by references of this mutability
+abbrev lending : RattleType → RattleType → Mutability → ℕ → Fn
+lending R P m k = record {
+  lifetimes = 1;
+  outlives = (1, 0) ∷ [];
+  ty_params = [];
+  givens = 0;
+  params = 2;
+  locals = local (ty_ref (named 0) m (pointee P.written)) value_local
+      ∷ local (ty_ref (named 0) m (pointee (the_row R).written)) value_local
+      ∷ local (lone Nd.mir) value_local ∷ local (ty_ref erased m (pointee P.written)) value_local
+      ∷ local ty_ptr value_local ∷ [];
+  body = seq (block (seq (assign (place 4 []) (rv_opd (copy (place 2 (field 0 ∷ [])))))
+      (assign (place 3 []) (addr_of (place 4 (deref (layout (blocks.the_row R)) ∷ field k ∷ []))))))
+      (seq (assign (place 0 []) (rv_opd (copy (place 3 [])))) return);
+}
+
 module _ {M : Type 1} (𝓤 : Ura M) (𝓛 : Logic 𝓤) (𝓜 : Model 𝓤 𝓛.H) (𝓡 : Running 𝓤 𝓛.H 𝓜) (T P : RattleType)
-    (one : One P.mir) (off : ℕ) (key : Callee) (fn : Fn) where
+    (one : One P.mir) (off : ℕ) (key : Callee) (m : Mutability) (nth : ℕ) where
   open 𝓛 use {H}
 
   abbrev R : RattleType
   R = param 0 T
 
-  abbrev Runs : List Val → (Val → SProp 𝓤) → SProp 𝓤
-  Runs vs Post = let 𝓣 = tables 𝓤 H 𝓜 𝓡 𝓡.env in WpFn 𝓤 H 𝓣.C 𝓣.Λ fn vs Post
-
   -- the address of the part of a block at p is what is returned
-  abbrev pub Address : Ptr → (Val → SProp 𝓤) → Item 𝓤
+  abbrev Address : Ptr → (Val → SProp 𝓤) → Item 𝓤
   Address p Post =
       some (λ (x : ℕ × ℕ). raw (fact 𝓤 (p ≡ block_ptr x.0 x.1)) ⊛ raw (Post (vptr x.0 (x.1 + off))))
 
-  -- the code returns that address
-  abbrev pub Finds : Type 2
-  Finds = (Post : Val → SProp 𝓤) (rb ro : ℕ) (p : Ptr) (Q : SProp 𝓤)
-      → ent 𝓤 Q (mean 𝓛 (later (Address p Post))) → ent 𝓤 Q (Runs (vptr rb ro ∷ word p ∷ []) Post)
+  abbrev fn : Fn
+  fn = lending R P m nth
 
-  begins : {K : Type 0} {Γ : List (Item 𝓤)} → K → Finds → (Post : Val → SProp 𝓤) (rb ro : ℕ) (p : Ptr)
+  abbrev Runs : List Val → (Val → SProp 𝓤) → SProp 𝓤
+  Runs vs Post = let 𝓣 = tables 𝓤 H 𝓜 𝓡 𝓡.env in WpFn 𝓤 H 𝓣.C 𝓣.Λ fn vs Post
+
+  -- the code returns that address
+  found : {τ : Ty} → field_of (layout (blocks.the_row R)) nth ≡ just (τ, off) → (Post : Val → SProp 𝓤)
+      (rb ro : ℕ) (p : Ptr) (Q : SProp 𝓤)
+      → ent 𝓤 Q (mean 𝓛 (later (Address p Post))) → ent 𝓤 Q (Runs (vptr rb ro ∷ word p ∷ []) Post)
+  found e Post rb ro p Q ran =
+      let 𝓣 = tables 𝓤 H 𝓜 𝓡 𝓡.env in
+      qed 𝓛 (raw Q ∷ []) ∵ enter ! 𝓣.C 𝓣.Λ fn (vptr rb ro ∷ word p ∷ []) Post $
+      alloc_all ! (λ l. pass_all ! refl ((tt, tt), (word-Good [] p, tt)) $ let Ev = env fn.locals l in
+      use1 𝓛 (later (Address p Post)) ran $ await ! tt $
+      pick ! (λ x. split ! $ heard ! _ (λ at. first ! $ blocks ! $
+      sets ! (is ! (of_opd ! (get_in ! (fld ! refl (stop !)) (sub ! 0 refl (whole !)))) (ap ptr_val at)) refl
+      (tt, tt) $
+      sets_last ! (addr ! (through ! refl (fld ! e (stop !)))) refl (tt, tt) $
+      exec ! 𝓣.C 𝓣.Λ Ev (after 1 fn.body) (at_ret Ev Post) $ sets ! (of_opd ! (get ! refl)) refl (tt, tt) $
+      returns ! (look_at ! 0 refl) $ free_all ! refl $ keep ! (0 ∷ []) $ done !)))
+
+  begins : {K : Type 0} {Γ : List (Item 𝓤)} {τ : Ty} → K → field_of (layout (blocks.the_row R)) nth ≡ just (τ, off)
+      → (Post : Val → SProp 𝓤) (rb ro : ℕ) (p : Ptr)
       → Step K 𝓛 Γ (upd (mean 𝓛 (Address p Post))) Γ (prop (Runs (vptr rb ro ∷ word p ∷ []) Post))
-  begins t finds Post rb ro p = step (λ s. record { prf = finds Post rb ro p _ s.prf })
+  begins t e Post rb ro p = step (λ s. record { prf = found e Post rb ro p _ s.prf })
 
   addressed : (Post : Val → SProp 𝓤) (p : Ptr) (b o : ℕ) → p ≡ block_ptr b o
       → ent 𝓤 (Post (vptr b (o + off))) (mean 𝓛 (Address p Post))
@@ -103,10 +145,10 @@ module _ {M : Type 1} (𝓤 : Ura M) (𝓛 : Logic 𝓤) (𝓜 : Model 𝓤 𝓛
             ((c z.0.0 z.0.3).ensures z.1 (record { ref_ptr = at; now = part _ _ held })
             (at_exit S z.0.0 z.0.3 (tt, (tt, tt))))
 
-      pub shared : Shares → Finds
+      pub shared : {τ : Ty} → field_of (layout (blocks.the_row R)) nth ≡ just (τ, off) → Shares
           → Meets 𝓛 S.signature (let 𝓣 = tables 𝓤 H 𝓜 𝓡 𝓡.env in 𝓣.C key)
           (closing 𝓛 S c)
-      shared s finds =
+      shared at_k s =
           proved_at 𝓛 S shared_stays c 𝓜 𝓡 (
             Goes-dropped 𝓛 2 (RefOf (0 ∷ []) tt (plain (λ _. the_row R)) (λ _. tt)) yes (λ κs x f. refl),
             (Goes-dropped 𝓛 2 (plain (λ _. Nd)) yes (λ κs x f. refl), tt),
@@ -127,7 +169,7 @@ module _ {M : Type 1} (𝓤 : Ura M) (𝓛 : Logic 𝓤) (𝓜 : Model 𝓤 𝓛
           move ! (1 ∷ []) $ fsplit ! $ fsplit ! $ feq_l !
           (λ e0. move ! (1 ∷ []) $ fsplit ! $ word_had ! n.at z.0.4.1.0 (λ e1. drop ! $
           args_are ! (λ (ws : List Val × List Val). Run (ws.0 ++ (ws.1 ++ []))) (λ j. (sym e0 j, sym e1 j)) $
-          begins ! finds Post rb ro n.at $ unhide ! $ fsplit ! $ drop ! $
+          begins ! at_k Post rb ro n.at $ unhide ! $ fsplit ! $ drop ! $
           use1 𝓛 (‵ (lent_at P (n.at +ₚ off) w κs.0) ⊛ raw (fact 𝓤 (s.Seen a n held))) (s.shows z held) $
           split ! $ move ! (1 ∷ []) $ heard ! _ (λ seen.
           in_a_block ! n.at (λ p. lent_at P (p +ₚ off) w κs.0)
@@ -203,10 +245,10 @@ module _ {M : Type 1} (𝓤 : Ura M) (𝓛 : Logic 𝓤) (𝓜 : Model 𝓤 𝓛
             (λ w. altered z.0.3.0.now z.0.3.1.0 (change w))))
             ((c z.0.0 z.0.3).ensures z.1 r (at_exit S' z.0.0 z.0.3 (tt, (tt, tt))))
 
-      pub lent : Lends → Finds
+      pub lent : {τ : Ty} → field_of (layout (blocks.the_row R)) nth ≡ just (τ, off) → Lends
           → Meets 𝓛 S'.signature (let 𝓣 = tables 𝓤 H 𝓜 𝓡 𝓡.env in 𝓣.C key)
           (closing 𝓛 S' c)
-      lent s finds =
+      lent at_k s =
           let Ar : RattleType = the_row R in
           proved_at 𝓛 S' lent_stays c 𝓜 𝓡 (
             Goes-spent_ref 𝓛 2 (0 ∷ []) tt (plain (λ _. Ar)),
@@ -230,7 +272,7 @@ module _ {M : Type 1} (𝓤 : Ura M) (𝓛 : Logic 𝓤) (𝓜 : Model 𝓤 𝓛
           -- [obs; the borrow; the tokens]
           args_are ! (λ (ws : List Val × List Val). Run (ws.0 ++ (ws.1 ++ []))) (λ j. (sym e0 j, sym e1 j)) $
           move ! (2 ∷ []) $ split3 ! $ move ! (3 ∷ 4 ∷ 0 ∷ []) $
-          begins ! finds Post rb ro n.at $
+          begins ! at_k Post rb ro n.at $
           opens ! tt Ar {h = a} rb ro (λ vs. move ! (1 ∷ []) $ fsplit ! $ move ! (1 ∷ []) $
           use1 𝓛 (‵ (block_owns R n.at k) ⊛ ‵ (blocks_own R (remove_entry (same_node n) a.blocks)))
           (blocks_cut R 𝓛 n a.blocks k is_k) $ split ! $

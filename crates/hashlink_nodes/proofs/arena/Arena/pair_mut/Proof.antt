@@ -13,7 +13,8 @@ use Rattle.hashlink_nodes.proofs.Names.{same_node}
 use Rattle.hashlink_nodes.specs.Ownership.{pair_of}
 use Rattle.hashlink_nodes.proofs.ArenaBlocks.{found_entry}
 use Rattle.hashlink_nodes.proofs.ArenaSteps.{states}
-use Rattle.hashlink_nodes.proofs.ArenaLends.{Address, lent}
+use mir.Syntax.{mut}
+use Rattle.hashlink_nodes.proofs.ArenaLends.{lent}
 use Rattle.hashlink_nodes.specs.contracts.arena.Arena.{the_row}
 use Rattle.hashlink_nodes.specs.contracts.arena.Arena.pair_mut.{clauses}
 use Rattle.hashlink_nodes.specs.contracts.arena.Arena.pair_mut.Key.{name as #self}
@@ -22,10 +23,9 @@ use Rattle.hashlink_nodes.proofs.arena.Arena.pair_mut.Code as code
 
 pub pair_mut_spec : {M : Type 1} → statement M
 pair_mut_spec 𝓤 𝓛 𝓜 𝓡 wired T L =
-    let 𝓣 = tables 𝓤 𝓛.H 𝓜 𝓡 𝓡.env in let R : RattleType = param 0 T in
-    let inst = layouts (a_type ∷ []) (T, tt) in let fn = inst_fn inst code.function in
-    lent 𝓤 𝓛 𝓜 𝓡 T R tt (pair_offset R) (#self inst) fn (code.unfolded 𝓤 𝓛.H 𝓜 𝓡 wired (T, tt))
-    (clauses T 𝓛 𝓜.mem 𝓡.returns)
+    let R : RattleType = param 0 T in let inst = layouts (a_type ∷ []) (T, tt) in
+    lent 𝓤 𝓛 𝓜 𝓡 T R tt (pair_offset R) (#self inst) mut 0 (code.unfolded 𝓤 𝓛.H 𝓜 𝓡 wired (T, tt))
+    (clauses T 𝓛 𝓜.mem 𝓡.returns) refl
     (record {
       change = with_pair;
       Asked = λ a n. IsSome (entry_in (lookup (same_node n) a.blocks));
@@ -56,13 +56,3 @@ pair_mut_spec 𝓤 𝓛 𝓜 𝓡 wired T L =
           ∙ ap (option_map (λ (x : ℕ × T.Denot). x.1)) at_n.3 ∙ ap Some (sym is)) $
           move ! (1 ∷ 0 ∷ []) $ join ! $ done !;
     })
-    (λ Post rb ro p Q ran. qed 𝓛 (raw Q ∷ []) ∵ enter ! 𝓣.C 𝓣.Λ fn (vptr rb ro ∷ word p ∷ []) Post $
-    alloc_all !
-    (λ l. pass_all ! refl ((tt, tt), (word-Good [] p, tt)) $ let Ev = env fn.locals l in
-    use1 𝓛 (later (Address 𝓤 𝓛 𝓜 𝓡 T R tt (pair_offset R) (#self inst) fn p Post)) ran $ await ! tt $
-    pick ! (λ x. split ! $ heard ! _ (λ e. first ! $ blocks ! $
-    sets ! (is ! (of_opd ! (get_in ! (fld ! refl (stop !)) (sub ! 0 refl (whole !)))) (ap ptr_val e)) refl
-    (tt, tt) $
-    sets_last ! (addr ! (through ! refl (fld ! refl (stop !)))) refl (tt, tt) $
-    exec ! 𝓣.C 𝓣.Λ Ev (after 1 fn.body) (at_ret Ev Post) $ sets ! (of_opd ! (get ! refl)) refl (tt, tt) $
-    returns ! (look_at ! 0 refl) $ free_all ! refl $ keep ! (0 ∷ []) $ done !))))
