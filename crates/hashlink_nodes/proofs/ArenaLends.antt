@@ -1,30 +1,26 @@
 -- An arena lends a part of a block, by `&` and by `&mut`. A function of it gives its code, which computes
 -- an address alone, and where the part is in a block. Assumes `Logic`.
-use Rattle.hashlink_nodes.proofs.Names.{part_of, Fn, Callee, Model, Closed, Running, fact_i, via, ex_i, Item}
-use Rattle.hashlink_nodes.proofs.Names.{Step, step, mean, now, prop, upd, One, Signature, Slot, ◌+ₚ◌, Ended}
-use Rattle.hashlink_nodes.proofs.Names.{Clauses, at_exit, closing, Meets, block_owns, blocks_own, blocks_lent}
-use Rattle.hashlink_nodes.proofs.Names.{same_node, altered, Kept, alter, Node, Arena}
-use Rattle.hashlink_nodes.proofs.Walks.{◌≡◌, ℕ, ◌+◌, List, [], ◌∷◌, ◌++◌, refl, sym, Some, Bor, MutBor}
-use Rattle.hashlink_nodes.proofs.Walks.{lookup, remove_entry, Ura, full_share, named, Val, vptr, SProp, ent}
-use Rattle.hashlink_nodes.proofs.Walks.{sep, emp, never, id⊢, Fml, GName, ftrue, flft, fsep, WpFn, Logic, sem}
-use Rattle.hashlink_nodes.proofs.Walks.{‵, raw, ◌⊛◌, some, later, ◌$◌, ◌∵◌, !, qed, by, move, keep, drop}
-use Rattle.hashlink_nodes.proofs.Walks.{split, split3, join, group, fsplit, fsplit3, fjoin, fpack, pick}
-use Rattle.hashlink_nodes.proofs.Walks.{await, rewrite, use0, use1, use2, suffices, feq_i, feq_l, done, fact}
-use Rattle.hashlink_nodes.proofs.Walks.{tables, RefOf, yes, no, follows, Part, lends_Part, mem, cell_at, hide}
-use Rattle.hashlink_nodes.proofs.Walks.{unhide, RattleType, owns, Ptr, block_ptr, null_ptr, in_a_block}
-use Rattle.hashlink_nodes.proofs.Walks.{lies_at, lent_at, MutRef, types_at, plain, mut_ref_to, param, nothing}
-use Rattle.hashlink_nodes.proofs.Walks.{heard, opens, Stays, stay_dropped, walk_of, Goes-dropped}
-use Rattle.hashlink_nodes.proofs.Walks.{Goes-spent_ref, word, proved_at, leaves, ◌⊑◌}
-use Rattle.hashlink_nodes.proofs.Walks.{enter, alloc_all, pass_all, env, heard, first, blocks, sets, sets_last}
-use Rattle.hashlink_nodes.proofs.Walks.{is, of_opd, get_in, fld, stop, sub, whole, ptr_val, addr, through, exec}
-use Rattle.hashlink_nodes.proofs.Walks.{after, at_ret, get, returns, look_at, free_all, word-Good, subst, Ty, ap}
-use mir.Syntax.{Mutability, erased, local, value_local, ty_ref, ty_ptr, seq, block}
+use Rattle.hashlink_nodes.proofs.Names
+use Names.{part_of, Fn, Callee, Model, Closed, Running, fact_i, via, ex_i, Item, Step, step, mean, now, prop}
+use Names.{upd, One, Signature, Slot, ◌+ₚ◌, Ended, Clauses, at_exit, closing, Meets, block_owns, blocks_own}
+use Names.{blocks_lent, same_node, altered, Kept, alter, Node, Arena, ◌≡◌, ℕ, ◌+◌, List, [], ◌∷◌, ◌++◌, refl}
+use Names.{sym, Some, Bor, MutBor, lookup, remove_entry, Ura, full_share, named, Val, vptr, SProp, ent, sep}
+use Names.{emp, never, id⊢, Fml, GName, ftrue, flft, fsep, WpFn, Logic, sem, ‵, raw, ◌⊛◌, some, later, ◌$◌}
+use Names.{◌∵◌, !, qed, by, move, keep, drop, split, split3, join, group, fsplit, fsplit3, fjoin, fpack, pick}
+use Names.{await, rewrite, use0, use1, use2, suffices, feq_i, feq_l, done, fact, tables, RefOf, yes, no}
+use Names.{follows, Part, lends_Part, mem, cell_at, hide, unhide, RattleType, owns, Ptr, block_ptr, null_ptr}
+use Names.{in_a_block, lies_at, lent_at, MutRef, types_at, plain, mut_ref_to, param, nothing, heard, opens}
+use Names.{Stays, stay_dropped, walk_of, Goes-dropped, Goes-spent_ref, word, proved_at, leaves, ◌⊑◌, enter}
+use Names.{alloc_all, pass_all, env, first, blocks, sets, sets_last, is, of_opd, get_in, fld, stop, sub}
+use Names.{whole, ptr_val, addr, through, exec, after, at_ret, get, returns, look_at, free_all, word-Good, Ty}
+use Names.{ap}
+use mir.Syntax.{Mutability, erased, local, value_local, ty_ref, ty_ptr, seq, block, assign, place, rv_opd}
+use mir.Syntax.{copy, field, deref, addr_of, return}
 use denote.Memory.{pointee, lone}
 use denote.Param.{layout}
 use Rattle.hashlink_nodes.specs.contracts.arena.Block as blocks
 use mathlib.Core.Option.{some as just}
 use prog.Memory.{field_of}
-use mir.Syntax.{assign, place, rv_opd, copy, field, deref, addr_of, return}
 use Rattle.hashlink_nodes.specs.contracts.arena.Arena.{the_row}
 use Rattle.hashlink_nodes.proofs.ArenaSteps.{Mark, Nd, word_had, args_are}
 use Rattle.hashlink_nodes.proofs.ArenaBlocks.{blocks_cut, blocks_glue}

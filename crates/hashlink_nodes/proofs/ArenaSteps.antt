@@ -1,11 +1,10 @@
 -- What the walks of the arena's functions share. Assumes `Logic`.
-use Rattle.hashlink_nodes.proofs.Names.{◌≡◌, ◌^◌, List, [], ◌∷◌, ◌++◌, refl, subst, Ura, lit<, Ty, int_big}
-use Rattle.hashlink_nodes.proofs.Names.{w64, Fits, Val, vint, vstruct, vcons, vnil, of_list, SProp, ent, emp}
-use Rattle.hashlink_nodes.proofs.Names.{guard_i, via, fact, fact_i, prop, raw, use0, Item, Goal, Seq, Step}
-use Rattle.hashlink_nodes.proofs.Names.{step, ‵, ◌$◌, drop, fsplit, fjoin, fpick, fpack, feq_i, feq_l}
-use Rattle.hashlink_nodes.proofs.Names.{rewrite, Env, Opd, Logic, sem, RattleType, Valss, Ptr, RawPtr}
-use Rattle.hashlink_nodes.proofs.Names.{ptr_val, makes_shadow, Typed, Is, shows, layout, Laws, nothing, peeks}
-use Rattle.hashlink_nodes.proofs.Names.{Shape, Struct, within, shape, Good, word}
+use Rattle.hashlink_nodes.proofs.Names
+use Names.{◌≡◌, ◌^◌, List, [], ◌∷◌, ◌++◌, refl, subst, Ura, lit<, Ty, int_big, w64, Fits, Val, vint, vstruct}
+use Names.{vcons, vnil, of_list, SProp, ent, emp, guard_i, via, fact, fact_i, prop, raw, use0, Item, Goal}
+use Names.{Seq, Step, step, ‵, ◌$◌, drop, fsplit, fjoin, fpick, fpack, feq_i, feq_l, rewrite, Env, Opd, Logic}
+use Names.{sem, RattleType, Valss, Ptr, RawPtr, ptr_val, makes_shadow, Typed, Is, shows, layout, Laws}
+use Names.{nothing, peeks, Shape, Struct, within, shape, Good, word}
 use Rattle.hashlink_nodes.specs.contracts.arena.Arena as A
 use Rattle.hashlink_nodes.specs.contracts.node.Node as N
 

@@ -1,19 +1,18 @@
 -- What the calls of a ring cite: each from the ring as it is opened to the ring as it is closed.
-use Rattle.hashlink_nodes.proofs.Names.{◌≡◌, ℕ, ◌+◌, ◌-◌, ◌^◌, ◌<◌, [], ◌∷◌, ◌++◌, length, Option, Some, None}
-use Rattle.hashlink_nodes.proofs.Names.{refl, sym, ap, ◌∙◌, subst, arith, keys_of, unwrap_or}
-use Rattle.hashlink_nodes.proofs.Names.{remove_entry, set_value, option_map, append-nil}
-use Rattle.hashlink_nodes.proofs.Names.{length-append, length-drop, length-set_value, Node, Inside, same_node}
-use Rattle.hashlink_nodes.proofs.Names.{state_of, Ring, ring, Held, IsRing, IsSound, SoundAt, ring_of}
-use Rattle.hashlink_nodes.proofs.Names.{State, GuardIs, attached, detached, hold, store_next, Adds, Drops}
-use Rattle.hashlink_nodes.proofs.Names.{AreThere, IsPlace, put_before, put_after, held, pair_of, with_number}
+use Rattle.hashlink_nodes.proofs.Names
+use Names.{◌≡◌, ℕ, ◌+◌, ◌-◌, ◌^◌, ◌<◌, [], ◌∷◌, ◌++◌, length, Option, Some, None, refl, sym, ap, ◌∙◌, subst}
+use Names.{arith, keys_of, unwrap_or, remove_entry, set_value, option_map, append-nil, length-append}
+use Names.{length-drop, length-set_value, Node, Inside, same_node, state_of, Ring, ring, Held, IsRing}
+use Names.{IsSound, SoundAt, ring_of, State, GuardIs, attached, detached, hold, store_next, Adds, Drops}
+use Names.{AreThere, IsPlace, put_before, put_after, held, pair_of, with_number}
 use Rattle.std.proofs.Common.{drop}
 use Rattle.hashlink_nodes.proofs.Paths.{head_or, last_or}
 use Rattle.hashlink_nodes.proofs.Cuts.{Gap, cut-removed, cut-renewed, before_place, after_place}
-use Rattle.hashlink_nodes.proofs.Rings.{Linked, linked, attach, Entries, InRing, in_ring, detach}
-use Rattle.hashlink_nodes.proofs.Rings.{held_out, holds_now, held_now, added, dropped, spared, take_spare}
-use Rattle.hashlink_nodes.proofs.Rings.{renew, Taken, guarded, held_anew}
-use Rattle.hashlink_nodes.proofs.Opening.{length-gap, Leaves, NodeAt, Opened, leaves, length-removed}
-use Rattle.hashlink_nodes.proofs.Opening.{opened, empty, same_some}
+use Rattle.hashlink_nodes.proofs.Rings.{Linked, linked, attach, Entries, InRing, in_ring, detach, held_out}
+use Rattle.hashlink_nodes.proofs.Rings.{holds_now, held_now, added, dropped, spared, take_spare, renew, Taken}
+use Rattle.hashlink_nodes.proofs.Rings.{guarded, held_anew}
+use Rattle.hashlink_nodes.proofs.Opening.{length-gap, Leaves, NodeAt, Opened, leaves, length-removed, opened}
+use Rattle.hashlink_nodes.proofs.Opening.{empty, same_some}
 
 module _ {K V : Type 0} where
   -- ---- an entry goes in

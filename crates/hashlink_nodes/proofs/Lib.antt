@@ -13,4 +13,3 @@ pub mod Neighbours
 pub mod Opening
 pub mod Paths
 pub mod StateLemmas
-pub mod Walks

@@ -1,15 +1,13 @@
 -- The machine values of a loose block. Assumes `Logic`.
-use Rattle.hashlink_nodes.proofs.Names.{◌≡◌, ℕ, ◌+◌, List, [], ◌∷◌, ◌++◌, refl, subst, ◌&&◌, T, Ura, Ty, Tys}
-use Rattle.hashlink_nodes.proofs.Names.{impl, tnil, tcons, dnil, ty_int, ty_struct, w64, SProp, ent, sep}
-use Rattle.hashlink_nodes.proofs.Names.{wand, apply∗, Fml, ftrue, fwand, froom, rooms_at, lone, Val, vptr}
-use Rattle.hashlink_nodes.proofs.Names.{vstruct, vcons, vnil, of_list, has_ty, WT, Logic, sem, raw, ◌⊛◌}
-use Rattle.hashlink_nodes.proofs.Names.{assume, fjoin3, by, group, split, split3, use1, use2, Item, Goal, Seq}
-use Rattle.hashlink_nodes.proofs.Names.{Step, step, ‵, ◌$◌, ◌∵◌, !, qed, done, keep, move, drop, fsplit}
-use Rattle.hashlink_nodes.proofs.Names.{fsplit3, fjoin, fpick, fpack, feq_i, feq_l, RattleType, Valss, Ptr}
-use Rattle.hashlink_nodes.proofs.Names.{block_ptr, null_ptr, ptr_val, in_a_block, room_for, nothing, param}
-use Rattle.hashlink_nodes.proofs.Names.{layout, Laws, within, shape, Ghosts, Al, handle_tells, Good, Links}
-use Rattle.hashlink_nodes.proofs.Names.{block_room, block_type, loose_owns, pair_offset, number_offset}
-use Rattle.hashlink_nodes.proofs.Names.{links_offset, and_tt}
+use Rattle.hashlink_nodes.proofs.Names
+use Names.{◌≡◌, ℕ, ◌+◌, List, [], ◌∷◌, ◌++◌, refl, subst, ◌&&◌, T, Ura, Ty, Tys, impl, tnil, tcons, dnil}
+use Names.{ty_int, ty_struct, w64, SProp, ent, sep, wand, apply∗, Fml, ftrue, fwand, froom, rooms_at, lone}
+use Names.{Val, vptr, vstruct, vcons, vnil, of_list, has_ty, WT, Logic, sem, raw, ◌⊛◌, assume, fjoin3, by}
+use Names.{group, split, split3, use1, use2, Item, Goal, Seq, Step, step, ‵, ◌$◌, ◌∵◌, !, qed, done, keep}
+use Names.{move, drop, fsplit, fsplit3, fjoin, fpick, fpack, feq_i, feq_l, RattleType, Valss, Ptr, block_ptr}
+use Names.{null_ptr, ptr_val, in_a_block, room_for, nothing, param, layout, Laws, within, shape, Ghosts, Al}
+use Names.{handle_tells, Good, Links, block_room, block_type, loose_owns, pair_offset, number_offset}
+use Names.{links_offset, and_tt}
 use mathlib.Core.Bool.{true}
 use mir.Raw.{raw as bare}
 use denote.Builtin.{RawPtr}

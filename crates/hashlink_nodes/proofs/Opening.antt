@@ -1,10 +1,9 @@
 -- How a ring is opened, what is known of it then, and how it is closed.
-use Rattle.hashlink_nodes.proofs.Names.{◌≡◌, ℕ, ◌+◌, ◌^◌, ◌<◌, List, [], ◌∷◌, ◌++◌, length, Option, Some}
-use Rattle.hashlink_nodes.proofs.Names.{None, refl, sym, ap, ◌∙◌, subst, arith, is_some, IfSome}
-use Rattle.hashlink_nodes.proofs.Names.{AllByRecursion, IsDistinct, keys_of, lookup, remove_entry}
-use Rattle.hashlink_nodes.proofs.Names.{length-append, length-keys_of, IsDistinct-tail, Node, Inside}
-use Rattle.hashlink_nodes.proofs.Names.{same_node, state_of, Ring, ring, Holds, IsRing, IsSound, SoundAt}
-use Rattle.hashlink_nodes.proofs.Names.{ring_at, ring_of, walk, entry_of, entries_of, State}
+use Rattle.hashlink_nodes.proofs.Names
+use Names.{◌≡◌, ℕ, ◌+◌, ◌^◌, ◌<◌, List, [], ◌∷◌, ◌++◌, length, Option, Some, None, refl, sym, ap, ◌∙◌, subst}
+use Names.{arith, is_some, IfSome, AllByRecursion, IsDistinct, keys_of, lookup, remove_entry, length-append}
+use Names.{length-keys_of, IsDistinct-tail, Node, Inside, same_node, state_of, Ring, ring, Holds, IsRing}
+use Names.{IsSound, SoundAt, ring_at, ring_of, walk, entry_of, entries_of, State}
 use Rattle.std.specs.Prelude.{IsSome}
 use Rattle.hashlink_nodes.specs.declared.held.Held.{Held}
 use Rattle.hashlink_nodes.proofs.Paths.{length-walk, walk-linked, walk-chain}

@@ -1,17 +1,16 @@
 -- What each step of the calls does to a ring and to what a contract sees of it.
-use Rattle.hashlink_nodes.proofs.Names.{◌≡◌, ℕ, ◌+◌, ◌^◌, ◌<◌, Bool, true, false, List, [], ◌∷◌, ◌++◌, length}
-use Rattle.hashlink_nodes.proofs.Names.{Option, None, Some, refl, sym, ap, ◌∙◌, subst, arith, AllByRecursion}
-use Rattle.hashlink_nodes.proofs.Names.{IsDistinct, keys_of, append_assoc, length-append, map-append}
-use Rattle.hashlink_nodes.proofs.Names.{length-keys_of, IsDistinct-head, IsDistinct-tail, IsDistinct-cons}
-use Rattle.hashlink_nodes.proofs.Names.{Node, same_node, eq-same_node, set_at, State, store_next, store_prev}
-use Rattle.hashlink_nodes.proofs.Names.{hold, detached, attached, Adds, Differs, Drops, AreThere, MakesGuard}
-use Rattle.hashlink_nodes.proofs.Names.{IsChain, IsLinked, IsRing, Ring, ring, Held}
+use Rattle.hashlink_nodes.proofs.Names
+use Names.{◌≡◌, ℕ, ◌+◌, ◌^◌, ◌<◌, Bool, true, false, List, [], ◌∷◌, ◌++◌, length, Option, None, Some, refl}
+use Names.{sym, ap, ◌∙◌, subst, arith, AllByRecursion, IsDistinct, keys_of, append_assoc, length-append}
+use Names.{map-append, IsDistinct-head, IsDistinct-tail, IsDistinct-cons, Node, same_node, eq-same_node}
+use Names.{set_at, State, store_next, store_prev, hold, detached, attached, Adds, Differs, Drops, AreThere}
+use Names.{MakesGuard, IsChain, IsLinked, IsRing, Ring, ring, Held}
 use Rattle.std.proofs.Common.{drop, lit<}
 use Rattle.hashlink_nodes.proofs.Paths.{set_at_twice, head_or, last_or, Off, IsOff, flip, all_left, all_right}
-use Rattle.hashlink_nodes.proofs.Paths.{all_middle, all_without, all_with, all_both, all_as, all_zip, to_front}
-use Rattle.hashlink_nodes.proofs.Paths.{from_front, set_at_here, set_at_other, linked_cut, linked_at}
-use Rattle.hashlink_nodes.proofs.Paths.{linked_same, linked_detach, linked_attach, chain_same, agrees_off}
-use Rattle.hashlink_nodes.proofs.Paths.{agrees_off_two, off_rest, off_last, off_head}
+use Rattle.hashlink_nodes.proofs.Paths.{all_middle, all_without, all_with, all_both, all_as, all_zip}
+use Rattle.hashlink_nodes.proofs.Paths.{to_front, from_front, set_at_here, set_at_other, linked_cut}
+use Rattle.hashlink_nodes.proofs.Paths.{linked_at, linked_same, linked_detach, linked_attach, chain_same}
+use Rattle.hashlink_nodes.proofs.Paths.{agrees_off, agrees_off_two, off_rest, off_last, off_head}
 use Rattle.hashlink_nodes.proofs.Cuts.{last-pushed}
 
 distinct_left : (xs ys : List Node) → IsDistinct same_node (xs ++ ys) → IsDistinct same_node xs

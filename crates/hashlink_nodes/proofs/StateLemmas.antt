@@ -1,12 +1,11 @@
 -- What the state of the blocks is after one of them changed, came or went.
-use Rattle.hashlink_nodes.proofs.Names.{◌≡◌, ℕ, ◌+◌, Bool, true, false, cond, List, [], ◌∷◌, length, Option}
-use Rattle.hashlink_nodes.proofs.Names.{None, Some, refl, sym, subst, ap, ◌∙◌, arith, IsNone, is_some, lookup}
-use Rattle.hashlink_nodes.proofs.Names.{set_value, remove_entry, lookup-set_value, length-set_value}
-use Rattle.hashlink_nodes.proofs.Names.{same_node, same_node-refl, Differs, same_node_equiv, eq-same_node, State, Blocks, state}
-use Rattle.hashlink_nodes.proofs.Names.{set_at, next_in, prev_in, held_in, store_next, store_prev, hold, Adds}
-use Rattle.hashlink_nodes.proofs.Names.{MakesGuard, Drops, Node, Link, Kept, kept, alter, entry_in}
-use Rattle.hashlink_nodes.proofs.Names.{with_links, with_pair, Pool, state_of, kept_with, pool_with, held}
-use Rattle.hashlink_nodes.proofs.Names.{pair_of, option_map}
+use Rattle.hashlink_nodes.proofs.Names
+use Names.{◌≡◌, ℕ, ◌+◌, Bool, true, false, cond, List, [], ◌∷◌, length, Option, None, Some, refl, sym, subst}
+use Names.{ap, ◌∙◌, arith, IsNone, is_some, lookup, set_value, remove_entry, lookup-set_value}
+use Names.{length-set_value, same_node, same_node-refl, Differs, same_node_equiv, eq-same_node, State, Blocks}
+use Names.{state, set_at, next_in, prev_in, held_in, store_next, store_prev, hold, Adds, MakesGuard, Drops}
+use Names.{Node, Link, Kept, kept, alter, entry_in, with_links, with_pair, Pool, state_of, kept_with}
+use Names.{pool_with, held, pair_of, option_map}
 use Rattle.hashlink_nodes.proofs.ArenaBlocks.{found_entry}
 use Rattle.hashlink_nodes.proofs.Cuts.{cut}
 use Rattle.hashlink_nodes.proofs.Opening.{length-removed}

@@ -1,22 +1,17 @@
 -- `fill` writes a pair and its number into the room of a block.
-use Rattle.hashlink_nodes.proofs.Walks.{◌≡◌, ℕ, ◌+◌, ◌∙◌, ◌^◌, ◌<◌, List, [], ◌∷◌, ◌++◌, refl, sym, ap}
-use Rattle.hashlink_nodes.proofs.Walks.{Option, Some, None, IsSome, lookup, remove_entry, full_share, Ty}
-use Rattle.hashlink_nodes.proofs.Walks.{a_type, ty_int, w64, inst_fn, Val, vint, vptr, vunit, SProp, never}
-use Rattle.hashlink_nodes.proofs.Walks.{id⊢, ftrue, fat, froom, flft, fsep, WpFn, ‵, raw, ◌⊛◌, at_ret, ◌$◌}
-use Rattle.hashlink_nodes.proofs.Walks.{◌∵◌, !, qed, by, move, keep, drop, split, split3, group, fsplit}
-use Rattle.hashlink_nodes.proofs.Walks.{fsplit3, fjoin, fjoin3, rewrite, use1, use2, feq_i, feq_l, stop, fld}
-use Rattle.hashlink_nodes.proofs.Walks.{of_opd, addr, store, init, assigns, assigns_last, first, blocks, exec}
-use Rattle.hashlink_nodes.proofs.Walks.{returns, enter, alloc_all, pass_all, free_all, look_at, get, get_in}
-use Rattle.hashlink_nodes.proofs.Walks.{through, sets, is, env, sub, whole, fact, ◌⊑◌, tables, part_in, usize}
-use Rattle.hashlink_nodes.proofs.Walks.{no, yes, lone, part_at, uint_in, uint_out, RattleType, owns, Ptr}
-use Rattle.hashlink_nodes.proofs.Walks.{ptr_val, in_a_block, lies_at, types_at, plain, param, layouts}
-use Rattle.hashlink_nodes.proofs.Walks.{param_laws, nothing, heard, opens, closes, Stays, stay_dropped}
-use Rattle.hashlink_nodes.proofs.Walks.{stay_ref, walk_of, Goes-dropped, Goes-ref, after, word, word-Good}
-use Rattle.hashlink_nodes.proofs.Walks.{proved_at, leaves}
-use Rattle.hashlink_nodes.proofs.Names.{flt_l, unit_lit, same_node, alter, entry_in, number_word, with_entry}
-use Rattle.hashlink_nodes.proofs.Names.{Links, blocks_own, block_owns, pair_owns, pair_room, pair_offset}
-use Rattle.hashlink_nodes.proofs.Names.{is_small, number_of, number_offset, links_of, deed_owns, free_right}
-use Rattle.hashlink_nodes.proofs.Names.{Arena}
+use Rattle.hashlink_nodes.proofs.Names
+use Names.{◌≡◌, ℕ, ◌+◌, ◌∙◌, ◌^◌, ◌<◌, List, [], ◌∷◌, ◌++◌, refl, sym, ap, Option, Some, None, IsSome, lookup}
+use Names.{remove_entry, full_share, Ty, a_type, ty_int, w64, inst_fn, Val, vint, vptr, vunit, SProp, never}
+use Names.{id⊢, ftrue, fat, froom, flft, fsep, WpFn, ‵, raw, ◌⊛◌, at_ret, ◌$◌, ◌∵◌, !, qed, by, move, keep}
+use Names.{drop, split, split3, group, fsplit, fsplit3, fjoin, fjoin3, rewrite, use1, use2, feq_i, feq_l}
+use Names.{stop, fld, of_opd, addr, store, init, assigns, assigns_last, first, blocks, exec, returns, enter}
+use Names.{alloc_all, pass_all, free_all, look_at, get, get_in, through, sets, is, env, sub, whole, fact, ◌⊑◌}
+use Names.{tables, part_in, usize, no, yes, lone, part_at, uint_in, uint_out, RattleType, owns, Ptr, ptr_val}
+use Names.{in_a_block, lies_at, types_at, plain, param, layouts, param_laws, nothing, heard, opens, closes}
+use Names.{Stays, stay_dropped, stay_ref, walk_of, Goes-dropped, Goes-ref, after, word, word-Good, proved_at}
+use Names.{leaves, flt_l, unit_lit, same_node, alter, entry_in, number_word, with_entry, Links, blocks_own}
+use Names.{block_owns, pair_owns, pair_room, pair_offset, is_small, number_of, number_offset, links_of}
+use Names.{deed_owns, free_right, Arena}
 use Rattle.hashlink_nodes.specs.contracts.arena.Arena.{the_row}
 use Rattle.hashlink_nodes.proofs.ArenaSteps.{Nd, word_had, told, args_are, states}
 use Rattle.hashlink_nodes.proofs.ArenaBlocks.{found, blocks_cut, blocks_glue, small_shown}

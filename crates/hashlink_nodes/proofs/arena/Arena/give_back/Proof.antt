@@ -1,20 +1,16 @@
 -- `give_back` takes a block out of those that the arena owns.
-use Rattle.hashlink_nodes.proofs.Walks.{◌≡◌, ℕ, ◌+◌, ◌∙◌, ◌^◌, List, [], ◌∷◌, ◌++◌, refl, sym, ap, Option}
-use Rattle.hashlink_nodes.proofs.Walks.{None, IsSome, lookup, remove_entry, full_share, Ty, a_type, ty_int}
-use Rattle.hashlink_nodes.proofs.Walks.{w64, bare, inst_fn, Val, vint, vptr, SProp, never, id⊢, ftrue, fat}
-use Rattle.hashlink_nodes.proofs.Walks.{froom, flft, fsep, WpFn, ‵, raw, ◌⊛◌, some, ◌$◌, ◌∵◌, !, qed, by}
-use Rattle.hashlink_nodes.proofs.Walks.{move, keep, drop, split, split3, group, fsplit, fsplit3, fjoin}
-use Rattle.hashlink_nodes.proofs.Walks.{fjoin3, pick, rewrite, use1, feq_i, feq_l, stop, fld, of_opd}
-use Rattle.hashlink_nodes.proofs.Walks.{and_then, no_more, returns, enter, alloc_all, pass_all, free_all}
-use Rattle.hashlink_nodes.proofs.Walks.{look_at, get, get_in, sets, is, sub, whole, agg, fact, ◌⊑◌, tables}
-use Rattle.hashlink_nodes.proofs.Walks.{part_out, usize, yes, lone, uint_out, RattleType, owns, Ptr}
-use Rattle.hashlink_nodes.proofs.Walks.{block_ptr, ptr_val, in_a_block, lies_at, types_at, plain, param}
-use Rattle.hashlink_nodes.proofs.Walks.{layouts, nothing, heard, opens, closes, Stays, stay_dropped, stay_ref}
-use Rattle.hashlink_nodes.proofs.Walks.{walk_of, Goes-dropped, Goes-ref, word, word-Good, proved_at, leaves}
-use Rattle.hashlink_nodes.proofs.Walks.{ghosts, handle_tells}
-use Rattle.hashlink_nodes.proofs.Names.{same_node, entry_in, number_word, Links, blocks_own, block_owns}
-use Rattle.hashlink_nodes.proofs.Names.{pair_owns, pair_room, is_small, number_of, number_offset, links_of}
-use Rattle.hashlink_nodes.proofs.Names.{links_offset, deed_owns, free_right, Arena}
+use Rattle.hashlink_nodes.proofs.Names
+use Names.{◌≡◌, ℕ, ◌+◌, ◌∙◌, ◌^◌, List, [], ◌∷◌, ◌++◌, refl, sym, ap, Option, None, IsSome, lookup}
+use Names.{remove_entry, full_share, Ty, a_type, ty_int, w64, bare, inst_fn, Val, vint, vptr, SProp, never}
+use Names.{id⊢, ftrue, fat, froom, flft, fsep, WpFn, ‵, raw, ◌⊛◌, some, ◌$◌, ◌∵◌, !, qed, by, move, keep}
+use Names.{drop, split, split3, group, fsplit, fsplit3, fjoin, fjoin3, pick, rewrite, use1, feq_i, feq_l}
+use Names.{stop, fld, of_opd, and_then, no_more, returns, enter, alloc_all, pass_all, free_all, look_at, get}
+use Names.{get_in, sets, is, sub, whole, agg, fact, ◌⊑◌, tables, part_out, usize, yes, lone, uint_out}
+use Names.{RattleType, owns, Ptr, block_ptr, ptr_val, in_a_block, lies_at, types_at, plain, param, layouts}
+use Names.{nothing, heard, opens, closes, Stays, stay_dropped, stay_ref, walk_of, Goes-dropped, Goes-ref}
+use Names.{word, word-Good, proved_at, leaves, ghosts, handle_tells, same_node, entry_in, number_word, Links}
+use Names.{blocks_own, block_owns, pair_owns, pair_room, is_small, number_of, number_offset, links_of}
+use Names.{links_offset, deed_owns, free_right, Arena}
 use Rattle.hashlink_nodes.specs.contracts.arena.Arena.{the_row}
 use Rattle.hashlink_nodes.proofs.ArenaSteps.{Nd, word_had, args_are, states}
 use Rattle.hashlink_nodes.proofs.ArenaBlocks.{found, blocks_cut}

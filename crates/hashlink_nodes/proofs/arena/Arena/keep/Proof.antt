@@ -1,18 +1,14 @@
 -- `keep` adds a block to those that the arena owns. It lies apart from them, since it is owned beside them.
-use Rattle.hashlink_nodes.proofs.Walks.{◌≡◌, ◌+◌, ◌^◌, List, [], ◌∷◌, ◌++◌, refl, sym, subst, Option, None}
-use Rattle.hashlink_nodes.proofs.Walks.{lookup, full_share, lit<, Ty, a_type, w64, inst_fn, Val, vptr, SProp}
-use Rattle.hashlink_nodes.proofs.Walks.{ftrue, froom, flft, WpFn, ‵, raw, ◌⊛◌, at_ret, ◌$◌, ◌∵◌, !, qed, by}
-use Rattle.hashlink_nodes.proofs.Walks.{move, keep, drop, split, split3, join, group, fsplit, fsplit3, fjoin}
-use Rattle.hashlink_nodes.proofs.Walks.{fjoin3, use1, use2, feq_i, feq_l, stop, fld, of_opd, addr, init}
-use Rattle.hashlink_nodes.proofs.Walks.{assigns, assigns_last, first, blocks, exec, and_then, no_more}
-use Rattle.hashlink_nodes.proofs.Walks.{returns, enter, alloc_all, pass_all, free_all, look_at, get, get_in}
-use Rattle.hashlink_nodes.proofs.Walks.{through, sets, env, sub, whole, agg, tables, part_in, usize, no, yes}
-use Rattle.hashlink_nodes.proofs.Walks.{lone, part_at, uint_in, RattleType, owns, block_ptr, types_at, plain}
-use Rattle.hashlink_nodes.proofs.Walks.{param, layouts, nothing, opens, closes, Stays, stay_dropped, stay_ref}
-use Rattle.hashlink_nodes.proofs.Walks.{walk_of, Goes-dropped, Goes-ref, Goes-blank, after, word, word-Good}
-use Rattle.hashlink_nodes.proofs.Walks.{proved_at, leaves, ghosts}
-use Rattle.hashlink_nodes.proofs.Names.{same_node, Kept, kept, Links, number_offset, links_offset, Arena}
-use Rattle.hashlink_nodes.proofs.Names.{Node}
+use Rattle.hashlink_nodes.proofs.Names
+use Names.{◌≡◌, ◌+◌, ◌^◌, List, [], ◌∷◌, ◌++◌, refl, sym, subst, Option, None, lookup, full_share, lit<, Ty}
+use Names.{a_type, w64, inst_fn, Val, vptr, SProp, ftrue, froom, flft, WpFn, ‵, raw, ◌⊛◌, at_ret, ◌$◌, ◌∵◌, !}
+use Names.{qed, by, move, keep, drop, split, split3, join, group, fsplit, fsplit3, fjoin, fjoin3, use1, use2}
+use Names.{feq_i, feq_l, stop, fld, of_opd, addr, init, assigns, assigns_last, first, blocks, exec, and_then}
+use Names.{no_more, returns, enter, alloc_all, pass_all, free_all, look_at, get, get_in, through, sets, env}
+use Names.{sub, whole, agg, tables, part_in, usize, no, yes, lone, part_at, uint_in, RattleType, owns}
+use Names.{block_ptr, types_at, plain, param, layouts, nothing, opens, closes, Stays, stay_dropped, stay_ref}
+use Names.{walk_of, Goes-dropped, Goes-ref, Goes-blank, after, word, word-Good, proved_at, leaves, ghosts}
+use Names.{same_node, Kept, kept, Links, number_offset, links_offset, Arena, Node}
 use Rattle.hashlink_nodes.specs.contracts.arena.Arena.{the_row}
 use Rattle.hashlink_nodes.proofs.ArenaSteps.{told, no_entry, word_made, args_are, states}
 use Rattle.hashlink_nodes.proofs.ArenaBlocks.{small_shown, apart_from, knows}

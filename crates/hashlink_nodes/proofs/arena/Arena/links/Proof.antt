@@ -1,12 +1,8 @@
 -- `links` shows what the arena lends of the links of one block.
-use Rattle.hashlink_nodes.proofs.Walks.{[], ◌∷◌, refl, ap, IsSome, lookup, a_type, inst_fn, vptr, emp, id⊢, ‵}
-use Rattle.hashlink_nodes.proofs.Walks.{raw, at_ret, ◌$◌, ◌∵◌, !, qed, move, keep, split, join, fsplit3, use1}
-use Rattle.hashlink_nodes.proofs.Walks.{done, stop, fld, of_opd, addr, first, blocks, exec, returns, enter}
-use Rattle.hashlink_nodes.proofs.Walks.{alloc_all, pass_all, free_all, look_at, get, get_in, through, sets}
-use Rattle.hashlink_nodes.proofs.Walks.{sets_last, env, is, ptr_val, await, pick, heard, later, sub, whole}
-use Rattle.hashlink_nodes.proofs.Walks.{fact_i, tables, RattleType, param, layouts, after, word, word-Good}
-use Rattle.hashlink_nodes.proofs.Walks.{option_map}
-use Rattle.hashlink_nodes.proofs.Names.{Kept, Links, block_lent, blocks_lent, links_offset, same_node}
+use Rattle.hashlink_nodes.proofs.Names.{[], ◌∷◌, refl, ap, IsSome, lookup, a_type, emp, id⊢, ‵, ◌$◌, ◌∵◌, !}
+use Rattle.hashlink_nodes.proofs.Names.{qed, move, keep, join, fsplit3, use1, done, fact_i, RattleType, param}
+use Rattle.hashlink_nodes.proofs.Names.{layouts, option_map, Kept, Links, block_lent, blocks_lent}
+use Rattle.hashlink_nodes.proofs.Names.{links_offset, same_node}
 use Rattle.hashlink_nodes.proofs.ArenaBlocks.{found, block_seen}
 use Rattle.hashlink_nodes.proofs.ArenaSteps.{states}
 use mir.Syntax.{imm}

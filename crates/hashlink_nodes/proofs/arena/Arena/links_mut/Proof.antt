@@ -1,15 +1,9 @@
 -- `links_mut` lends the links of one block, and the arena follows them.
-use Rattle.hashlink_nodes.proofs.Walks.{◌∙◌, [], ◌∷◌, refl, sym, ap, Some, IsSome, lookup, full_share, a_type}
-use Rattle.hashlink_nodes.proofs.Walks.{inst_fn, vptr, id⊢, fsep, ‵, raw, at_ret, ◌$◌, ◌∵◌, !, qed, move}
-use Rattle.hashlink_nodes.proofs.Walks.{keep, split, join, fsplit, fsplit3, fjoin, fjoin3, done, stop, fld}
-use Rattle.hashlink_nodes.proofs.Walks.{of_opd, addr, first, blocks, exec, returns, enter, alloc_all}
-use Rattle.hashlink_nodes.proofs.Walks.{pass_all, free_all, look_at, get, get_in, through, sets, sets_last}
-use Rattle.hashlink_nodes.proofs.Walks.{env, is, ptr_val, await, pick, heard, later, use1, sub, whole, tables}
-use Rattle.hashlink_nodes.proofs.Walks.{follows, RattleType, lies_at, param, layouts, after, word, word-Good}
-use Rattle.hashlink_nodes.proofs.Walks.{option_map, usize}
-use Rattle.hashlink_nodes.proofs.Names.{block_owns, pair_owns, is_small, deed_owns, free_right, number_of}
-use Rattle.hashlink_nodes.proofs.Names.{links_of, links_offset, Links, altered, Kept, with_links, number_word}
-use Rattle.hashlink_nodes.proofs.Names.{same_node}
+use Rattle.hashlink_nodes.proofs.Names
+use Names.{◌∙◌, [], ◌∷◌, refl, sym, ap, Some, IsSome, lookup, full_share, a_type, id⊢, fsep, ‵, ◌$◌, ◌∵◌, !}
+use Names.{qed, move, join, fsplit, fsplit3, fjoin, fjoin3, done, follows, RattleType, lies_at, param}
+use Names.{layouts, option_map, usize, block_owns, pair_owns, is_small, deed_owns, free_right, number_of}
+use Names.{links_of, links_offset, Links, altered, Kept, with_links, number_word, same_node}
 use Rattle.hashlink_nodes.proofs.ArenaBlocks.{found}
 use Rattle.hashlink_nodes.proofs.ArenaSteps.{states}
 use mir.Syntax.{mut}

@@ -1,9 +1,9 @@
 -- An arena with no block owns nothing.
-use Rattle.hashlink_nodes.proofs.Walks.{◌≡◌, [], ◌∷◌, refl, a_type, inst_fn, SProp, emp, ftrue, flft, Val, ‵}
-use Rattle.hashlink_nodes.proofs.Walks.{raw, ◌⊛◌, ◌$◌, ◌∵◌, !, qed, by, move, keep, drop, split, use0, fjoin}
-use Rattle.hashlink_nodes.proofs.Walks.{no_more, and_then, returns, enter, alloc_all, pass_all, free_all}
-use Rattle.hashlink_nodes.proofs.Walks.{look_at, get, sets, agg, fact, fact_i, tables, RattleType, param}
-use Rattle.hashlink_nodes.proofs.Walks.{layouts, nothing, walk_of, proved_at, leaves}
+use Rattle.hashlink_nodes.proofs.Names.{◌≡◌, [], ◌∷◌, refl, a_type, inst_fn, SProp, emp, ftrue, flft, Val, ‵}
+use Rattle.hashlink_nodes.proofs.Names.{raw, ◌⊛◌, ◌$◌, ◌∵◌, !, qed, by, move, keep, drop, split, use0, fjoin}
+use Rattle.hashlink_nodes.proofs.Names.{no_more, and_then, returns, enter, alloc_all, pass_all, free_all}
+use Rattle.hashlink_nodes.proofs.Names.{look_at, get, sets, agg, fact, fact_i, tables, RattleType, param}
+use Rattle.hashlink_nodes.proofs.Names.{layouts, nothing, walk_of, proved_at, leaves}
 use Rattle.hashlink_nodes.proofs.ArenaSteps.{Mark, mark, mark_made}
 use Rattle.hashlink_nodes.specs.declared.arena.Arena.{Arena}
 use Rattle.hashlink_nodes.specs.contracts.arena.Arena.new.{ended, clauses}

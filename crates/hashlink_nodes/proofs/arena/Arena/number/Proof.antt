@@ -1,13 +1,8 @@
 -- `number` shows what the arena lends of the number of one block.
-use Rattle.hashlink_nodes.proofs.Walks.{◌^◌, ◌<◌, sym, subst, usize, [], ◌∷◌, refl, ap, IsSome, lookup}
-use Rattle.hashlink_nodes.proofs.Walks.{a_type, inst_fn, vptr, id⊢, ‵, raw, at_ret, ◌$◌, ◌∵◌, !, qed, move}
-use Rattle.hashlink_nodes.proofs.Walks.{keep, split, join, fsplit, fsplit3, use1, done, stop, fld, of_opd}
-use Rattle.hashlink_nodes.proofs.Walks.{addr, first, blocks, exec, returns, enter, alloc_all, pass_all}
-use Rattle.hashlink_nodes.proofs.Walks.{free_all, look_at, get, get_in, through, sets, sets_last, env, is}
-use Rattle.hashlink_nodes.proofs.Walks.{ptr_val, await, pick, heard, later, sub, whole, tables, RattleType}
-use Rattle.hashlink_nodes.proofs.Walks.{param, layouts, after, word, word-Good, option_map}
-use Rattle.hashlink_nodes.proofs.Names.{Kept, entry_in, number_word, IfSome, block_lent, blocks_lent}
-use Rattle.hashlink_nodes.proofs.Names.{number_offset, same_node}
+use Rattle.hashlink_nodes.proofs.Names
+use Names.{◌^◌, ◌<◌, sym, subst, usize, [], ◌∷◌, refl, ap, IsSome, lookup, a_type, id⊢, ‵, ◌$◌, ◌∵◌, !, qed}
+use Names.{move, keep, join, fsplit, fsplit3, use1, done, RattleType, param, layouts, option_map, Kept}
+use Names.{entry_in, number_word, IfSome, block_lent, blocks_lent, number_offset, same_node}
 use Rattle.hashlink_nodes.proofs.ArenaBlocks.{found, block_seen, small_seen}
 use Rattle.hashlink_nodes.proofs.ArenaSteps.{states}
 use mir.Syntax.{imm}

@@ -1,13 +1,8 @@
 -- `pair` shows what the arena lends of the pair of one block.
-use Rattle.hashlink_nodes.proofs.Walks.{ℕ, Option, ◌∙◌, rewrite, [], ◌∷◌, refl, ap, IsSome, lookup, a_type}
-use Rattle.hashlink_nodes.proofs.Walks.{inst_fn, vptr, emp, id⊢, ‵, raw, at_ret, ◌$◌, ◌∵◌, !, qed, move, keep}
-use Rattle.hashlink_nodes.proofs.Walks.{split, join, fsplit, use1, done, stop, fld, of_opd, addr, first}
-use Rattle.hashlink_nodes.proofs.Walks.{blocks, exec, returns, enter, alloc_all, pass_all, free_all, look_at}
-use Rattle.hashlink_nodes.proofs.Walks.{get, get_in, through, sets, sets_last, env, is, ptr_val, await, pick}
-use Rattle.hashlink_nodes.proofs.Walks.{heard, later, sub, whole, fact_i, tables, RattleType, param, layouts}
-use Rattle.hashlink_nodes.proofs.Walks.{after, word, word-Good, option_map}
-use Rattle.hashlink_nodes.proofs.Names.{Kept, entry_in, block_lent, blocks_lent, pair_lent, pair_offset}
-use Rattle.hashlink_nodes.proofs.Names.{same_node}
+use Rattle.hashlink_nodes.proofs.Names.{ℕ, Option, ◌∙◌, rewrite, [], ◌∷◌, refl, ap, IsSome, lookup, a_type}
+use Rattle.hashlink_nodes.proofs.Names.{emp, id⊢, ‵, ◌$◌, ◌∵◌, !, qed, move, keep, join, fsplit, use1, done}
+use Rattle.hashlink_nodes.proofs.Names.{fact_i, RattleType, param, layouts, option_map, Kept, entry_in}
+use Rattle.hashlink_nodes.proofs.Names.{block_lent, blocks_lent, pair_lent, pair_offset, same_node}
 use Rattle.hashlink_nodes.proofs.ArenaBlocks.{found_entry, block_seen}
 use Rattle.hashlink_nodes.proofs.ArenaSteps.{states}
 use mir.Syntax.{imm}

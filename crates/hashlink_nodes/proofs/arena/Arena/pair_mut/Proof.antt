@@ -1,15 +1,9 @@
 -- `pair_mut` lends the pair of one block, and the arena follows it.
-use Rattle.hashlink_nodes.proofs.Walks.{◌≡◌, ℕ, Option, ◌∙◌, [], ◌∷◌, refl, sym, ap, Some, IsSome, lookup}
-use Rattle.hashlink_nodes.proofs.Walks.{full_share, a_type, inst_fn, vptr, id⊢, fsep, ‵, raw, at_ret, ◌$◌}
-use Rattle.hashlink_nodes.proofs.Walks.{◌∵◌, !, qed, move, keep, split, join, fsplit, fjoin, rewrite, done}
-use Rattle.hashlink_nodes.proofs.Walks.{stop, fld, of_opd, addr, first, blocks, exec, returns, enter}
-use Rattle.hashlink_nodes.proofs.Walks.{alloc_all, pass_all, free_all, look_at, get, get_in, through, sets}
-use Rattle.hashlink_nodes.proofs.Walks.{sets_last, env, is, ptr_val, await, pick, heard, later, use1, sub}
-use Rattle.hashlink_nodes.proofs.Walks.{whole, tables, follows, RattleType, lies_at, param, layouts, after}
-use Rattle.hashlink_nodes.proofs.Walks.{word, word-Good, option_map, usize}
-use Rattle.hashlink_nodes.proofs.Names.{block_owns, is_small, deed_owns, free_right, number_of, links_of}
-use Rattle.hashlink_nodes.proofs.Names.{pair_offset, Links, altered, Kept, kept, entry_in, with_pair}
-use Rattle.hashlink_nodes.proofs.Names.{same_node}
+use Rattle.hashlink_nodes.proofs.Names
+use Names.{◌≡◌, ℕ, Option, ◌∙◌, [], ◌∷◌, refl, sym, ap, Some, IsSome, lookup, full_share, a_type, id⊢, fsep}
+use Names.{‵, ◌$◌, ◌∵◌, !, qed, move, join, fsplit, fjoin, rewrite, done, follows, RattleType, lies_at, param}
+use Names.{layouts, option_map, usize, block_owns, is_small, deed_owns, free_right, number_of, links_of}
+use Names.{pair_offset, Links, altered, Kept, kept, entry_in, with_pair, same_node}
 use Rattle.hashlink_nodes.specs.Ownership.{pair_of}
 use Rattle.hashlink_nodes.proofs.ArenaBlocks.{found_entry}
 use Rattle.hashlink_nodes.proofs.ArenaSteps.{states}

@@ -1,22 +1,17 @@
 -- `take` reads the pair of a block out, and leaves room.
-use Rattle.hashlink_nodes.proofs.Walks.{◌≡◌, ℕ, ◌+◌, ◌∙◌, ◌^◌, List, [], ◌∷◌, ◌++◌, refl, sym, ap, Option}
-use Rattle.hashlink_nodes.proofs.Walks.{None, IsSome, lookup, remove_entry, option_map, full_share, lit<, Ty}
-use Rattle.hashlink_nodes.proofs.Walks.{a_type, ty_int, w64, bare, inst_fn, Val, vint, vptr, SProp, never}
-use Rattle.hashlink_nodes.proofs.Walks.{id⊢, ftrue, fat, froom, flft, fsep, WpFn, ‵, raw, ◌⊛◌, some, at_ret}
-use Rattle.hashlink_nodes.proofs.Walks.{◌$◌, ◌∵◌, !, qed, by, move, keep, drop, split, split3, join, group}
-use Rattle.hashlink_nodes.proofs.Walks.{fsplit, fsplit3, fjoin, fjoin3, pick, rewrite, use1, use2, feq_i}
-use Rattle.hashlink_nodes.proofs.Walks.{feq_l, stop, fld, of_opd, addr, store, assigns, first, blocks, exec}
-use Rattle.hashlink_nodes.proofs.Walks.{returns, enter, alloc_all, pass_all, free_all, look_at, get, get_in}
-use Rattle.hashlink_nodes.proofs.Walks.{through, sets, sets_last, is, env, sub, whole, fact, ◌⊑◌, tables}
-use Rattle.hashlink_nodes.proofs.Walks.{part_out, usize, yes, lone, part_at, uint_in, uint_out, RattleType}
-use Rattle.hashlink_nodes.proofs.Walks.{owns, Ptr, ptr_val, in_a_block, lies_at, types_at, plain, param}
-use Rattle.hashlink_nodes.proofs.Walks.{layouts, nothing, heard, opens, closes, Stays, stay_dropped, stay_ref}
-use Rattle.hashlink_nodes.proofs.Walks.{walk_of, Goes-dropped, Goes-ref, after, word, word-Good, proved_at}
-use Rattle.hashlink_nodes.proofs.Walks.{leaves}
-use Rattle.hashlink_nodes.proofs.Names.{load, look, well_typed, same_node, alter, entry_in, number_word}
-use Rattle.hashlink_nodes.proofs.Names.{with_entry, Links, blocks_own, block_owns, pair_owns, pair_offset}
-use Rattle.hashlink_nodes.proofs.Names.{is_small, number_of, number_offset, links_of, deed_owns, free_right}
-use Rattle.hashlink_nodes.proofs.Names.{Arena}
+use Rattle.hashlink_nodes.proofs.Names
+use Names.{◌≡◌, ℕ, ◌+◌, ◌∙◌, ◌^◌, List, [], ◌∷◌, ◌++◌, refl, sym, ap, Option, None, IsSome, lookup}
+use Names.{remove_entry, option_map, full_share, lit<, Ty, a_type, ty_int, w64, bare, inst_fn, Val, vint}
+use Names.{vptr, SProp, never, id⊢, ftrue, fat, froom, flft, fsep, WpFn, ‵, raw, ◌⊛◌, some, at_ret, ◌$◌, ◌∵◌}
+use Names.{!, qed, by, move, keep, drop, split, split3, join, group, fsplit, fsplit3, fjoin, fjoin3, pick}
+use Names.{rewrite, use1, use2, feq_i, feq_l, stop, fld, of_opd, addr, store, assigns, first, blocks, exec}
+use Names.{returns, enter, alloc_all, pass_all, free_all, look_at, get, get_in, through, sets, sets_last, is}
+use Names.{env, sub, whole, fact, ◌⊑◌, tables, part_out, usize, yes, lone, part_at, uint_in, uint_out}
+use Names.{RattleType, owns, Ptr, ptr_val, in_a_block, lies_at, types_at, plain, param, layouts, nothing}
+use Names.{heard, opens, closes, Stays, stay_dropped, stay_ref, walk_of, Goes-dropped, Goes-ref, after, word}
+use Names.{word-Good, proved_at, leaves, load, look, well_typed, same_node, alter, entry_in, number_word}
+use Names.{with_entry, Links, blocks_own, block_owns, pair_owns, pair_offset, is_small, number_of}
+use Names.{number_offset, links_of, deed_owns, free_right, Arena}
 use Rattle.hashlink_nodes.specs.Ownership.{pair_of}
 use Rattle.hashlink_nodes.specs.contracts.arena.Arena.{the_row}
 use Rattle.hashlink_nodes.proofs.ArenaSteps.{Nd, word_had, no_entry, args_are, states}

@@ -1,10 +1,9 @@
 -- A count begins at 0.
-use Rattle.hashlink_nodes.proofs.Names.{◌≡◌, [], ◌∷◌, refl, SProp, emp, ent, ftrue, Val, vstruct, vnil, ‵}
-use Rattle.hashlink_nodes.proofs.Names.{raw, ◌⊛◌, ◌$◌, ◌∵◌, !, qed, by, keep, drop, split, use0, fjoin}
-use Rattle.hashlink_nodes.proofs.Names.{no_more, and_then, returns, enter, alloc_all, pass_all, free_all}
-use Rattle.hashlink_nodes.proofs.Names.{look_at, get, sets, agg, fact, fact_i, tables, nothing, walk_of}
-use Rattle.hashlink_nodes.proofs.Names.{proved_at, leaves, Ura, Logic, sem, RattleType, makes_shadow, Struct}
-use Rattle.hashlink_nodes.proofs.Names.{shape, LinkWrites}
+use Rattle.hashlink_nodes.proofs.Names
+use Names.{◌≡◌, [], ◌∷◌, refl, SProp, emp, ent, ftrue, Val, vstruct, vnil, ‵, raw, ◌⊛◌, ◌$◌, ◌∵◌, !, qed, by}
+use Names.{keep, drop, split, use0, fjoin, no_more, and_then, returns, enter, alloc_all, pass_all, free_all}
+use Names.{look_at, get, sets, agg, fact, fact_i, tables, nothing, walk_of, proved_at, leaves, Ura, Logic}
+use Names.{sem, RattleType, makes_shadow, Struct, shape, LinkWrites}
 use Rattle.hashlink_nodes.proofs.ArenaSteps.{mark}
 use Rattle.hashlink_nodes.specs.contracts.link_writes.LinkWrites as W
 use Rattle.hashlink_nodes.specs.contracts.link_writes.LinkWrites.new.{ended, clauses}

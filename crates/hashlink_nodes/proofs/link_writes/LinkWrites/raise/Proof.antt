@@ -1,11 +1,10 @@
 -- The count goes up by one, and no memory changes.
-use Rattle.hashlink_nodes.proofs.Names.{◌≡◌, ◌+◌, List, [], ◌∷◌, ◌++◌, refl, sym, subst, Val, vptr, vunit}
-use Rattle.hashlink_nodes.proofs.Names.{SProp, ent, emp, id⊢, ftrue, flft, WpFn, ‵, raw, ◌⊛◌, ◌$◌, ◌∵◌, ! }
-use Rattle.hashlink_nodes.proofs.Names.{qed, by, move, keep, drop, split, join, fsplit, fsplit3, fjoin}
-use Rattle.hashlink_nodes.proofs.Names.{fjoin3, use0, suffices, feq_i, feq_l, of_opd, unit_lit, returns}
-use Rattle.hashlink_nodes.proofs.Names.{enter, alloc_all, pass_all, free_all, look_at, sets, fact, fact_i}
-use Rattle.hashlink_nodes.proofs.Names.{tables, owns, types_at, plain, nothing, opens, closes, Stays}
-use Rattle.hashlink_nodes.proofs.Names.{stay_ref, walk_of, Goes-ref, proved_at, leaves, LinkWrites}
+use Rattle.hashlink_nodes.proofs.Names
+use Names.{◌≡◌, ◌+◌, List, [], ◌∷◌, ◌++◌, refl, sym, subst, Val, vptr, vunit, SProp, ent, emp, id⊢, ftrue}
+use Names.{flft, WpFn, ‵, raw, ◌⊛◌, ◌$◌, ◌∵◌, !, qed, by, move, keep, drop, split, join, fsplit, fsplit3}
+use Names.{fjoin, fjoin3, use0, suffices, feq_i, feq_l, of_opd, unit_lit, returns, enter, alloc_all, pass_all}
+use Names.{free_all, look_at, sets, fact, fact_i, tables, owns, types_at, plain, nothing, opens, closes}
+use Names.{Stays, stay_ref, walk_of, Goes-ref, proved_at, leaves, LinkWrites}
 use Rattle.hashlink_nodes.specs.contracts.link_writes.LinkWrites.{the_row}
 use Rattle.hashlink_nodes.specs.contracts.link_writes.LinkWrites.raise.{ended, clauses}
 use Rattle.hashlink_nodes.specs.contracts.link_writes.LinkWrites.raise.Key.{name as #self}

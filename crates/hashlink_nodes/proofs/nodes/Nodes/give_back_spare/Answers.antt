@@ -1,7 +1,6 @@
 use Rattle.std.proofs.Common.{arith}
 use Rattle.hashlink_nodes.proofs.Calls.{spare_gone, spare_of}
 use Rattle.hashlink_nodes.proofs.Opening.{opened, known, spare_guard, seal}
-use Rattle.hashlink_nodes.proofs.nodes.Nodes.give_back_spare.Given as given
 use Rattle.hashlink_nodes.proofs.nodes.Nodes.give_back_spare.Goals as goal
 
 pub next-first_spare-requires : goal.next-first_spare-requires

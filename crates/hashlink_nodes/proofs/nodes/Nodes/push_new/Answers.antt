@@ -1,5 +1,5 @@
-use Rattle.hashlink_nodes.proofs.Names.{◌+◌, Some, length, ap, sym, subst, refl, ◌∙◌, arith, state_of}
-use Rattle.hashlink_nodes.proofs.Names.{held, Pool}
+use Rattle.hashlink_nodes.proofs.Names.{◌+◌, Some, length, ap, sym, subst, refl, ◌∙◌, arith, state_of, held}
+use Rattle.hashlink_nodes.proofs.Names.{Pool}
 use Rattle.hashlink_nodes.proofs.Calls.{Ready, guarded_now, into_before, ready_new}
 use Rattle.hashlink_nodes.proofs.Opening.{Leaves, known, leaves, seal}
 use Rattle.hashlink_nodes.proofs.nodes.Nodes.push_new.Given as given

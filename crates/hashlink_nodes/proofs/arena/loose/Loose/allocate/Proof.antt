@@ -1,23 +1,18 @@
 -- `allocate` cuts a new block into room for its parts and the right to free it.
-use Rattle.hashlink_nodes.proofs.Walks.{◌≡◌, ℕ, List, [], ◌∷◌, ◌++◌, refl, sym, ap, subst, full_share, SProp}
-use Rattle.hashlink_nodes.proofs.Walks.{ent, emp, sep, id⊢, framed, Fml, Lft, Incl-trans, ftrue, fat, flft}
-use Rattle.hashlink_nodes.proofs.Walks.{a_type, dcons, dnil, Val, vcons, vnil, vptr, inst_fn, size, align}
-use Rattle.hashlink_nodes.proofs.Walks.{capped, capped_fits, size-raw, align-raw, WpFn, ◌⊑◌, meet_⊑_right}
-use Rattle.hashlink_nodes.proofs.Walks.{fact, fact_i, tables, part_in, part_out, sem, ‵, raw, ◌⊛◌, some}
-use Rattle.hashlink_nodes.proofs.Walks.{later, given, at_ret, ◌$◌, ◌∵◌, !, qed, by, move, keep, drop, use0}
-use Rattle.hashlink_nodes.proofs.Walks.{use1, use2, pick, learn, split, split3, group, fsplit, fjoin}
-use Rattle.hashlink_nodes.proofs.Walks.{suffices, await, whole, agg, stop, fld, from, addr, size_word}
-use Rattle.hashlink_nodes.proofs.Walks.{align_word, no_more, and_then, of_opd, first, exec, returns, enter}
-use Rattle.hashlink_nodes.proofs.Walks.{alloc_all, pass_all, free_all, look_at, take_at, give_at, get, get_in}
-use Rattle.hashlink_nodes.proofs.Walks.{sets, sets_last, env, no, part_at, param, bounded, param_laws}
-use Rattle.hashlink_nodes.proofs.Walks.{RattleType, owns, block_ptr, types_at, plain, heard, nothing, Stays}
-use Rattle.hashlink_nodes.proofs.Walks.{stay_dropped, walk_of, Goes-dropped, Al, α, handle_tells, after}
-use Rattle.hashlink_nodes.proofs.Walks.{proved_at, leaves}
-use Rattle.hashlink_nodes.proofs.Names.{true, false, Ok, Err, wand, apply∗, Share, Body, Wp, after_seq}
-use Rattle.hashlink_nodes.proofs.Names.{at_return, live, vrt, in_variant, lit, switches_on, get_tag, lands_as}
-use Rattle.hashlink_nodes.proofs.Names.{layout, calls_at, Answer-typed, Answered, seen, Lent, lends, Takes}
-use Rattle.hashlink_nodes.proofs.Names.{at_takes, Takes-goes, Takes-gives, answers, head, arm_body, ok_of}
-use Rattle.hashlink_nodes.proofs.Names.{err_of, first_Good, some_Good, block_room, block_type}
+use Rattle.hashlink_nodes.proofs.Names
+use Names.{◌≡◌, ℕ, List, [], ◌∷◌, ◌++◌, refl, sym, ap, subst, full_share, SProp, ent, emp, sep, id⊢, framed}
+use Names.{Fml, Lft, Incl-trans, ftrue, fat, flft, a_type, dcons, dnil, Val, vcons, vnil, vptr, inst_fn, size}
+use Names.{align, capped, capped_fits, size-raw, align-raw, WpFn, ◌⊑◌, meet_⊑_right, fact, fact_i, tables}
+use Names.{part_in, part_out, sem, ‵, raw, ◌⊛◌, some, later, given, at_ret, ◌$◌, ◌∵◌, !, qed, by, move, keep}
+use Names.{drop, use0, use1, use2, pick, learn, split, split3, group, fsplit, fjoin, suffices, await, whole}
+use Names.{agg, stop, fld, from, addr, size_word, align_word, no_more, and_then, of_opd, first, exec, returns}
+use Names.{enter, alloc_all, pass_all, free_all, look_at, take_at, give_at, get, get_in, sets, sets_last, env}
+use Names.{no, part_at, param, bounded, param_laws, RattleType, owns, block_ptr, types_at, plain, heard}
+use Names.{nothing, Stays, stay_dropped, walk_of, Goes-dropped, Al, α, handle_tells, after, proved_at, leaves}
+use Names.{true, false, Ok, Err, wand, apply∗, Share, Body, Wp, after_seq, at_return, live, vrt, in_variant}
+use Names.{lit, switches_on, get_tag, lands_as, layout, calls_at, Answer-typed, Answered, seen, Lent, lends}
+use Names.{Takes, at_takes, Takes-goes, Takes-gives, answers, head, arm_body, ok_of, err_of, first_Good}
+use Names.{some_Good, block_room, block_type}
 use types.Kit.{Post as After, any_q}
 use Rattle.std.specs.contracts.result.Result as result
 use Rattle.std.proofs.alloc.Calls.{Fits}

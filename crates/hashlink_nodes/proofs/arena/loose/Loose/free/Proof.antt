@@ -1,20 +1,17 @@
 -- `free` makes the block of its empty parts, and hands it back.
-use Rattle.hashlink_nodes.proofs.Walks.{◌≡◌, ℕ, ◌+◌, List, [], ◌∷◌, ◌++◌, refl, sym, ap, subst, SProp, ent}
-use Rattle.hashlink_nodes.proofs.Walks.{emp, id⊢, framed, Lft, Incl-trans, ftrue, froom, flft, a_type, dcons}
-use Rattle.hashlink_nodes.proofs.Walks.{dnil, Val, vcons, vnil, vptr, vunit, inst_fn, size, align, capped}
-use Rattle.hashlink_nodes.proofs.Walks.{capped_fits, size-raw, align-raw, WpFn, ◌⊑◌, meet_⊑_right, fact}
-use Rattle.hashlink_nodes.proofs.Walks.{fact_i, tables, ‵, raw, ◌⊛◌, later, given, at_ret, ◌$◌, ◌∵◌, !, qed}
-use Rattle.hashlink_nodes.proofs.Walks.{by, move, keep, drop, use0, use1, use2, learn, split, split3, join}
-use Rattle.hashlink_nodes.proofs.Walks.{group, fsplit, fjoin, suffices, await, whole, sub, stop, fld, from}
-use Rattle.hashlink_nodes.proofs.Walks.{addr, size_word, align_word, no_more, and_then, of_opd, first, blocks}
-use Rattle.hashlink_nodes.proofs.Walks.{exec, returns, enter, alloc_all, pass_all, free_all, look_at, take_at}
-use Rattle.hashlink_nodes.proofs.Walks.{give_at, get, get_in, sets, env, no, param, bounded, param_laws}
-use Rattle.hashlink_nodes.proofs.Walks.{RattleType, owns, types_at, plain, heard, nothing, Stays}
-use Rattle.hashlink_nodes.proofs.Walks.{stay_dropped, walk_of, Al, α, Goes-blank, after, proved_at, leaves}
+use Rattle.hashlink_nodes.proofs.Names
+use Names.{◌≡◌, ℕ, ◌+◌, List, [], ◌∷◌, ◌++◌, refl, sym, ap, subst, SProp, ent, emp, id⊢, framed, Lft}
+use Names.{Incl-trans, ftrue, froom, flft, a_type, dcons, dnil, Val, vcons, vnil, vptr, vunit, inst_fn, size}
+use Names.{align, capped, capped_fits, size-raw, align-raw, WpFn, ◌⊑◌, meet_⊑_right, fact, fact_i, tables, ‵}
+use Names.{raw, ◌⊛◌, later, given, at_ret, ◌$◌, ◌∵◌, !, qed, by, move, keep, drop, use0, use1, use2, learn}
+use Names.{split, split3, join, group, fsplit, fjoin, suffices, await, whole, sub, stop, fld, from, addr}
+use Names.{size_word, align_word, no_more, and_then, of_opd, first, blocks, exec, returns, enter, alloc_all}
+use Names.{pass_all, free_all, look_at, take_at, give_at, get, get_in, sets, env, no, param, bounded}
+use Names.{param_laws, RattleType, owns, types_at, plain, heard, nothing, Stays, stay_dropped, walk_of, Al, α}
+use Names.{Goes-blank, after, proved_at, leaves, Tys, tcons, tnil, ty_ptr, ty_unit, Vals, has_ty, WT, up}
+use Names.{use3, lands_last, calls_at_last, lends_field, takes_back, Gives, at_gives, Gives-goes, Gives-Gives}
+use Names.{block_type}
 use lib.Dec.{T as Holds}
-use Rattle.hashlink_nodes.proofs.Names.{Tys, tcons, tnil, ty_ptr, ty_unit, Vals, has_ty, WT, up, use3}
-use Rattle.hashlink_nodes.proofs.Names.{lands_last, calls_at_last, lends_field, takes_back, Gives, at_gives}
-use Rattle.hashlink_nodes.proofs.Names.{Gives-goes, Gives-Gives, block_type}
 use Rattle.hashlink_nodes.specs.contracts.arena.loose.Loose as loose
 use Rattle.hashlink_nodes.proofs.LooseSteps.{both, Lo, loose_good, loose_out, written, block_glue}
 use Rattle.hashlink_nodes.specs.contracts.arena.loose.Loose.free.{ended, clauses}
