@@ -5,7 +5,7 @@ use Names.{usize, Laws, Sharable, copy_shared, RattleType, RowLaws, Ptr, lies_at
 use Names.{beside_shr_laws, nothing_shr_laws, said_shr_laws, Shares-less, usize-field, usize-copy, Lends}
 use Names.{lent_at, lent_at_shr_laws, Lends-lies, Lends-first, Lends-both, Lends-said, Lends-nothing, Kept}
 use Names.{number_word, Links, blocks_lent, blocks_own, block_lent, block_owns, pair_lent, pair_owns}
-use Names.{is_small, deed_owns, free_right, number_of, links_of, Node}
+use Names.{is_small, deed_owns, number_of, links_of, Node}
 use Rattle.hashlink_nodes.specs.Ownership.{pair_of}
 use Rattle.hashlink_nodes.proofs.pool.links.Links.TheLaws as links_laws
 
@@ -55,7 +55,7 @@ module _ {M : Type 1} {𝓤 : Ura M} (𝓛 : Logic 𝓤) (l : Lft) (R : RattleTy
       let links_lent = lent_at Links (links_of R p) k.links in
       let numbered = fsep (is_small R k.entry) number in
       let numbered_lent = beside (said (is_small R k.entry)) number_lent in
-      let linked = fsep links (deed_owns R free_right p) in
+      let linked = fsep links (deed_owns R p) in
       Lends-both 𝓛 (pair_owns R p k.entry) (fsep numbered linked) (pair_lent R p k.entry)
       (beside numbered_lent links_lent) l (Lends-pair p k.entry)
       (Lends-both 𝓛 numbered linked numbered_lent links_lent l
@@ -63,7 +63,7 @@ module _ {M : Type 1} {𝓤 : Ura M} (𝓛 : Logic 𝓤) (l : Lft) (R : RattleTy
       (Lends-small k.entry)
       (Lends-lies 𝓛 usize l (number_of R p) (number_word k.entry)
       (Shares-less 𝓛 usize usize.lives l (⊑_static l) (number_laws.shares M 𝓤 𝓛) (number_word k.entry))))
-      (Lends-first 𝓛 links (deed_owns R free_right p) links_lent l
+      (Lends-first 𝓛 links (deed_owns R p) links_lent l
       (Lends-lies 𝓛 Links l (links_of R p) k.links
       (Shares-less 𝓛 Links Links.lives l (⊑_static l) (LL.shares 𝓛) k.links))))
 

@@ -5,9 +5,9 @@ pub use Rattle.hashlink_nodes.specs.Kept.{with_pair}
 pub use Rattle.hashlink_nodes.specs.Node.{eq-same_node, same_node, same_node-refl, same_node_equiv}
 pub use Rattle.hashlink_nodes.specs.NodesLends.{with_value_at}
 pub use Rattle.hashlink_nodes.specs.Ownership.{Links, block_lent, block_owns, block_room, block_type}
-pub use Rattle.hashlink_nodes.specs.Ownership.{blocks_lent, blocks_own, deed_owns, free_right, is_small}
-pub use Rattle.hashlink_nodes.specs.Ownership.{links_of, links_offset, loose_owns, number_of, number_offset}
-pub use Rattle.hashlink_nodes.specs.Ownership.{pair_lent, pair_offset, pair_owns, pair_room}
+pub use Rattle.hashlink_nodes.specs.Ownership.{blocks_lent, blocks_own, deed_owns, is_small, links_of}
+pub use Rattle.hashlink_nodes.specs.Ownership.{links_offset, number_of, number_offset, pair_lent, pair_offset}
+pub use Rattle.hashlink_nodes.specs.Ownership.{pair_owns, pair_room}
 pub use Rattle.hashlink_nodes.specs.Pool.{state_of}
 pub use Rattle.hashlink_nodes.specs.PoolLends.{kept_with, pool_with}
 pub use Rattle.hashlink_nodes.specs.Ring.{Held, Holds, IsPlace, Ring, held, last_node, next_place, node_after}
@@ -29,12 +29,10 @@ pub use Rattle.hashlink_nodes.specs.declared.pool.links.Link.{Link}
 pub use Rattle.std.proofs.Common.{Bool, Bor, IsSome, List, MutBor, None, Option, Some, [], ap, arith, cond}
 pub use Rattle.std.proofs.Common.{false, inl, inr, length, refl, subst, suc, sym, true, zero, ℕ, ◌++◌, ◌+◌}
 pub use Rattle.std.proofs.Common.{◌-◌, ◌<◌, ◌^◌, ◌∙◌, ◌∷◌, ◌≡◌, ◌⊎◌}
-pub use Rattle.std.proofs.RcSteps.{Good, first_Good, some_Good, word, word-Good}
-pub use Rattle.std.proofs.ResultValues.{and_tt, err_of, ok_of}
-pub use Rattle.std.proofs.alloc.Calls.{Al, Answer-typed, Answered, Gives, Gives-Gives, Gives-goes, Goes-blank}
-pub use Rattle.std.proofs.alloc.Calls.{Lent, Takes, Takes-gives, Takes-goes, answers, at_gives, at_takes}
-pub use Rattle.std.proofs.alloc.Calls.{handle_tells, lends, lends_field, seen, takes_back, α}
-pub use Rattle.std.proofs.alloc.Shapes.{after, arm_body, head}
+pub use Rattle.std.proofs.RcSteps.{Good, word, word-Good}
+pub use Rattle.std.proofs.ResultValues.{and_tt}
+pub use Rattle.std.proofs.alloc.Calls.{Al, Goes-blank, handle_tells}
+pub use Rattle.std.proofs.alloc.Shapes.{after}
 pub use Rattle.std.proofs.lemmas.List.{append-nil, append_assoc, length-append, length-drop, map-append}
 pub use Rattle.std.proofs.lemmas.List.{nil_from_length}
 pub use Rattle.std.proofs.lemmas.List.Sorted.{IsPermutation-middle, IsPermutation-sym}
@@ -48,14 +46,13 @@ pub use Rattle.std.specs.List.{AllByRecursion}
 unfoldable pub use Rattle.std.specs.List.{IsDistinct}
 pub use Rattle.std.specs.Map.{keys_of, lookup, lookup_entry, remove_entry, set_value}
 pub use Rattle.std.specs.Option.{option_map, option_map_or}
-pub use Rattle.std.specs.Prelude.{Err, IfSome, IsNone, Ok, OnOk, is_some, slice_get, unwrap_or}
+pub use Rattle.std.specs.Prelude.{IfSome, IsNone, OnOk, is_some, slice_get, unwrap_or}
 pub use Rattle.std.specs.contracts.impls.GlobalAllocator.TheImpl.{ghosts}
-pub use Rattle.std.specs.declared.alloc.Allocator.{Ghosts}
-pub use base.Fml.{Fml, GName, Incl, Incl-trans, Lft, Share, fat, flft, froom, fsep, ftrue, fwand}
+pub use base.Fml.{Fml, GName, Incl, Incl-trans, Lft, fat, flft, froom, fsep, ftrue, fwand}
 pub use base.Fraction.{full_share}
 pub use base.Logic.{SProp, apply∗, emp, ent, ex_i, fst∗, guard_i, id⊢, never, never_e, sep, snd∗, via, wand}
 pub use borrow.Table.OneValue.{part_in, part_out}
-pub use contract.BorrowLft.{meet_⊑_left, meet_⊑_right, ⊑_static, ◌⊑◌}
+pub use contract.BorrowLft.{meet_⊑_left, ⊑_static, ◌⊑◌}
 pub use contract.Monad.{fact, fact_i, fact_use}
 pub use contract.Running.{Running, tables}
 pub use denote.Builtin.{One, RefOf, usize}
@@ -65,7 +62,7 @@ pub use denote.Laws.{Is, Typed, shows}
 pub use denote.Memory.{cell_at, lone, mem, part_at}
 unfoldable pub use denote.Memory.{part_of}
 pub use denote.Opens.{hide, unhide}
-pub use denote.Param.{bounded, layout, layouts, param}
+pub use denote.Param.{layout, layouts, param}
 pub use denote.Param.Laws.{Laws, param_laws}
 pub use denote.Param.Shared.{Sharable, copy_shared}
 pub use denote.Plain.{uint_in, uint_out}
@@ -84,33 +81,25 @@ pub use denote.Struct.Lending.{Lends, Lends-both, Lends-first, Lends-lies, Lends
 pub use denote.Struct.Lending.{lent_at_shr_laws, of_Lends}
 pub use denote.Struct.Owning.{shape}
 pub use denote.Struct.Struct.{Shape, Struct, within}
-pub use denote.Triple.Call.{calls_at, calls_at_last}
 pub use denote.Triple.Clauses.{Clauses, Ended, at_exit, closing}
 pub use denote.Triple.Spec.{Meets}
-pub use denote.Triple.Table.{framed}
 pub use denote.Triple.Walked.{Goes-dropped, Goes-ref, Goes-spent_ref, Stays, stay_dropped, stay_ref, walk_of}
 pub use lib.Dec.{T, lit<}
 pub use mathlib.Core.Bool.{◌&&◌}
 pub use mir.MapTy.{inst_fn}
 pub use mir.Raw.{raw as bare}
-pub use mir.Syntax.{Body, Callee, Fn, Ty, Tys, a_type, dcons, dnil, impl, int_big, named, tcons, tnil, ty_int}
-pub use mir.Syntax.{ty_ptr, ty_struct, ty_unit, w64}
-pub use mir.Val.{Fits, Val, Vals, WT, has_ty, of_list, vcons, vint, vnil, vptr, vstruct, vunit}
-pub use prog.Capped.{capped_fits}
-pub use prog.Memory.{align, capped, size, up}
+pub use mir.Syntax.{Callee, Fn, Ty, Tys, a_type, dnil, impl, int_big, named, tcons, tnil, ty_int, ty_struct}
+pub use mir.Syntax.{w64}
+pub use mir.Val.{Fits, Val, WT, has_ty, of_list, vcons, vint, vnil, vptr, vstruct, vunit}
 pub use prog.Model.{Model, rooms_at}
-pub use prog.RawLaws.{align-raw, size-raw}
-pub use prog.Wp.{Closed, Env, Wp, WpFn, after_seq, at_return}
+pub use prog.Wp.{Closed, Env, WpFn}
 pub use seplogic.Ra.Ura.{Ura}
-pub use types.ByLocal.{alloc_all, env, free_all, get, get_in, get_tag, give_at, is, lands_as, lands_last}
-pub use types.ByLocal.{look_at, pass_all, sets, sets_last, take_at, through}
-pub use types.Kit.{!, Goal, Item, Seq, Step, assume, at_ret, await, by, done, drop, feq_i, feq_l, fjoin}
-pub use types.Kit.{fjoin3, flt_i, flt_l, fpack, fpick, fsplit, fsplit3, given, group, join, keep, later}
-pub use types.Kit.{learn, mean, move, now, pick, prop, qed, raw, rewrite, some, split, split3, step, suffices}
-pub use types.Kit.{upd, use0, use1, use2, use3, ‵, ◌$◌, ◌∵◌, ◌⊛◌}
+pub use types.ByLocal.{alloc_all, env, free_all, get, get_in, is, look_at, pass_all, sets, sets_last, through}
+pub use types.Kit.{ !, Goal, Item, Seq, Step, assume, at_ret, await, by, done, drop, feq_i, feq_l, fjoin}
+pub use types.Kit.{fjoin3, flt_i, flt_l, fpack, fpick, fsplit, fsplit3, group, join, keep, later, mean, move}
+pub use types.Kit.{now, pick, prop, qed, raw, rewrite, some, split, split3, step, suffices, upd, use0, use1}
+pub use types.Kit.{use2, ‵, ◌$◌, ◌∵◌, ◌⊛◌}
 pub use types.Logic.{Logic, sem}
-pub use types.Match.{in_variant, live, vrt}
 pub use types.Part.{agg, sub, whole}
-pub use types.Run.{Opd, addr, align_word, and_then, assigns, assigns_last, blocks, enter, exec, first, fld}
-pub use types.Run.{from, init, lit, load, look, no_more, of_opd, returns, size_word, stop, store, switches_on}
-pub use types.Run.{unit_lit, well_typed}
+pub use types.Run.{Opd, addr, and_then, assigns, assigns_last, blocks, enter, exec, first, fld, init, load}
+pub use types.Run.{look, no_more, of_opd, returns, stop, store, unit_lit, well_typed}

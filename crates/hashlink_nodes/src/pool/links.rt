@@ -4,10 +4,10 @@ ghost use Rattle.hashlink_nodes.specs.Pool.{state_of};
 ghost use Rattle.hashlink_nodes.specs.State.{store_next, store_prev, Adds, MakesGuard};
 
 use super::Pool;
-use crate::arena::Loose;
 use crate::link_writes::LinkWrites;
 use crate::node::Node;
 use std::alloc::{AllocError, Global};
+use std_alloc::room::Vacant;
 
 /// The links of a node's block.
 pub(crate) struct Links {
@@ -93,8 +93,8 @@ impl<K, V> Pool<K, V> {
         ensures made { IfOk result (λ n. Adds n (state_of self.old) (state_of self.new)) }
         ensures refused { OnErr result (self.new ≡ self.old) }
     {
-        match Loose::allocate(alloc) {
-            Ok(loose) => Ok(self.arena.keep(loose, Links::nowhere())),
+        match Vacant::take(alloc) {
+            Ok(vacant) => Ok(self.arena.keep(vacant, Links::nowhere())),
             Err(_) => Err(AllocError),
         }
     }

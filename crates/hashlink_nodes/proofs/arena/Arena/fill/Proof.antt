@@ -11,7 +11,7 @@ use Names.{in_a_block, lies_at, types_at, plain, param, layouts, param_laws, not
 use Names.{Stays, stay_dropped, stay_ref, walk_of, Goes-dropped, Goes-ref, after, word, word-Good, proved_at}
 use Names.{leaves, flt_l, unit_lit, same_node, alter, entry_in, number_word, with_entry, Links, blocks_own}
 use Names.{block_owns, pair_owns, pair_room, pair_offset, is_small, number_of, number_offset, links_of}
-use Names.{deed_owns, free_right, Arena}
+use Names.{deed_owns, Arena}
 use Rattle.hashlink_nodes.specs.contracts.arena.Arena.{the_row}
 use Rattle.hashlink_nodes.proofs.ArenaSteps.{Nd, word_had, told, args_are, states}
 use Rattle.hashlink_nodes.proofs.ArenaBlocks.{found, blocks_cut, blocks_glue, small_shown}
@@ -85,7 +85,7 @@ fill_spec 𝓤 𝓛 𝓜 𝓡 wired T L =
     let τ : Ty = lone R.mir in let at = o + pair_offset R in let no = o + number_offset R in
     use1 𝓛 (‵ (froom τ b at)) (𝓛.laws.raw-room τ b at) $
     rewrite ! 2 (λ (p : Ptr). ‵ (fsep (lies_at Links full_share (links_of R p) k.links)
-    (deed_owns R free_right p)))
+    (deed_owns R p)))
     e refl $
     move ! (1 ∷ []) $
     rewrite ! 0 (λ (x : Ptr × Option (ℕ × T.Denot)). ‵ (fsep (is_small R x.1)

@@ -8,15 +8,13 @@ use Names.{stop, fld, of_opd, and_then, no_more, returns, enter, alloc_all, pass
 use Names.{get_in, sets, is, sub, whole, agg, fact, ◌⊑◌, tables, part_out, usize, yes, lone, uint_out}
 use Names.{RattleType, owns, Ptr, block_ptr, ptr_val, in_a_block, lies_at, types_at, plain, param, layouts}
 use Names.{nothing, heard, opens, closes, Stays, stay_dropped, stay_ref, walk_of, Goes-dropped, Goes-ref}
-use Names.{word, word-Good, proved_at, leaves, ghosts, handle_tells, same_node, entry_in, number_word, Links}
+use Names.{word, word-Good, proved_at, leaves, handle_tells, same_node, entry_in, number_word, Links}
 use Names.{blocks_own, block_owns, pair_owns, pair_room, is_small, number_of, number_offset, links_of}
-use Names.{links_offset, deed_owns, free_right, Arena}
+use Names.{links_offset, deed_owns, Arena}
 use Rattle.hashlink_nodes.specs.contracts.arena.Arena.{the_row}
 use Rattle.hashlink_nodes.proofs.ArenaSteps.{Nd, word_had, args_are, states}
 use Rattle.hashlink_nodes.proofs.ArenaBlocks.{found, blocks_cut}
-use Rattle.std.specs.contracts.alloc.Global as heap
-use Rattle.std.proofs.alloc.Global.TheLaws as heap_laws
-use Rattle.hashlink_nodes.proofs.LooseSteps.{both, Lo, al, loose_good, loose_in}
+use Rattle.hashlink_nodes.proofs.VacantSteps.{both, Heap, Vacant, al, vacant_good, vacant_in}
 use Rattle.hashlink_nodes.specs.contracts.arena.Arena.give_back.{ended, clauses}
 use Rattle.hashlink_nodes.specs.contracts.arena.Arena.give_back.Key.{name as #self}
 use Rattle.hashlink_nodes.proofs.arena.Arena.give_back.Statement.{statement}
@@ -29,19 +27,17 @@ give_back_spec 𝓤 𝓛 𝓜 𝓡 wired T L =
     let R : RattleType = param 0 T in let En = ended T in let c = clauses T 𝓛 𝓜.mem 𝓡.returns in
     let inst = layouts (a_type ∷ []) (T, tt) in
     let fn = inst_fn inst code.function in let Ar : RattleType = the_row R in
-    let Z : RattleType = heap.the_row in let LZ = heap_laws.the_row_laws in let Lr : RattleType =
-    Lo R Z LZ ghosts in
     let hs : Stays En.signature.params En.kept
     = (
       stay_ref (0 ∷ []) tt (plain (λ _. Ar)),
-      (stay_dropped (plain (λ _. Nd)) yes, (stay_dropped (plain (λ _. Z)) yes, tt)),
+      (stay_dropped (plain (λ _. Nd)) yes, (stay_dropped (plain (λ _. Heap)) yes, tt)),
     )
     in
     proved_at 𝓛 En hs c 𝓜 𝓡 (
       Goes-ref 𝓛 2 0 tt (plain (λ _. Ar)),
       (
         Goes-dropped 𝓛 2 (plain (λ _. Nd)) yes (λ κs x f. refl),
-        (Goes-dropped 𝓛 2 (plain (λ _. Z)) yes (λ κs x f. refl), tt),
+        (Goes-dropped 𝓛 2 (plain (λ _. Heap)) yes (λ κs x f. refl), tt),
       ),
     )
     (#self inst) fn (code.unfolded 𝓤 H 𝓜 𝓡 wired (T, tt)) (λ z are.
@@ -64,7 +60,7 @@ give_back_spec 𝓤 𝓛 𝓜 𝓡 wired T L =
     let new : Arena T.Denot = record { mark = a.mark; blocks = remove_entry (same_node n) a.blocks } in
     move ! (1 ∷ []) $ fsplit ! $ fsplit3 ! $ feq_l !
     (λ e0. move ! (2 ∷ []) $ fsplit ! $ word_had ! n.at z.0.4.1.0
-    (λ e1. fsplit ! $ handle_tells (al R Z LZ ghosts) ! alloc z.0.4.1.1.0 (λ h e2 fits.
+    (λ e1. fsplit ! $ handle_tells al ! alloc z.0.4.1.1.0 (λ h e2 fits.
     -- [the handle; nothing; obs; the borrow; the tokens]
     move ! (1 ∷ []) $ drop ! $ move ! (3 ∷ []) $ split3 ! $
     args_are ! (λ (us : List Val × List Val × List Val). Run (us.0 ++ (us.1 ++ (us.2 ++ []))))
@@ -78,7 +74,7 @@ give_back_spec 𝓤 𝓛 𝓜 𝓡 wired T L =
     rewrite ! 0 (λ x. ‵ (pair_owns R n.at x)) is_e refl $
     in_a_block ! n.at (pair_room R) (id⊢ 𝓤 (never 𝓤)) (λ b o e.
     let τ : Ty = lone Links.mir in let at = o + links_offset R in let no = o + number_offset R in
-    let out : Lr.Denot = record { at = block_ptr b o; alloc = alloc } in
+    let out : (Vacant T).Denot = record { ptr = block_ptr b o; alloc = alloc } in
     move ! (1 ∷ []) $
     rewrite ! 0 (λ (x : Ptr × Option (ℕ × T.Denot)). ‵ (fsep (is_small R x.1)
     (lies_at usize full_share (number_of R x.0) (number_word x.1)))) (λ i. (e i, is_e i)) refl $
@@ -87,24 +83,24 @@ give_back_spec 𝓤 𝓛 𝓜 𝓡 wired T L =
     use1 𝓛 (‵ (froom (ty_int w64) b no)) (𝓛.laws.at_room (ty_int w64) b no (vint w64 (2 ^ 48))) $
     move ! (2 ∷ []) $
     rewrite ! 0 (λ (p : Ptr). ‵ (fsep (lies_at Links full_share (links_of R p) k.links)
-    (deed_owns R free_right p)))
+    (deed_owns R p)))
     e refl $ fsplit ! $
     use1 𝓛 (some (λ (v : Val). ‵ (fat full_share τ b at v) ⊛ ‵ (Links.own_val k.links (v ∷ []))))
     (part_out 𝓛 Links refl full_share k.links b at) $ pick ! (λ v. split ! $ move ! (1 ∷ []) $ drop ! $
     use1 𝓛 (‵ (froom τ b at)) (𝓛.laws.at_room τ b at v) $
     use1 𝓛 (‵ (froom (bare τ) b at)) (𝓛.laws.room-raw τ b at) $
     -- [room for the links; the deed; room for the number, for the pair]
-    move ! (3 ∷ 2 ∷ 0 ∷ []) $ fjoin3 ! $ fjoin ! $
-    -- [the block; the others; the mark; its cell; the open borrow; obs; auth; a token; nothing; the handle]
+    move ! (3 ∷ 2 ∷ 0 ∷ []) $ fjoin3 ! $
+    -- [the room; the deed; the others; the mark; its cell; the open borrow; obs; auth; a token; nothing; the handle]
     sets ! (is ! (of_opd ! (get_in ! (fld ! refl (stop !)) (sub ! 0 refl (whole !)))) (ap ptr_val e)) refl
     (tt, tt) $
     sets ! (agg ! (and_then ! (get ! refl) (and_then ! (get ! refl) (no_more !)))) refl
-    (loose_good R Z LZ ghosts b o h fits) $
-    move ! (1 ∷ 2 ∷ []) $ move ! (1 ∷ 0 ∷ []) $ fjoin ! $ move ! (2 ∷ 0 ∷ 3 ∷ 4 ∷ 5 ∷ []) $
+    (vacant_good b o h fits) $
+    move ! (3 ∷ 2 ∷ []) $ fjoin ! $ move ! (3 ∷ 0 ∷ 4 ∷ 5 ∷ 6 ∷ []) $
     closes ! tt Ar new vs rb
     ro $
-    -- [obs; the borrow; its token; the block; a token; nothing; the handle]
-    move ! (3 ∷ 6 ∷ []) $ loose_in R Z LZ ghosts ! b o h alloc $
+    -- [obs; the borrow; its token; the room; the deed; a token; nothing; the handle]
+    move ! (3 ∷ 4 ∷ 7 ∷ []) $ vacant_in T ! b o h alloc $
     states ! {φ = new.blocks ≡ remove_entry (same_node n) a.blocks} refl $ move ! (1 ∷ 0 ∷ []) $
     move ! (4 ∷ 5 ∷ 6 ∷ []) $ group ! 3 $
     nothing ! $ nothing ! $ fjoin ! $ nothing ! $ fjoin ! $ move ! (4 ∷ 5 ∷ []) $ feq_i ! (List Val) z.0.4.0

@@ -1,22 +1,20 @@
 -- `keep` adds a block to those that the arena owns. It lies apart from them, since it is owned beside them.
 use Rattle.hashlink_nodes.proofs.Names
 use Names.{◌≡◌, ◌+◌, ◌^◌, List, [], ◌∷◌, ◌++◌, refl, sym, subst, Option, None, lookup, full_share, lit<, Ty}
-use Names.{a_type, w64, inst_fn, Val, vptr, SProp, ftrue, froom, flft, WpFn, ‵, raw, ◌⊛◌, at_ret, ◌$◌, ◌∵◌, !}
-use Names.{qed, by, move, keep, drop, split, split3, join, group, fsplit, fsplit3, fjoin, fjoin3, use1, use2}
-use Names.{feq_i, feq_l, stop, fld, of_opd, addr, init, assigns, assigns_last, first, blocks, exec, and_then}
-use Names.{no_more, returns, enter, alloc_all, pass_all, free_all, look_at, get, get_in, through, sets, env}
-use Names.{sub, whole, agg, tables, part_in, usize, no, yes, lone, part_at, uint_in, RattleType, owns}
-use Names.{block_ptr, types_at, plain, param, layouts, nothing, opens, closes, Stays, stay_dropped, stay_ref}
-use Names.{walk_of, Goes-dropped, Goes-ref, Goes-blank, after, word, word-Good, proved_at, leaves, ghosts}
+use Names.{a_type, w64, inst_fn, Val, vptr, SProp, ftrue, froom, flft, WpFn, ‵, raw, ◌⊛◌, at_ret, ◌$◌, ◌∵◌}
+use Names.{ !, qed, by, move, keep, drop, split, split3, join, group, fsplit, fsplit3, fjoin, fjoin3, use1}
+use Names.{use2, feq_i, feq_l, stop, fld, of_opd, addr, init, assigns, assigns_last, first, blocks, exec}
+use Names.{and_then, no_more, returns, enter, alloc_all, pass_all, free_all, look_at, get, get_in, through}
+use Names.{sets, env, sub, whole, agg, tables, part_in, usize, no, yes, lone, part_at, uint_in, RattleType}
+use Names.{owns, block_ptr, types_at, plain, param, layouts, nothing, opens, closes, Stays, stay_dropped}
+use Names.{stay_ref, walk_of, Goes-dropped, Goes-ref, Goes-blank, after, word, word-Good, proved_at, leaves}
 use Names.{same_node, Kept, kept, Links, number_offset, links_offset, Arena, Node}
 use Rattle.hashlink_nodes.specs.contracts.arena.Arena.{the_row}
 use Rattle.hashlink_nodes.proofs.ArenaSteps.{told, no_entry, word_made, args_are, states}
 use Rattle.hashlink_nodes.proofs.ArenaBlocks.{small_shown, apart_from, knows}
 use Rattle.std.proofs.Common.{IsNone}
-use Rattle.std.specs.contracts.alloc.Global as heap
-use Rattle.std.proofs.alloc.Global.TheLaws as heap_laws
 use Rattle.hashlink_nodes.proofs.ArenaSharing.{LL}
-use Rattle.hashlink_nodes.proofs.LooseSteps.{both, Lo, loose_good, loose_out}
+use Rattle.hashlink_nodes.proofs.VacantSteps.{both, Vacant, vacant_good, vacant_out}
 use Rattle.hashlink_nodes.specs.contracts.arena.Arena.keep.{ended, clauses}
 use Rattle.hashlink_nodes.specs.contracts.arena.Arena.keep.Key.{name as #self}
 use Rattle.hashlink_nodes.proofs.arena.Arena.keep.Statement.{statement}
@@ -29,18 +27,17 @@ keep_spec 𝓤 𝓛 𝓜 𝓡 wired T L =
     let R : RattleType = param 0 T in let En = ended T in let c = clauses T 𝓛 𝓜.mem 𝓡.returns in
     let inst = layouts (a_type ∷ []) (T, tt) in
     let fn = inst_fn inst code.function in let Ar : RattleType = the_row R in
-    let Z : RattleType = heap.the_row in let LZ = heap_laws.the_row_laws in let Lr : RattleType =
-    Lo R Z LZ ghosts in
+    let Vc : RattleType = Vacant T in
     let hs : Stays En.signature.params En.kept
     = (
       stay_ref (0 ∷ []) tt (plain (λ _. Ar)),
-      (stay_dropped (plain (λ _. Lr)) no, (stay_dropped (plain (λ _. Links)) yes, tt)),
+      (stay_dropped (plain (λ _. Vc)) no, (stay_dropped (plain (λ _. Links)) yes, tt)),
     )
     in
     proved_at 𝓛 En hs c 𝓜 𝓡 (
       Goes-ref 𝓛 2 0 tt (plain (λ _. Ar)),
       (
-        Goes-blank 𝓛 2 (plain (λ _. Lr)) no (λ κs x f. tt),
+        Goes-blank 𝓛 2 (plain (λ _. Vc)) no (λ κs x f. tt),
         (Goes-dropped 𝓛 2 (plain (λ _. Links)) yes (λ κs x f. refl), tt),
       ),
     )
@@ -56,20 +53,20 @@ keep_spec 𝓤 𝓛 𝓜 𝓡 wired T L =
     ((c κs z.0.3).requires z.1) ∷ []) ∵
     split ! $ move ! (2 ∷ []) $ drop ! $
     move ! (1 ∷ []) $ fsplit ! $ fsplit3 ! $ feq_l !
-    (λ e0. move ! (2 ∷ []) $ fsplit ! $ loose_out R Z LZ ghosts ! d z.0.4.1.0 (λ b o h e ws fits.
+    (λ e0. move ! (2 ∷ []) $ fsplit ! $ vacant_out T ! d z.0.4.1.0 (λ b o h ws fits.
     move ! (2 ∷ []) $ fsplit ! $ told Links LL ! links z.0.4.1.1.0 (λ w e2 good.
     let n : Node = record { at = block_ptr b o } in let bare_block : Kept T.Denot = kept links None in
     let new : Arena T.Denot = record { mark = a.mark; blocks = (n, bare_block) ∷ a.blocks } in
-    -- [what the links own; nothing; the block; the handle; obs; the borrow; the tokens]
-    move ! (1 ∷ []) $ drop ! $ move ! (2 ∷ []) $ drop ! $ move ! (4 ∷ []) $ split3 ! $
+    -- [what the links own; nothing; the room; the deed; obs; the borrow; the tokens]
+    move ! (1 ∷ []) $ drop ! $ move ! (5 ∷ []) $ split3 ! $
     args_are ! (λ (us : List Val × List Val × List Val). Run (us.0 ++ (us.1 ++ (us.2 ++ []))))
     (λ j. (sym e0 j, sym ws j, sym e2 j)) $
     enter ! 𝓣.C 𝓣.Λ fn (vptr rb ro ∷ both (vptr b o) h ∷ w ∷ []) Post $ alloc_all !
-    (λ l. pass_all ! refl ((tt, tt), (loose_good R Z LZ ghosts b o h fits, (good, tt))) $
+    (λ l. pass_all ! refl ((tt, tt), (vacant_good b o h fits, (good, tt))) $
     let Ev = env fn.locals l in
     let τ : Ty = lone Links.mir in let at = o + links_offset R in let no = o + number_offset R in
-    -- [a token; the others; nothing; what the links own; the block; obs; the borrow]
-    move ! (4 ∷ []) $ fsplit ! $ fsplit3 ! $ move ! (2 ∷ []) $
+    -- [a token; the others; nothing; what the links own; the room; the deed; obs; the borrow]
+    move ! (4 ∷ 5 ∷ []) $ fsplit3 ! $ move ! (2 ∷ []) $
     use1 𝓛 (‵ (froom τ b at)) (𝓛.laws.raw-room τ b at) $
     -- [room for the links, for the pair, for the number; the deed; a token; the others; nothing; what the
     -- links

@@ -1,9 +1,9 @@
 -- `links_mut` lends the links of one block, and the arena follows them.
 use Rattle.hashlink_nodes.proofs.Names
-use Names.{◌∙◌, [], ◌∷◌, refl, sym, ap, Some, IsSome, lookup, full_share, a_type, id⊢, fsep, ‵, ◌$◌, ◌∵◌, !}
+use Names.{◌∙◌, [], ◌∷◌, refl, sym, ap, Some, IsSome, lookup, full_share, a_type, id⊢, fsep, ‵, ◌$◌, ◌∵◌, ! }
 use Names.{qed, move, join, fsplit, fsplit3, fjoin, fjoin3, done, follows, RattleType, lies_at, param}
-use Names.{layouts, option_map, usize, block_owns, pair_owns, is_small, deed_owns, free_right, number_of}
-use Names.{links_of, links_offset, Links, altered, Kept, with_links, number_word, same_node}
+use Names.{layouts, option_map, usize, block_owns, pair_owns, is_small, deed_owns, number_of, links_of}
+use Names.{links_offset, Links, altered, Kept, with_links, number_word, same_node}
 use Rattle.hashlink_nodes.proofs.ArenaBlocks.{found}
 use Rattle.hashlink_nodes.proofs.ArenaSteps.{states}
 use mir.Syntax.{mut}
@@ -29,13 +29,13 @@ links_mut_spec 𝓤 𝓛 𝓜 𝓡 wired T L =
           (lies_at usize full_share (number_of R n.at) (number_word k.entry)) in
           record {
             part = k.links;
-            rest = λ p. fsep (deed_owns R free_right p) (fsep (pair_owns R p k.entry)
+            rest = λ p. fsep (deed_owns R p) (fsep (pair_owns R p k.entry)
                 (fsep (is_small R k.entry) (lies_at usize full_share (number_of R p) (number_word k.entry))));
             out = qed 𝓛 (‵ (block_owns R n.at k) ∷ []) ∵ fsplit3 ! $ move ! (2 ∷ []) $ fsplit ! $
                 move ! (2 ∷ 3 ∷ []) $ fjoin ! $ move ! (2 ∷ 0 ∷ []) $ fjoin ! $ move ! (1 ∷ 0 ∷ []) $ join !
                 $ done !;
             back = λ w. qed 𝓛 (‵ (lies_at Links full_share (links_of R n.at) w) ∷ ‵
-                (fsep (deed_owns R free_right n.at)
+                (fsep (deed_owns R n.at)
                 (fsep (pair_owns R n.at k.entry) number)) ∷ []) ∵
                 move ! (1 ∷ []) $ fsplit3 ! $ move ! (3 ∷ 0 ∷ []) $ fjoin ! $ move ! (1 ∷ 2 ∷ 0 ∷ []) $
                 fjoin3 ! $ done !;

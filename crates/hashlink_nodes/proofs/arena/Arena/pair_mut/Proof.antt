@@ -2,8 +2,8 @@
 use Rattle.hashlink_nodes.proofs.Names
 use Names.{◌≡◌, ℕ, Option, ◌∙◌, [], ◌∷◌, refl, sym, ap, Some, IsSome, lookup, full_share, a_type, id⊢, fsep}
 use Names.{‵, ◌$◌, ◌∵◌, !, qed, move, join, fsplit, fjoin, rewrite, done, follows, RattleType, lies_at, param}
-use Names.{layouts, option_map, usize, block_owns, is_small, deed_owns, free_right, number_of, links_of}
-use Names.{pair_offset, Links, altered, Kept, kept, entry_in, with_pair, same_node}
+use Names.{layouts, option_map, usize, block_owns, is_small, deed_owns, number_of, links_of, pair_offset}
+use Names.{Links, altered, Kept, kept, entry_in, with_pair, same_node}
 use Rattle.hashlink_nodes.specs.Ownership.{pair_of}
 use Rattle.hashlink_nodes.proofs.ArenaBlocks.{found_entry}
 use Rattle.hashlink_nodes.proofs.ArenaSteps.{states}
@@ -30,11 +30,11 @@ pair_mut_spec 𝓤 𝓛 𝓜 𝓡 wired T L =
           = λ w. ap (λ x. with_pair w (kept k.links x)) at_n.3 in
           let number = fsep (is_small R (Some e)) (lies_at usize full_share (number_of R n.at) e.0) in
           let links = fsep (lies_at Links full_share (links_of R n.at) k.links)
-          (deed_owns R free_right n.at) in
+          (deed_owns R n.at) in
           record {
             part = e.1;
             rest = λ p. fsep (fsep (is_small R (Some e)) (lies_at usize full_share (number_of R p) e.0))
-                (fsep (lies_at Links full_share (links_of R p) k.links) (deed_owns R free_right p));
+                (fsep (lies_at Links full_share (links_of R p) k.links) (deed_owns R p));
             out = qed 𝓛 (‵ (block_owns R n.at k) ∷ []) ∵
                 rewrite ! 0 (λ x. ‵ (block_owns R n.at (kept k.links x))) at_n.3 refl $ fsplit ! $ join ! $
                 done !;

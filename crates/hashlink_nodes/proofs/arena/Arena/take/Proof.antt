@@ -3,7 +3,7 @@ use Rattle.hashlink_nodes.proofs.Names
 use Names.{◌≡◌, ℕ, ◌+◌, ◌∙◌, ◌^◌, List, [], ◌∷◌, ◌++◌, refl, sym, ap, Option, None, IsSome, lookup}
 use Names.{remove_entry, option_map, full_share, lit<, Ty, a_type, ty_int, w64, bare, inst_fn, Val, vint}
 use Names.{vptr, SProp, never, id⊢, ftrue, fat, froom, flft, fsep, WpFn, ‵, raw, ◌⊛◌, some, at_ret, ◌$◌, ◌∵◌}
-use Names.{!, qed, by, move, keep, drop, split, split3, join, group, fsplit, fsplit3, fjoin, fjoin3, pick}
+use Names.{ !, qed, by, move, keep, drop, split, split3, join, group, fsplit, fsplit3, fjoin, fjoin3, pick}
 use Names.{rewrite, use1, use2, feq_i, feq_l, stop, fld, of_opd, addr, store, assigns, first, blocks, exec}
 use Names.{returns, enter, alloc_all, pass_all, free_all, look_at, get, get_in, through, sets, sets_last, is}
 use Names.{env, sub, whole, fact, ◌⊑◌, tables, part_out, usize, yes, lone, part_at, uint_in, uint_out}
@@ -11,7 +11,7 @@ use Names.{RattleType, owns, Ptr, ptr_val, in_a_block, lies_at, types_at, plain,
 use Names.{heard, opens, closes, Stays, stay_dropped, stay_ref, walk_of, Goes-dropped, Goes-ref, after, word}
 use Names.{word-Good, proved_at, leaves, load, look, well_typed, same_node, alter, entry_in, number_word}
 use Names.{with_entry, Links, blocks_own, block_owns, pair_owns, pair_offset, is_small, number_of}
-use Names.{number_offset, links_of, deed_owns, free_right, Arena}
+use Names.{number_offset, links_of, deed_owns, Arena}
 use Rattle.hashlink_nodes.specs.Ownership.{pair_of}
 use Rattle.hashlink_nodes.specs.contracts.arena.Arena.{the_row}
 use Rattle.hashlink_nodes.proofs.ArenaSteps.{Nd, word_had, no_entry, args_are, states}
@@ -64,7 +64,7 @@ take_spec 𝓤 𝓛 𝓜 𝓡 wired T L =
     in_a_block ! n.at (λ p. lies_at R full_share (pair_of R p) entry.1) (id⊢ 𝓤 (never 𝓤)) (λ b o e.
     let τ : Ty = lone R.mir in let at = o + pair_offset R in let no = o + number_offset R in
     rewrite ! 2 (λ (p : Ptr). ‵ (fsep (lies_at Links full_share (links_of R p) k.links)
-    (deed_owns R free_right p)))
+    (deed_owns R p)))
     e refl $
     use1 𝓛 (some (λ (v : Val). ‵ (fat full_share τ b at v) ⊛ ‵ (R.own_val entry.1 (v ∷ []))))
     (part_out 𝓛 R refl full_share entry.1 b at) $ pick ! (λ v. split ! $ well_typed ! (λ good.
