@@ -31,9 +31,9 @@ module _ {K V : Type 0} where
     pub leaves : {s' : State K V} {guard : Option Node} → guard ≡ Some g → s' ≡ attached n p q s
         → Leaves s' guard first len spare (ring es v.free (v.link_writes + 4))
 
-  module _ {s : State K V} {n g first p q : Node} {h : Held K V} {len spare : ℕ} {v : Ring K V}
+  module _ {s : State K V} {n g first : Node} {h : Held K V} {len spare : ℕ} {v : Ring K V}
       (r : Ready s n g first h len spare v) where
-    into : {put : Node × Held K V → Entries K V} (gap : Gap v.entries put)
+    into : {p q : Node} {put : Node × Held K V → Entries K V} (gap : Gap v.entries put)
         → Linked s (last_or g (keys_of gap.before)) (head_or g (keys_of gap.after))
         → p ≡ last_or g (keys_of gap.before) → q ≡ head_or g (keys_of gap.after)
         → Into s n g first p q len spare v (put (n, h))
@@ -52,20 +52,19 @@ module _ {K V : Type 0} where
           r.is_spare;
     }
 
-    module _ (place : Option Node) (is_place : IsPlace v.entries place) where
-      pub into_before : q ≡ unwrap_or place g → p ≡ s.prev q
-          → Into s n g first p q len spare v (put_before place (n, h) v.entries)
-      into_before is_q is_p =
-          let at = before_place v.entries g place is_place in let is = is_q ∙ at.node in
-          let l = linked r.ring at.gap.before at.gap.after at.gap.is in
-          into at.gap l (is_p ∙ ap s.prev is ∙ l.back) is
+    module _ (place : Option Node) (is_place : IsPlace v.entries place) {p : Node} (is_p : p ≡ unwrap_or place g)
+      where
+        pub into_before : Into s n g first (s.prev p) p len spare v (put_before place (n, h) v.entries)
+        into_before =
+            let at = before_place v.entries g place is_place in let is = is_p ∙ at.node in
+            let l = linked r.ring at.gap.before at.gap.after at.gap.is in
+            into at.gap l (ap s.prev is ∙ l.back) is
 
-      pub into_after : p ≡ unwrap_or place g → q ≡ s.next p
-          → Into s n g first p q len spare v (put_after place (n, h) v.entries)
-      into_after is_p is_q =
-          let at = after_place v.entries g place is_place in let is = is_p ∙ at.node in
-          let l = linked r.ring at.gap.before at.gap.after at.gap.is in
-          into at.gap l is (is_q ∙ ap s.next is ∙ l.on)
+        pub into_after : Into s n g first p (s.next p) len spare v (put_after place (n, h) v.entries)
+        into_after =
+            let at = after_place v.entries g place is_place in let is = is_p ∙ at.node in
+            let l = linked r.ring at.gap.before at.gap.after at.gap.is in
+            into at.gap l is (ap s.next is ∙ l.on)
 
   -- ---- a node of the ring
   module _ {s : State K V} {guard : Option Node} {g first n : Node} {len spare : ℕ} {v : Ring K V}

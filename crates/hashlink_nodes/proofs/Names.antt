@@ -9,7 +9,7 @@ pub use Rattle.hashlink_nodes.specs.Ownership.{blocks_lent, blocks_own, deed_own
 pub use Rattle.hashlink_nodes.specs.Ownership.{links_offset, number_of, number_offset, pair_lent, pair_offset}
 pub use Rattle.hashlink_nodes.specs.Ownership.{pair_owns, pair_room}
 pub use Rattle.hashlink_nodes.specs.Pool.{state_of}
-pub use Rattle.hashlink_nodes.specs.PoolLends.{kept_with, pool_with}
+pub use Rattle.hashlink_nodes.specs.PoolLends.{pool_with}
 pub use Rattle.hashlink_nodes.specs.Ring.{Held, Holds, IsPlace, Ring, held, last_node, next_place, node_after}
 pub use Rattle.hashlink_nodes.specs.Ring.{node_before, pair_of, prev_place, put_after, put_after_node}
 pub use Rattle.hashlink_nodes.specs.Ring.{put_before, put_before_node, ring, with_key, with_number}

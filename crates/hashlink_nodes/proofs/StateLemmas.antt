@@ -4,7 +4,7 @@ use Names.{◌≡◌, ℕ, ◌+◌, Bool, true, false, cond, List, [], ◌∷◌
 use Names.{ap, ◌∙◌, arith, IsNone, is_some, lookup, set_value, remove_entry, lookup-set_value}
 use Names.{length-set_value, same_node, same_node-refl, Differs, same_node_equiv, eq-same_node, State, Blocks}
 use Names.{state, set_at, next_in, prev_in, held_in, store_next, store_prev, hold, Adds, MakesGuard, Drops}
-use Names.{Node, Link, Kept, kept, alter, entry_in, with_links, with_pair, Pool, state_of, kept_with}
+use Names.{Node, Link, Kept, kept, alter, entry_in, with_links, with_pair, Pool, state_of}
 use Names.{pool_with, held, pair_of, option_map}
 use Rattle.hashlink_nodes.proofs.ArenaBlocks.{found_entry}
 use Rattle.hashlink_nodes.proofs.Cuts.{cut}
@@ -266,42 +266,18 @@ module _ {K V : Type 0} where
   prev_has n to s is m h = ap (λ (t : State K V). t.has m) is ∙ h
 
 -- a node that holds a pair holds another
-module _ {K V : Type 0} (bs : Blocks K V) (count : ℕ) (n : Node) (p : K × V) (at : PairAt bs n p) where
-  pub pair_anew : (w : K × V) (h : Held K V → Held K V) → h (held at.number p.0 p.1) ≡ held at.number w.0 w.1
-      → state (alter (same_node n) (with_pair w) bs) count
-      ≡ hold n (option_map h (held_in (lookup (same_node n) bs))) (state bs count)
-  pair_anew w h is_h =
-      held_anew bs count count n at.block at.looked (with_pair w) refl
-      (option_map h (held_in (lookup (same_node n) bs)))
-      (ap (λ (x : Option (ℕ × (K × V))). held_in (Some (with_pair w (kept at.block.links x)))) at.entry
-      ∙ ap (λ (x : Held K V). Some x) (sym is_h) ∙ sym (ap (option_map h) at.held))
+pub pair_anew : {K V : Type 0} (bs : Blocks K V) (count : ℕ) (n : Node) (p : K × V) (at : PairAt bs n p)
+    (w : K × V) (h : Held K V → Held K V) → h (held at.number p.0 p.1) ≡ held at.number w.0 w.1
+    → state (alter (same_node n) (with_pair w) bs) count
+    ≡ hold n (option_map h (held_in (lookup (same_node n) bs))) (state bs count)
+pair_anew bs count n p at w h is_h =
+    held_anew bs count count n at.block at.looked (with_pair w) refl
+    (option_map h (held_in (lookup (same_node n) bs)))
+    (ap (λ x. held_in (Some (with_pair w (kept at.block.links x)))) at.entry
+    ∙ ap Some (sym is_h) ∙ sym (ap (option_map h) at.held))
 
-  pub value_lent : (w : V)
-      → alter (same_node n) (with_pair (p.0, w)) bs ≡ alter (same_node n) (kept_with w) bs
-  value_lent w =
-      alter_is (same_node n) (with_pair (p.0, w)) bs at.block at.looked
-      ∙ ap (λ (x : Option (ℕ × (K × V))). set_value (same_node n) bs
-      (kept at.block.links (option_map (λ (e : ℕ × (K × V)). (e.0, (p.0, w))) x))) at.entry
-      ∙ sym (ap (λ (x : Option (ℕ × (K × V))). set_value (same_node n) bs (kept_with w
-      (kept at.block.links x)))
-      at.entry)
-      ∙ sym (alter_is (same_node n) (kept_with w) bs at.block at.looked)
-
--- the blocks with another value at a node that holds one
-pub value_anew : {K V : Type 0} (c : Pool K V) (n : Node) (w : V) (p : K × V)
-    (at : PairAt c.arena.blocks n p)
-    → state_of (pool_with c n w) ≡ hold n (Some (held at.number p.0 w)) (state_of c)
-value_anew {K} {V} c n w p at =
-    held_anew c.arena.blocks c.writes.count c.writes.count n at.block at.looked (kept_with w) refl
-    (Some (held at.number p.0 w))
-    (ap (λ (x : Option (ℕ × (K × V))). held_in (Some (kept_with w (kept at.block.links x)))) at.entry)
-
--- a node that holds something has a pair
-pub block_found : {K V : Type 0} (c : Pool K V) (n : Node) (h : Held K V) → (state_of c).held n ≡ Some h
-    → (at : PairAt c.arena.blocks n (pair_of h)) × (held at.number h.key h.value ≡ h)
-block_found {K} {V} c n h e =
-    let x = mapped (λ (e : ℕ × (K × V)). held e.0 e.1.0 e.1.1)
-    (entry_in (lookup (same_node n) c.arena.blocks)) e in
-    let pair = ap (option_map (λ (e : ℕ × (K × V)). e.1)) x.1 ∙ (λ i. Some (pair_of (x.2 i))) in
-    let at = pair_at c.arena.blocks n (pair_of h) pair in
-    let same : Some (held at.number h.key h.value) ≡ Some h = sym at.held ∙ e in (at, cc)
+-- the pair of what a node holds
+pub paired : {K V : Type 0} (o : Option (ℕ × (K × V)))
+    → option_map (λ (e : ℕ × (K × V)). e.1) o ≡ option_map pair_of (option_map (λ e. held e.0 e.1.0 e.1.1) o)
+paired None = refl
+paired (Some e) = refl

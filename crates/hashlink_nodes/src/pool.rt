@@ -85,7 +85,7 @@ impl<K, V> Pool<K, V> {
     #[inline]
     pub(crate) fn entry_mut(&mut self, node: Node) -> (&K, &mut V)
         requires { IsSome ((state_of self.old).held node) }
-        ensures* lends { sem 𝓛 (LendsPoolValue K.row V.row self.entry node result.1) }
+        ensures* lends { sem 𝓛 (LendsPoolValue K.row V.row self.entry node result) }
         ensures pair { option_map pair_of ((state_of self.old).held node) ≡ Some
             (result.0.now, result.1.now) }
     {
@@ -137,9 +137,30 @@ impl<K, V> Pool<K, V> {
         self.store_prev(next, prev);
     }
 
-    /// Links the node in between two others.
+    /// Links the node in before another one.
     #[inline]
-    pub(crate) fn attach(&mut self, node: Node, prev: Node, next: Node)
+    pub(crate) fn attach_before(&mut self, node: Node, next: Node)
+        requires { AreThere (state_of self.old) node ((state_of self.old).prev next) next }
+        ensures { state_of self.new
+            ≡ attached node ((state_of self.old).prev next) next (state_of self.old) }
+    {
+        let prev = self.prev(next);
+        self.attach(node, prev, next);
+    }
+
+    /// Links the node in after another one.
+    #[inline]
+    pub(crate) fn attach_after(&mut self, node: Node, prev: Node)
+        requires { AreThere (state_of self.old) node prev ((state_of self.old).next prev) }
+        ensures { state_of self.new
+            ≡ attached node prev ((state_of self.old).next prev) (state_of self.old) }
+    {
+        let next = self.next(prev);
+        self.attach(node, prev, next);
+    }
+
+    #[inline]
+    fn attach(&mut self, node: Node, prev: Node, next: Node)
         requires { AreThere (state_of self.old) node prev next }
         ensures { state_of self.new ≡ attached node prev next (state_of self.old) }
     {

@@ -47,15 +47,9 @@ ready g c =
     (opened c.self.invariant c.self.view_is c.unwrap-guard.ensures) (omega (arith, c.if-self-eq0.false))
     c.next-first_spare.ensures c.fill.ensures
 
-pub prev-prev-requires : goal.prev-prev-requires
-prev-prev-requires g c =
-    (into_before (ready g (goal.at.prev-prev-requires g c).After-fill) c.args.place c.requires.place
-    c.unwrap_or-next.ensures refl).fits.next
-
-pub attach-requires : goal.attach-requires
-attach-requires g c =
-    (into_before (ready g (goal.at.attach-requires g c).After-fill) c.args.place c.requires.place
-    c.unwrap_or-next.ensures c.prev-prev.ensures).fits
+pub attach_before-requires : goal.attach_before-requires
+attach_before-requires g c =
+    (into_before (ready g (goal.at.attach_before-requires g c).After-fill) c.args.place c.requires.place c.unwrap_or.ensures).fits
 
 pub overflow_add-self : goal.overflow_add-self
 overflow_add-self g c =
@@ -63,15 +57,13 @@ overflow_add-self g c =
 
 pub invariant_of-self : goal.invariant_of-self
 invariant_of-self g c =
-    let i = into_before (ready g (goal.at.invariant_of-self g c).After-fill) c.args.place c.requires.place
-    c.unwrap_or-next.ensures c.prev-prev.ensures in
-    seal (i.leaves c.unwrap-guard.ensures c.attach.ensures).sound
+    let i = into_before (ready g (goal.at.invariant_of-self g c).After-fill) c.args.place c.requires.place c.unwrap_or.ensures in
+    seal (i.leaves c.unwrap-guard.ensures c.attach_before.ensures).sound
 
 pub returns : goal.returns
 returns g c =
-    let i = into_before (ready g (goal.at.returns g c).After-fill) c.args.place c.requires.place
-    c.unwrap_or-next.ensures c.prev-prev.ensures in
-    let l = i.leaves c.unwrap-guard.ensures c.attach.ensures in record {
+    let i = into_before (ready g (goal.at.returns g c).After-fill) c.args.place c.requires.place c.unwrap_or.ensures in
+    let l = i.leaves c.unwrap-guard.ensures c.attach_before.ensures in record {
       entries = l.entries;
       free = l.free;
       apart = l.apart;

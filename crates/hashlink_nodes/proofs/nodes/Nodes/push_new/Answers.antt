@@ -20,27 +20,20 @@ ready g c =
     (guarded_now c.self.invariant c.self.view_is c.in-Ok.ensures.made) c.in-Ok-make.ensures.made
     (omega (arith, c.if-self-ge-MOST.false, ap length c.requires.none, room)) c.fill.ensures
 
-pub prev-prev-requires : goal.prev-prev-requires
-prev-prev-requires g c =
-    (into_before (ready g (goal.at.prev-prev-requires g c).After-fill) c.args.place c.requires.place
-    c.unwrap_or-next.ensures refl).fits.next
-
-pub attach-requires : goal.attach-requires
-attach-requires g c =
-    (into_before (ready g (goal.at.attach-requires g c).After-fill) c.args.place c.requires.place
-    c.unwrap_or-next.ensures c.prev-prev.ensures).fits
+pub attach_before-requires : goal.attach_before-requires
+attach_before-requires g c =
+    (into_before (ready g (goal.at.attach_before-requires g c).After-fill) c.args.place c.requires.place c.unwrap_or.ensures).fits
 
 pub invariant_of-self-in-Ok-make : goal.invariant_of-self-in-Ok-make
 invariant_of-self-in-Ok-make g c =
-    let i = into_before (ready g (goal.at.invariant_of-self-in-Ok-make g c).After-fill) c.args.place
-    c.requires.place c.unwrap_or-next.ensures c.prev-prev.ensures in
-    seal (i.leaves refl c.attach.ensures).sound
+    let i = into_before (ready g (goal.at.invariant_of-self-in-Ok-make g c).After-fill) c.args.place c.requires.place
+    c.unwrap_or.ensures in
+    seal (i.leaves refl c.attach_before.ensures).sound
 
 pub returns-in-Ok-make : goal.returns-in-Ok-make
 returns-in-Ok-make g c =
-    let i = into_before (ready g (goal.at.returns-in-Ok-make g c).After-fill) c.args.place c.requires.place
-    c.unwrap_or-next.ensures c.prev-prev.ensures in
-    let l = i.leaves refl c.attach.ensures in record {
+    let i = into_before (ready g (goal.at.returns-in-Ok-make g c).After-fill) c.args.place c.requires.place c.unwrap_or.ensures in
+    let l = i.leaves refl c.attach_before.ensures in record {
       entries = l.entries;
       free = l.free ∙ c.requires.none;
       apart = l.apart;
