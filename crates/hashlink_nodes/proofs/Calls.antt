@@ -11,8 +11,9 @@ use Rattle.hashlink_nodes.proofs.Cuts.{Gap, cut-removed, cut-renewed, before_pla
 use Rattle.hashlink_nodes.proofs.Rings.{Linked, linked, attach, Entries, InRing, in_ring, detach, held_out}
 use Rattle.hashlink_nodes.proofs.Rings.{holds_now, held_now, added, dropped, spared, take_spare, renew, Taken}
 use Rattle.hashlink_nodes.proofs.Rings.{guarded, held_anew}
+use Rattle.hashlink_nodes.proofs.Cuts.{same_some}
 use Rattle.hashlink_nodes.proofs.Opening.{length-gap, Leaves, NodeAt, Opened, leaves, length-removed, opened}
-use Rattle.hashlink_nodes.proofs.Opening.{empty, same_some}
+use Rattle.hashlink_nodes.proofs.Opening.{empty}
 
 module _ {K V : Type 0} where
   -- ---- an entry goes in

@@ -13,9 +13,6 @@ use Rattle.hashlink_nodes.proofs.Rings.{InRing, in_ring}
 pub if_some : {X : Type 0} {o : Option X} {x : X} (P : X → Type 0) → o ≡ Some x → P x → IfSome o P
 if_some P e p = subst (λ o. IfSome o P) (sym e) p
 
-pub same_some : {X : Type 0} {x y : X} → Some x ≡ Some y → x ≡ y
-same_some e = cc
-
 pub is_there : {X : Type 0} {o : Option X} {x : X} → o ≡ Some x → IsSome o
 is_there e = ap is_some e
 

@@ -7,7 +7,7 @@ use Names.{state, set_at, next_in, prev_in, held_in, store_next, store_prev, hol
 use Names.{Node, Link, Kept, kept, alter, entry_in, with_links, with_pair, Pool, state_of}
 use Names.{pool_with, held, pair_of, option_map}
 use Rattle.hashlink_nodes.proofs.ArenaBlocks.{found_entry}
-use Rattle.hashlink_nodes.proofs.Cuts.{cut}
+use Rattle.hashlink_nodes.proofs.Cuts.{cut, cut_at, cut-altered, cut-renewed, cut-removed, others_found}
 use Rattle.hashlink_nodes.proofs.Opening.{length-removed}
 use Rattle.hashlink_nodes.proofs.Paths.{set_at_here, set_at_other}
 use Rattle.hashlink_nodes.specs.declared.held.Held.{Held}
@@ -21,20 +21,6 @@ module _ {X : Type 0} where
       let there : is_some (lookup (same_node n) bs) ≡ true = ap is_some e in
       lookup-set_value same_node_equiv (same_node n) (λ x y h. same_node_equiv.congr n x y h) m w bs there
       ∙ ap (λ y. cond y (Some w) (lookup (same_node m) bs)) (same_node_equiv.symm n m)
-
-  pub lookup_removed : (n m : Node) (bs : List (Node × X)) → same_node m n ≡ false
-      → lookup (same_node m) (remove_entry (same_node n) bs) ≡ lookup (same_node m) bs
-  lookup_removed n m [] h = refl
-  lookup_removed n m (b ∷ bs) h =
-      (elim (same_node n b.0) as
-      (λ (y : Bool). same_node n b.0 ≡ y
-      → lookup (same_node m) (cond y bs (b ∷ remove_entry (same_node n) bs))
-      ≡ cond (same_node m b.0) (Some b.1) (lookup (same_node m) bs)) [
-        | true ↦ λ same. let here : same_node m b.0
-            ≡ false = ap (λ k. same_node m k) (sym (eq-same_node n b.0 same))
-            ∙ h in sym (ap (λ y. cond y (Some b.1) (lookup (same_node m) bs)) here)
-        | false ↦ λ _. ap (λ o. cond (same_node m b.0) (Some b.1) o) (lookup_removed n m bs h)
-      ]) refl
 
   -- what is read of a node whose block comes first
   seen_first : {Y : Type 0} (f : Node → Option X → Y) (n m : Node) (w : X) (o : Option X)
@@ -62,19 +48,6 @@ set_same f n x is = λ i m. (elim (same_node m n) as (λ (y : Bool). same_node m
   | true ↦ λ same. is ∙ ap f (sym (eq-same_node m n same))
   | false ↦ λ _. refl
 ]) refl i
-
-pub alter_is : {K X : Type 0} (test : K → Bool) (f : X → X) (es : List (K × X)) (b : X)
-    → lookup test es ≡ Some b
-    → alter test f es ≡ set_value test es (f b)
-alter_is test f [] b e = absurd (cc e)
-alter_is test f (x ∷ es) b e =
-    (elim (test x.0) as
-    (λ (y : Bool). cond y (Some x.1) (lookup test es) ≡ Some b
-    → cond y ((x.0, f x.1) ∷ es) (x ∷ alter test f es)
-    ≡ cond y ((x.0, f b) ∷ es) (x ∷ set_value test es (f b))) [
-      | true ↦ λ k. let same : x.1 ≡ b = cc in ap (λ v. (x.0, f v) ∷ es) same
-      | false ↦ λ k. ap (λ l. x ∷ l) (alter_is test f es b k)
-    ]) e
 
 -- what is mapped to y
 pub mapped : {X Y : Type 0} (f : X → Y) (o : Option X) {y : Y} → option_map f o ≡ Some y
@@ -122,7 +95,10 @@ module _ {K V : Type 0} (bs : Blocks K V) (count count' : ℕ) (n : Node) (k : K
   changed f = alter (same_node n) f bs
 
   is_set : (f : Kept (K × V) → Kept (K × V)) → changed f ≡ set_value (same_node n) bs (f k)
-  is_set f = alter_is (same_node n) f bs k e
+  is_set f =
+      let c = cut_at bs n k e in
+      cut-altered c.0 f ∙ sym (cut-renewed c.0 (f c.0.value))
+      ∙ ap (λ x. set_value (same_node n) bs (f x)) c.1
 
   abbrev S : State K V
   S = state bs count
@@ -248,11 +224,13 @@ module _ {K V : Type 0} where
   pub dropped : (bs bs' : Blocks K V) (count : ℕ) (n : Node) → is_some (lookup (same_node n) bs) ≡ true
       → bs' ≡ remove_entry (same_node n) bs
       → Drops n (state bs count) (state bs' count)
-  dropped bs bs' count n there is = record {
-    differs = differs bs bs' (λ m k. ap (lookup (same_node m)) is ∙ lookup_removed n m bs k);
-    size = ap (λ (cs : Blocks K V). length cs + 1) is ∙ length-removed bs (cut bs n there);
-    link_writes = refl;
-  }
+  dropped bs bs' count n there is =
+      let c = cut bs n there in record {
+        differs = differs bs bs' (λ m k. ap (lookup (same_node m)) (is ∙ cut-removed c)
+            ∙ others_found n c.value c.after m k c.before ∙ ap (lookup (same_node m)) (sym c.is));
+        size = ap (λ (cs : Blocks K V). length cs + 1) is ∙ length-removed bs c;
+        link_writes = refl;
+      }
 
   -- a store changes no node's block
   pub next_has : {s' : State K V} (n to : Node) (s : State K V) → s' ≡ store_next n to s → (m : Node)
