@@ -79,18 +79,6 @@ pair_at {K} {V} bs n p e =
 
 module _ {K V : Type 0} (bs : Blocks K V) (count count' : ℕ) (n : Node) (k : Kept (K × V))
     (e : lookup (same_node n) bs ≡ Some k) where
-  abbrev Next_of : Node → Option (Kept (K × V)) → Node
-  Next_of = next_in
-
-  abbrev Prev_of : Node → Option (Kept (K × V)) → Node
-  Prev_of = prev_in
-
-  abbrev Held_of : Node → Option (Kept (K × V)) → Option (Held K V)
-  Held_of m = held_in
-
-  abbrev Has : Node → Option (Kept (K × V)) → Bool
-  Has m = is_some
-
   abbrev changed : (Kept (K × V) → Kept (K × V)) → Blocks K V
   changed f = alter (same_node n) f bs
 
@@ -113,10 +101,10 @@ module _ {K V : Type 0} (bs : Blocks K V) (count count' : ℕ) (n : Node) (k : K
     link_writes = count';
   }
   changed_state f = ap (λ x. state x count') (is_set f) ∙ (λ i. record {
-    next = seen_at Next_of n bs k (f k) e i;
-    prev = seen_at Prev_of n bs k (f k) e i;
-    held = seen_at Held_of n bs k (f k) e i;
-    has = (seen_at Has n bs k (f k) e ∙ set_same S.has n true (ap is_some (sym e))) i;
+    next = seen_at next_in n bs k (f k) e i;
+    prev = seen_at prev_in n bs k (f k) e i;
+    held = seen_at (λ m. held_in) n bs k (f k) e i;
+    has = (seen_at (λ m. is_some) n bs k (f k) e ∙ set_same S.has n true (ap is_some (sym e))) i;
     size = length-set_value (same_node n) bs (f k) i;
     link_writes = count';
   })
