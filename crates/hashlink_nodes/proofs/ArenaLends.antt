@@ -13,15 +13,12 @@ use Names.{in_a_block, lies_at, lent_at, MutRef, types_at, plain, mut_ref_to, pa
 use Names.{Stays, stay_dropped, walk_of, Goes-dropped, Goes-spent_ref, word, proved_at, leaves, ◌⊑◌, enter}
 use Names.{alloc_all, pass_all, env, first, blocks, sets, sets_last, is, of_opd, get_in, fld, stop, sub}
 use Names.{whole, ptr_val, addr, through, exec, after, at_ret, get, returns, look_at, free_all, word-Good, Ty}
-use Names.{ap}
+use Names.{ap, pointee, lone, layout, arena_row}
 use mir.Syntax.{Mutability, erased, local, value_local, ty_ref, ty_ptr, seq, block, assign, place, rv_opd}
 use mir.Syntax.{copy, field, deref, addr_of, return}
-use denote.Memory.{pointee, lone}
-use denote.Param.{layout}
 use Rattle.hashlink_nodes.specs.contracts.arena.Block as blocks
 use mathlib.Core.Option.{some as just}
 use prog.Memory.{field_of}
-use Rattle.hashlink_nodes.specs.contracts.arena.Arena.{the_row}
 use Rattle.hashlink_nodes.proofs.ArenaSteps.{Mark, Nd, word_had, args_are}
 use Rattle.hashlink_nodes.proofs.ArenaBlocks.{blocks_cut, blocks_glue}
 
@@ -43,7 +40,7 @@ lending R P m k = record {
   givens = 0;
   params = 2;
   locals = local (ty_ref (named 0) m (pointee P.written)) value_local
-      ∷ local (ty_ref (named 0) m (pointee (the_row R).written)) value_local
+      ∷ local (ty_ref (named 0) m (pointee (arena_row R).written)) value_local
       ∷ local (lone Nd.mir) value_local ∷ local (ty_ref erased m (pointee P.written)) value_local
       ∷ local ty_ptr value_local ∷ [];
   body = seq (block (seq (assign (place 4 []) (rv_opd (copy (place 2 (field 0 ∷ [])))))
@@ -101,14 +98,14 @@ module _ {M : Type 1} (𝓤 : Ura M) (𝓛 : Logic 𝓤) (𝓜 : Model 𝓤 𝓛
   -- a part is lent by `&`, or by `&mut`
   abbrev S : Ended
   S = record {
-    signature = signed (RefOf (0 ∷ []) tt (plain (λ _. the_row R)) (λ _. tt))
+    signature = signed (RefOf (0 ∷ []) tt (plain (λ _. arena_row R)) (λ _. tt))
         (RefOf (0 ∷ []) tt (plain (λ _. P)) (λ _. one));
     kept = (yes, (yes, tt));
   }
 
   abbrev S' : Ended
   S' = record {
-    signature = signed (mut_ref_to (0 ∷ []) tt (plain (λ _. the_row R)))
+    signature = signed (mut_ref_to (0 ∷ []) tt (plain (λ _. arena_row R)))
         (mut_ref_to (0 ∷ []) tt (plain (λ _. P)));
     kept = (no, (yes, tt));
   }
@@ -117,7 +114,7 @@ module _ {M : Type 1} (𝓤 : Ura M) (𝓛 : Logic 𝓤) (𝓜 : Model 𝓤 𝓛
     module _ (c : Clauses 𝓤 S) where
       abbrev pub shared_stays : Stays S.signature.params S.kept
       shared_stays = (
-        stay_dropped (RefOf (0 ∷ []) tt (plain (λ _. the_row R)) (λ _. tt)) yes,
+        stay_dropped (RefOf (0 ∷ []) tt (plain (λ _. arena_row R)) (λ _. tt)) yes,
         (stay_dropped (plain (λ _. Nd)) yes, tt),
       )
 
@@ -146,7 +143,7 @@ module _ {M : Type 1} (𝓤 : Ura M) (𝓛 : Logic 𝓤) (𝓜 : Model 𝓤 𝓛
           (closing 𝓛 S c)
       shared at_k s =
           proved_at 𝓛 S shared_stays c 𝓜 𝓡 (
-            Goes-dropped 𝓛 2 (RefOf (0 ∷ []) tt (plain (λ _. the_row R)) (λ _. tt)) yes (λ κs x f. refl),
+            Goes-dropped 𝓛 2 (RefOf (0 ∷ []) tt (plain (λ _. arena_row R)) (λ _. tt)) yes (λ κs x f. refl),
             (Goes-dropped 𝓛 2 (plain (λ _. Nd)) yes (λ κs x f. refl), tt),
           )
           key fn closed (λ z are.
@@ -183,7 +180,7 @@ module _ {M : Type 1} (𝓤 : Ura M) (𝓛 : Logic 𝓤) (𝓜 : Model 𝓤 𝓛
     module _ (c : Clauses 𝓤 S') where
       abbrev pub lent_stays : Stays S'.signature.params S'.kept
       lent_stays = (
-        stay_dropped (mut_ref_to (0 ∷ []) tt (plain (λ _. the_row R))) no,
+        stay_dropped (mut_ref_to (0 ∷ []) tt (plain (λ _. arena_row R))) no,
         (stay_dropped (plain (λ _. Nd)) yes, tt),
       )
 
@@ -208,11 +205,11 @@ module _ {M : Type 1} (𝓤 : Ura M) (𝓛 : Logic 𝓤) (𝓜 : Model 𝓤 𝓛
         Rest =
             fsep (h.rest n.at)
             (fsep (blocks_own R (remove_entry (same_node n) a.blocks))
-            (fsep ((Mark R).own_val (tt, tt) vs) (cell_at full_share (the_row R).mir vs rb ro)))
+            (fsep ((Mark R).own_val (tt, tt) vs) (cell_at full_share (arena_row R).mir vs rb ro)))
 
         comes_back : lookup (same_node n) a.blocks ≡ Some k → n.at ≡ block_ptr b o → (w : P.Denot)
             → ent 𝓤 (sep 𝓤 (sem 𝓛 ((mem P).own_at w b (o + off))) (sem 𝓛 Rest))
-            (sem 𝓛 ((mem (the_row R)).own_at (altered a n (change w)) rb ro))
+            (sem 𝓛 ((mem (arena_row R)).own_at (altered a n (change w)) rb ro))
         unfolding part_of
         comes_back is_k e w =
             let new = altered a n (change w) in
@@ -223,8 +220,8 @@ module _ {M : Type 1} (𝓤 : Ura M) (𝓛 : Logic 𝓤) (𝓜 : Model 𝓤 𝓛
             use2 𝓛 (‵ (blocks_own R (alter (same_node n) (change w) a.blocks)))
             (blocks_glue R 𝓛 n a.blocks k (change w) is_k) $
             move ! (1 ∷ []) $ fsplit ! $ move ! (0 ∷ 2 ∷ []) $ fjoin ! $ move ! (1 ∷ 0 ∷ []) $ fjoin ! $
-            fpack ! (List Val) (λ us. fsep (cell_at full_share (the_row R).mir us rb ro)
-            ((the_row R).own_val new us)) vs $ done !
+            fpack ! (List Val) (λ us. fsep (cell_at full_share (arena_row R).mir us rb ro)
+            ((arena_row R).own_val new us)) vs $ done !
 
       pub record Lends : Type 2 where
         pub change : P.Denot → Kept R.Denot → Kept R.Denot
@@ -237,7 +234,7 @@ module _ {M : Type 1} (𝓤 : Ura M) (𝓛 : Logic 𝓤) (𝓜 : Model 𝓤 𝓛
         pub held : (a : Arena R.Denot) (n : Node) (asked : Asked a n) → Held n (block a n asked).0 change
         pub says : (z : Z') (asked : Asked z.0.3.0.now z.0.3.1.0)
             (r : MutBor P.Denot) → r.now ≡ (held _ _ asked).part
-            → ent 𝓤 (sem 𝓛 (follows (the_row R) P z.0.3.0.ghost_name r.ghost_name
+            → ent 𝓤 (sem 𝓛 (follows (arena_row R) P z.0.3.0.ghost_name r.ghost_name
             (λ w. altered z.0.3.0.now z.0.3.1.0 (change w))))
             ((c z.0.0 z.0.3).ensures z.1 r (at_exit S' z.0.0 z.0.3 (tt, (tt, tt))))
 
@@ -245,7 +242,7 @@ module _ {M : Type 1} (𝓤 : Ura M) (𝓛 : Logic 𝓤) (𝓜 : Model 𝓤 𝓛
           → Meets 𝓛 S'.signature (let 𝓣 = tables 𝓤 H 𝓜 𝓡 𝓡.env in 𝓣.C key)
           (closing 𝓛 S' c)
       lent at_k s =
-          let Ar : RattleType = the_row R in
+          let Ar : RattleType = arena_row R in
           proved_at 𝓛 S' lent_stays c 𝓜 𝓡 (
             Goes-spent_ref 𝓛 2 (0 ∷ []) tt (plain (λ _. Ar)),
             (Goes-dropped 𝓛 2 (plain (λ _. Nd)) yes (λ κs x f. refl), tt),

@@ -5,8 +5,7 @@ use Names.{usize, Laws, Sharable, copy_shared, RattleType, RowLaws, Ptr, lies_at
 use Names.{beside_shr_laws, nothing_shr_laws, said_shr_laws, Shares-less, usize-field, usize-copy, Lends}
 use Names.{lent_at, lent_at_shr_laws, Lends-lies, Lends-first, Lends-both, Lends-said, Lends-nothing, Kept}
 use Names.{number_word, Links, blocks_lent, blocks_own, block_lent, block_owns, pair_lent, pair_owns}
-use Names.{is_small, deed_owns, number_of, links_of, Node}
-use Rattle.hashlink_nodes.specs.Ownership.{pair_of}
+use Names.{is_small, deed_owns, number_of, links_of, Node, pair_place}
 use Rattle.hashlink_nodes.proofs.pool.links.Links.TheLaws as links_laws
 
 abbrev number_laws : Sharable usize-field
@@ -18,7 +17,7 @@ LL = links_laws.the_row_laws
 module _ (R : RattleType) (L : RowLaws R) where
   pair_lent_laws : (p : Ptr) (e : Option (ℕ × R.Denot)) → ShrLaws (pair_lent R p e)
   pair_lent_laws p None = nothing_shr_laws
-  pair_lent_laws p (Some e) = lent_at_shr_laws R L (pair_of R p) e.1
+  pair_lent_laws p (Some e) = lent_at_shr_laws R L (pair_place R p) e.1
 
   small_laws : (e : Option (ℕ × R.Denot)) → ShrLaws (said (is_small R e))
   small_laws None = said_shr_laws ftrue tt
@@ -41,7 +40,7 @@ module _ {M : Type 1} {𝓤 : Ura M} (𝓛 : Logic 𝓤) (l : Lft) (R : RattleTy
   Lends-pair : (p : Ptr) (e : Option (ℕ × R.Denot)) → Lends 𝓛 (pair_owns R p e) (pair_lent R p e) l
   Lends-pair p None = Lends-nothing 𝓛 (pair_owns R p None) l
   Lends-pair p (Some e) =
-      Lends-lies 𝓛 R l (pair_of R p) e.1 (Shares-less 𝓛 R R.lives l inc (L.shares 𝓛) e.1)
+      Lends-lies 𝓛 R l (pair_place R p) e.1 (Shares-less 𝓛 R R.lives l inc (L.shares 𝓛) e.1)
 
   Lends-small : (e : Option (ℕ × R.Denot)) → Lends 𝓛 (is_small R e) (said (is_small R e)) l
   Lends-small None = Lends-said 𝓛 ftrue tt l

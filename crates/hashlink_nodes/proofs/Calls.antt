@@ -7,11 +7,10 @@ use Names.{IsSound, SoundAt, ring_of, State, GuardIs, attached, detached, hold, 
 use Names.{AreThere, IsPlace, put_before, put_after, held, pair_of, with_number}
 use Rattle.std.proofs.Common.{drop}
 use Rattle.hashlink_nodes.proofs.Paths.{head_or, last_or}
-use Rattle.hashlink_nodes.proofs.Cuts.{Gap, cut-removed, cut-renewed, before_place, after_place}
+use Rattle.hashlink_nodes.proofs.Cuts.{Gap, cut-removed, cut-renewed, before_place, after_place, same_some}
 use Rattle.hashlink_nodes.proofs.Rings.{Linked, linked, attach, Entries, InRing, in_ring, detach, held_out}
 use Rattle.hashlink_nodes.proofs.Rings.{holds_now, held_now, added, dropped, spared, take_spare, renew, Taken}
 use Rattle.hashlink_nodes.proofs.Rings.{guarded, held_anew}
-use Rattle.hashlink_nodes.proofs.Cuts.{same_some}
 use Rattle.hashlink_nodes.proofs.Opening.{length-gap, Leaves, NodeAt, Opened, leaves, length-removed, opened}
 use Rattle.hashlink_nodes.proofs.Opening.{empty}
 

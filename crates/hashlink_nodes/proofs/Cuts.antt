@@ -1,11 +1,11 @@
 -- A node of a list of entries, and a place in it: what comes before, what comes after, and what the words of
 -- the contracts say there.
-use Rattle.hashlink_nodes.proofs.Names
-use Names.{alter}
-use Names.{◌≡◌, Bool, true, false, cond, List, [], ◌∷◌, ◌++◌, Option, None, Some, refl, sym, ap, ◌∙◌, is_some}
-use Names.{slice_get, unwrap_or, lookup, lookup_entry, remove_entry, set_value, keys_of, append_assoc}
-use Names.{append-nil, Node, same_node, eq-same_node, same_node-refl, put_before, put_before_node, put_after}
-use Names.{put_after_node, IsPlace, Holds, node_after, node_before, last_node, next_place, prev_place}
+use Rattle.hashlink_nodes.proofs.Names.{alter, ◌≡◌, Bool, true, false, cond, List, [], ◌∷◌, ◌++◌, Option}
+use Rattle.hashlink_nodes.proofs.Names.{None, Some, refl, sym, ap, ◌∙◌, is_some, slice_get, unwrap_or, lookup}
+use Rattle.hashlink_nodes.proofs.Names.{lookup_entry, remove_entry, set_value, keys_of, append_assoc}
+use Rattle.hashlink_nodes.proofs.Names.{append-nil, Node, same_node, eq-same_node, same_node-refl, put_before}
+use Rattle.hashlink_nodes.proofs.Names.{put_before_node, put_after, put_after_node, IsPlace, Holds}
+use Rattle.hashlink_nodes.proofs.Names.{node_after, node_before, last_node, next_place, prev_place}
 use Rattle.hashlink_nodes.proofs.Paths.{head_or, last_or, IsOff}
 
 pub same_some : {X : Type 0} {x y : X} → Some x ≡ Some y → x ≡ y

@@ -6,8 +6,8 @@ pub use Rattle.hashlink_nodes.specs.Node.{eq-same_node, same_node, same_node-ref
 pub use Rattle.hashlink_nodes.specs.NodesLends.{with_value_at}
 pub use Rattle.hashlink_nodes.specs.Ownership.{Links, block_lent, block_owns, block_room, block_type}
 pub use Rattle.hashlink_nodes.specs.Ownership.{blocks_lent, blocks_own, deed_owns, is_small, links_of}
-pub use Rattle.hashlink_nodes.specs.Ownership.{links_offset, number_of, number_offset, pair_lent, pair_offset}
-pub use Rattle.hashlink_nodes.specs.Ownership.{pair_owns, pair_room}
+pub use Rattle.hashlink_nodes.specs.Ownership.{links_offset, number_of, number_offset, pair_lent}
+pub use Rattle.hashlink_nodes.specs.Ownership.{pair_of as pair_place, pair_offset, pair_owns, pair_room}
 pub use Rattle.hashlink_nodes.specs.Pool.{state_of}
 pub use Rattle.hashlink_nodes.specs.PoolLends.{pool_with}
 pub use Rattle.hashlink_nodes.specs.Ring.{Held, Holds, IsPlace, Ring, held, last_node, next_place, node_after}
@@ -20,6 +20,7 @@ unfoldable pub use Rattle.hashlink_nodes.specs.Shape.{entries_of, walk}
 pub use Rattle.hashlink_nodes.specs.State.{Adds, AreThere, Blocks, Differs, Drops, GuardIs, MakesGuard, State}
 pub use Rattle.hashlink_nodes.specs.State.{held_in, next_in, prev_in, set_at, state}
 unfoldable pub use Rattle.hashlink_nodes.specs.State.{attached, detached, hold, store_next, store_prev}
+pub use Rattle.hashlink_nodes.specs.contracts.arena.Arena.{the_row as arena_row}
 pub use Rattle.hashlink_nodes.specs.declared.arena.Arena.{Arena}
 pub use Rattle.hashlink_nodes.specs.declared.link_writes.LinkWrites.{LinkWrites}
 pub use Rattle.hashlink_nodes.specs.declared.node.Node.{Node}
@@ -27,8 +28,8 @@ pub use Rattle.hashlink_nodes.specs.declared.nodes.Nodes.TheInside.{Inside}
 pub use Rattle.hashlink_nodes.specs.declared.pool.Pool.{Pool}
 pub use Rattle.hashlink_nodes.specs.declared.pool.links.Link.{Link}
 pub use Rattle.std.proofs.Common.{Bool, Bor, IsSome, List, MutBor, None, Option, Some, [], ap, arith, cond}
-pub use Rattle.std.proofs.Common.{false, inl, inr, length, refl, subst, suc, sym, true, zero, ℕ, ◌++◌, ◌+◌}
-pub use Rattle.std.proofs.Common.{◌-◌, ◌<◌, ◌^◌, ◌∙◌, ◌∷◌, ◌≡◌, ◌⊎◌}
+pub use Rattle.std.proofs.Common.{false, length, refl, subst, suc, sym, true, zero, ℕ, ◌++◌, ◌+◌, ◌-◌, ◌<◌}
+pub use Rattle.std.proofs.Common.{◌^◌, ◌∙◌, ◌∷◌, ◌≡◌}
 pub use Rattle.std.proofs.RcSteps.{Good, word, word-Good}
 pub use Rattle.std.proofs.ResultValues.{and_tt}
 pub use Rattle.std.proofs.alloc.Calls.{Al, Goes-blank, handle_tells}
@@ -59,7 +60,7 @@ pub use denote.Builtin.{One, RefOf, usize}
 pub use denote.Exit.{no, yes}
 pub use denote.Follow.{Part, follows, lends_Part}
 pub use denote.Laws.{Is, Typed, shows}
-pub use denote.Memory.{cell_at, lone, mem, part_at}
+pub use denote.Memory.{cell_at, lone, mem, part_at, pointee}
 unfoldable pub use denote.Memory.{part_of}
 pub use denote.Opens.{hide, unhide}
 pub use denote.Param.{layout, layouts, param}
@@ -88,8 +89,8 @@ pub use lib.Dec.{T, lit<}
 pub use mathlib.Core.Bool.{◌&&◌}
 pub use mir.MapTy.{inst_fn}
 pub use mir.Raw.{raw as bare}
-pub use mir.Syntax.{Callee, Fn, Ty, Tys, a_type, dnil, impl, int_big, named, tcons, tnil, ty_int, ty_struct}
-pub use mir.Syntax.{w64}
+pub use mir.Syntax.{Callee, Fn, Ty, Tys, a_type, dnil, imm, impl, int_big, mut, named, tcons, tnil, ty_int}
+pub use mir.Syntax.{ty_struct, w64}
 pub use mir.Val.{Fits, Val, WT, has_ty, of_list, vcons, vint, vnil, vptr, vstruct, vunit}
 pub use prog.Model.{Model, rooms_at}
 pub use prog.Wp.{Closed, Env, WpFn}

@@ -1,8 +1,7 @@
 -- The places next to a place of a ring.
-use Rattle.hashlink_nodes.proofs.Names.{◌≡◌, true, false, [], ◌∷◌, Option, None, Some, refl, sym, ap}
-use Rattle.hashlink_nodes.proofs.Names.{◌∙◌, subst, then_some, is_some, unwrap_or, slice_get}
-use Rattle.hashlink_nodes.proofs.Names.{IfSome, keys_of, Node, State, IsRing, Ring, IsPlace, next_place}
-use Rattle.hashlink_nodes.proofs.Names.{prev_place, last_node}
+use Rattle.hashlink_nodes.proofs.Names.{◌≡◌, true, false, [], ◌∷◌, Option, None, Some, refl, sym, ap, ◌∙◌}
+use Rattle.hashlink_nodes.proofs.Names.{subst, then_some, is_some, unwrap_or, slice_get, IfSome, keys_of}
+use Rattle.hashlink_nodes.proofs.Names.{Node, State, IsRing, Ring, IsPlace, next_place, prev_place, last_node}
 use Rattle.hashlink_nodes.proofs.Paths.{head_or, last_or, all_left, all_right}
 use Rattle.hashlink_nodes.proofs.Cuts.{before_place, after_place}
 use Rattle.hashlink_nodes.proofs.Rings.{Entries, Full, linked}

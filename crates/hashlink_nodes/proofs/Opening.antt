@@ -3,9 +3,7 @@ use Rattle.hashlink_nodes.proofs.Names
 use Names.{◌≡◌, ℕ, ◌+◌, ◌^◌, ◌<◌, List, [], ◌∷◌, ◌++◌, length, Option, Some, None, refl, sym, ap, ◌∙◌, subst}
 use Names.{arith, is_some, IfSome, AllByRecursion, IsDistinct, keys_of, lookup, remove_entry, length-append}
 use Names.{length-keys_of, IsDistinct-tail, Node, Inside, same_node, state_of, Ring, ring, Holds, IsRing}
-use Names.{IsSound, SoundAt, ring_at, ring_of, walk, entry_of, entries_of, State}
-use Rattle.std.specs.Prelude.{IsSome}
-use Rattle.hashlink_nodes.specs.declared.held.Held.{Held}
+use Names.{IsSound, SoundAt, ring_at, ring_of, walk, entry_of, entries_of, State, IsSome, Held}
 use Rattle.hashlink_nodes.proofs.Paths.{length-walk, walk-linked, walk-chain}
 use Rattle.hashlink_nodes.proofs.Cuts.{Cut, Gap, cut, cut-looked, cut-removed}
 use Rattle.hashlink_nodes.proofs.Rings.{InRing, in_ring}

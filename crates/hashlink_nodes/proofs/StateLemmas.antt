@@ -4,13 +4,12 @@ use Names.{◌≡◌, ℕ, ◌+◌, Bool, true, false, cond, List, [], ◌∷◌
 use Names.{ap, ◌∙◌, arith, IsNone, is_some, lookup, set_value, remove_entry, lookup-set_value}
 use Names.{length-set_value, same_node, same_node-refl, Differs, same_node_equiv, eq-same_node, State, Blocks}
 use Names.{state, set_at, next_in, prev_in, held_in, store_next, store_prev, hold, Adds, MakesGuard, Drops}
-use Names.{Node, Link, Kept, kept, alter, entry_in, with_links, with_pair, Pool, state_of}
-use Names.{pool_with, held, pair_of, option_map}
+use Names.{Node, Link, Kept, kept, alter, entry_in, with_links, with_pair, Pool, state_of, pool_with, held}
+use Names.{pair_of, option_map, Held}
 use Rattle.hashlink_nodes.proofs.ArenaBlocks.{found_entry}
 use Rattle.hashlink_nodes.proofs.Cuts.{cut, cut_at, cut-altered, cut-renewed, cut-removed, others_found}
 use Rattle.hashlink_nodes.proofs.Opening.{length-removed}
 use Rattle.hashlink_nodes.proofs.Paths.{set_at_here, set_at_other}
-use Rattle.hashlink_nodes.specs.declared.held.Held.{Held}
 use Rattle.hashlink_nodes.specs.declared.pool.links.Links.{Links}
 
 module _ {X : Type 0} where

@@ -7,10 +7,7 @@ use Names.{group, split, split3, use1, use2, Item, Goal, Seq, Step, step, ‵, �
 use Names.{drop, fsplit, fst∗, never, fsplit3, fjoin, fpick, fpack, feq_i, feq_l, RattleType, Valss, Ptr}
 use Names.{block_ptr, null_ptr, ptr_val, in_a_block, room_for, nothing, param, done, layout, within, shape}
 use Names.{Al, handle_tells, Good, Links, ghosts, block_room, block_type, deed_owns, pair_offset}
-use Names.{number_offset, links_offset, and_tt}
-use mathlib.Core.Bool.{true}
-use mir.Raw.{raw as bare}
-use denote.Builtin.{RawPtr}
+use Names.{number_offset, links_offset, and_tt, true, bare, RawPtr}
 use Rattle.std.specs.contracts.alloc.Global as heap
 use Rattle.std.proofs.alloc.Global.TheLaws as heap_laws
 use Rattle.std_alloc.specs.Vacant.{vacant}

@@ -11,12 +11,10 @@ use Names.{in_a_block, lies_at, types_at, plain, param, layouts, param_laws, not
 use Names.{Stays, stay_dropped, stay_ref, walk_of, Goes-dropped, Goes-ref, after, word, word-Good, proved_at}
 use Names.{leaves, flt_l, unit_lit, same_node, alter, entry_in, number_word, with_entry, Links, blocks_own}
 use Names.{block_owns, pair_owns, pair_room, pair_offset, is_small, number_of, number_offset, links_of}
-use Names.{deed_owns, Arena}
-use Rattle.hashlink_nodes.specs.contracts.arena.Arena.{the_row}
+use Names.{deed_owns, Arena, arena_row}
 use Rattle.hashlink_nodes.proofs.ArenaSteps.{Nd, word_had, told, args_are, states}
 use Rattle.hashlink_nodes.proofs.ArenaBlocks.{found, blocks_cut, blocks_glue, small_shown}
-use Rattle.hashlink_nodes.specs.contracts.arena.Arena.fill.{ended, clauses}
-use Rattle.hashlink_nodes.specs.contracts.arena.Arena.fill.Key.{name as #self}
+use Rattle.hashlink_nodes.specs.contracts.arena.Arena.fill as F
 use Rattle.hashlink_nodes.proofs.arena.Arena.fill.Statement.{statement}
 use Rattle.hashlink_nodes.proofs.arena.Arena.fill.Code as code
 
@@ -24,9 +22,9 @@ pub fill_spec : {M : Type 1} → statement M
 fill_spec 𝓤 𝓛 𝓜 𝓡 wired T L =
     let H = 𝓛.H in
     let 𝓣 = tables 𝓤 H 𝓜 𝓡 𝓡.env in
-    let R : RattleType = param 0 T in let En = ended T in let c = clauses T 𝓛 𝓜.mem 𝓡.returns in
+    let R : RattleType = param 0 T in let En = F.ended T in let c = F.clauses T 𝓛 𝓜.mem 𝓡.returns in
     let inst = layouts (a_type ∷ []) (T, tt) in
-    let fn = inst_fn inst code.function in let Ar : RattleType = the_row R in
+    let fn = inst_fn inst code.function in let Ar : RattleType = arena_row R in
     let hs : Stays En.signature.params En.kept
     = (
       stay_ref (0 ∷ []) tt (plain (λ _. Ar)),
@@ -46,7 +44,7 @@ fill_spec 𝓤 𝓛 𝓜 𝓡 wired T L =
         ),
       ),
     )
-    (#self inst) fn (code.unfolded 𝓤 H 𝓜 𝓡 wired (T, tt)) (λ z are.
+    (F.Key.name inst) fn (code.unfolded 𝓤 H 𝓜 𝓡 wired (T, tt)) (λ z are.
     let κs = z.0.0 in
     let qs = z.0.1 in
     let Post : Val → SProp 𝓤 = (walk_of 𝓛 En hs c).post z in

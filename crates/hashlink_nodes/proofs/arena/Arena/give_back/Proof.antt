@@ -10,13 +10,11 @@ use Names.{RattleType, owns, Ptr, block_ptr, ptr_val, in_a_block, lies_at, types
 use Names.{nothing, heard, opens, closes, Stays, stay_dropped, stay_ref, walk_of, Goes-dropped, Goes-ref}
 use Names.{word, word-Good, proved_at, leaves, handle_tells, same_node, entry_in, number_word, Links}
 use Names.{blocks_own, block_owns, pair_owns, pair_room, is_small, number_of, number_offset, links_of}
-use Names.{links_offset, deed_owns, Arena}
-use Rattle.hashlink_nodes.specs.contracts.arena.Arena.{the_row}
+use Names.{links_offset, deed_owns, Arena, arena_row}
 use Rattle.hashlink_nodes.proofs.ArenaSteps.{Nd, word_had, args_are, states}
 use Rattle.hashlink_nodes.proofs.ArenaBlocks.{found, blocks_cut}
 use Rattle.hashlink_nodes.proofs.VacantSteps.{both, Heap, Vacant, al, vacant_good, vacant_in}
-use Rattle.hashlink_nodes.specs.contracts.arena.Arena.give_back.{ended, clauses}
-use Rattle.hashlink_nodes.specs.contracts.arena.Arena.give_back.Key.{name as #self}
+use Rattle.hashlink_nodes.specs.contracts.arena.Arena.give_back as F
 use Rattle.hashlink_nodes.proofs.arena.Arena.give_back.Statement.{statement}
 use Rattle.hashlink_nodes.proofs.arena.Arena.give_back.Code as code
 
@@ -24,9 +22,9 @@ pub give_back_spec : {M : Type 1} → statement M
 give_back_spec 𝓤 𝓛 𝓜 𝓡 wired T L =
     let H = 𝓛.H in
     let 𝓣 = tables 𝓤 H 𝓜 𝓡 𝓡.env in
-    let R : RattleType = param 0 T in let En = ended T in let c = clauses T 𝓛 𝓜.mem 𝓡.returns in
+    let R : RattleType = param 0 T in let En = F.ended T in let c = F.clauses T 𝓛 𝓜.mem 𝓡.returns in
     let inst = layouts (a_type ∷ []) (T, tt) in
-    let fn = inst_fn inst code.function in let Ar : RattleType = the_row R in
+    let fn = inst_fn inst code.function in let Ar : RattleType = arena_row R in
     let hs : Stays En.signature.params En.kept
     = (
       stay_ref (0 ∷ []) tt (plain (λ _. Ar)),
@@ -40,7 +38,7 @@ give_back_spec 𝓤 𝓛 𝓜 𝓡 wired T L =
         (Goes-dropped 𝓛 2 (plain (λ _. Heap)) yes (λ κs x f. refl), tt),
       ),
     )
-    (#self inst) fn (code.unfolded 𝓤 H 𝓜 𝓡 wired (T, tt)) (λ z are.
+    (F.Key.name inst) fn (code.unfolded 𝓤 H 𝓜 𝓡 wired (T, tt)) (λ z are.
     let κs = z.0.0 in
     let qs = z.0.1 in
     let Post : Val → SProp 𝓤 = (walk_of 𝓛 En hs c).post z in

@@ -8,15 +8,12 @@ use Names.{and_then, no_more, returns, enter, alloc_all, pass_all, free_all, loo
 use Names.{sets, env, sub, whole, agg, tables, part_in, usize, no, yes, lone, part_at, uint_in, RattleType}
 use Names.{owns, block_ptr, types_at, plain, param, layouts, nothing, opens, closes, Stays, stay_dropped}
 use Names.{stay_ref, walk_of, Goes-dropped, Goes-ref, Goes-blank, after, word, word-Good, proved_at, leaves}
-use Names.{same_node, Kept, kept, Links, number_offset, links_offset, Arena, Node}
-use Rattle.hashlink_nodes.specs.contracts.arena.Arena.{the_row}
+use Names.{same_node, Kept, kept, Links, number_offset, links_offset, Arena, Node, arena_row, IsNone}
 use Rattle.hashlink_nodes.proofs.ArenaSteps.{told, no_entry, word_made, args_are, states}
 use Rattle.hashlink_nodes.proofs.ArenaBlocks.{small_shown, apart_from, knows}
-use Rattle.std.proofs.Common.{IsNone}
 use Rattle.hashlink_nodes.proofs.ArenaSharing.{LL}
 use Rattle.hashlink_nodes.proofs.VacantSteps.{both, Vacant, vacant_good, vacant_out}
-use Rattle.hashlink_nodes.specs.contracts.arena.Arena.keep.{ended, clauses}
-use Rattle.hashlink_nodes.specs.contracts.arena.Arena.keep.Key.{name as #self}
+use Rattle.hashlink_nodes.specs.contracts.arena.Arena.keep as F
 use Rattle.hashlink_nodes.proofs.arena.Arena.keep.Statement.{statement}
 use Rattle.hashlink_nodes.proofs.arena.Arena.keep.Code as code
 
@@ -24,9 +21,9 @@ pub keep_spec : {M : Type 1} → statement M
 keep_spec 𝓤 𝓛 𝓜 𝓡 wired T L =
     let H = 𝓛.H in
     let 𝓣 = tables 𝓤 H 𝓜 𝓡 𝓡.env in
-    let R : RattleType = param 0 T in let En = ended T in let c = clauses T 𝓛 𝓜.mem 𝓡.returns in
+    let R : RattleType = param 0 T in let En = F.ended T in let c = F.clauses T 𝓛 𝓜.mem 𝓡.returns in
     let inst = layouts (a_type ∷ []) (T, tt) in
-    let fn = inst_fn inst code.function in let Ar : RattleType = the_row R in
+    let fn = inst_fn inst code.function in let Ar : RattleType = arena_row R in
     let Vc : RattleType = Vacant T in
     let hs : Stays En.signature.params En.kept
     = (
@@ -41,7 +38,7 @@ keep_spec 𝓤 𝓛 𝓜 𝓡 wired T L =
         (Goes-dropped 𝓛 2 (plain (λ _. Links)) yes (λ κs x f. refl), tt),
       ),
     )
-    (#self inst) fn (code.unfolded 𝓤 H 𝓜 𝓡 wired (T, tt)) (λ z are.
+    (F.Key.name inst) fn (code.unfolded 𝓤 H 𝓜 𝓡 wired (T, tt)) (λ z are.
     let κs = z.0.0 in
     let qs = z.0.1 in
     let Post : Val → SProp 𝓤 = (walk_of 𝓛 En hs c).post z in

@@ -2,21 +2,19 @@
 use Rattle.hashlink_nodes.proofs.Names.{[], ◌∷◌, refl, ap, IsSome, lookup, a_type, emp, id⊢, ‵, ◌$◌, ◌∵◌, ! }
 use Rattle.hashlink_nodes.proofs.Names.{qed, move, keep, join, fsplit3, use1, done, fact_i, RattleType, param}
 use Rattle.hashlink_nodes.proofs.Names.{layouts, option_map, Kept, Links, block_lent, blocks_lent}
-use Rattle.hashlink_nodes.proofs.Names.{links_offset, same_node}
+use Rattle.hashlink_nodes.proofs.Names.{links_offset, same_node, imm}
 use Rattle.hashlink_nodes.proofs.ArenaBlocks.{found, block_seen}
 use Rattle.hashlink_nodes.proofs.ArenaSteps.{states}
-use mir.Syntax.{imm}
 use Rattle.hashlink_nodes.proofs.ArenaLends.{shared}
-use Rattle.hashlink_nodes.specs.contracts.arena.Arena.links.{clauses}
-use Rattle.hashlink_nodes.specs.contracts.arena.Arena.links.Key.{name as #self}
+use Rattle.hashlink_nodes.specs.contracts.arena.Arena.links as F
 use Rattle.hashlink_nodes.proofs.arena.Arena.links.Statement.{statement}
 use Rattle.hashlink_nodes.proofs.arena.Arena.links.Code as code
 
 pub links_spec : {M : Type 1} → statement M
 links_spec 𝓤 𝓛 𝓜 𝓡 wired T L =
     let R : RattleType = param 0 T in let inst = layouts (a_type ∷ []) (T, tt) in
-    shared 𝓤 𝓛 𝓜 𝓡 T Links tt (links_offset R) (#self inst) imm 2 (code.unfolded 𝓤 𝓛.H 𝓜 𝓡 wired (T, tt))
-    (clauses T 𝓛 𝓜.mem 𝓡.returns) refl
+    shared 𝓤 𝓛 𝓜 𝓡 T Links tt (links_offset R) (F.Key.name inst) imm 2 (code.unfolded 𝓤 𝓛.H 𝓜 𝓡 wired (T, tt))
+    (F.clauses T 𝓛 𝓜.mem 𝓡.returns) refl
     (record {
       Asked = λ a n. IsSome (lookup (same_node n) a.blocks);
       Seen = λ a n held. Unit {0};

@@ -3,22 +3,19 @@ use Rattle.hashlink_nodes.proofs.Names
 use Names.{◌∙◌, [], ◌∷◌, refl, sym, ap, Some, IsSome, lookup, full_share, a_type, id⊢, fsep, ‵, ◌$◌, ◌∵◌, ! }
 use Names.{qed, move, join, fsplit, fsplit3, fjoin, fjoin3, done, follows, RattleType, lies_at, param}
 use Names.{layouts, option_map, usize, block_owns, pair_owns, is_small, deed_owns, number_of, links_of}
-use Names.{links_offset, Links, altered, Kept, with_links, number_word, same_node}
+use Names.{links_offset, Links, altered, Kept, with_links, number_word, same_node, mut, arena_row}
 use Rattle.hashlink_nodes.proofs.ArenaBlocks.{found}
 use Rattle.hashlink_nodes.proofs.ArenaSteps.{states}
-use mir.Syntax.{mut}
 use Rattle.hashlink_nodes.proofs.ArenaLends.{lent}
-use Rattle.hashlink_nodes.specs.contracts.arena.Arena.{the_row}
-use Rattle.hashlink_nodes.specs.contracts.arena.Arena.links_mut.{clauses}
-use Rattle.hashlink_nodes.specs.contracts.arena.Arena.links_mut.Key.{name as #self}
+use Rattle.hashlink_nodes.specs.contracts.arena.Arena.links_mut as F
 use Rattle.hashlink_nodes.proofs.arena.Arena.links_mut.Statement.{statement}
 use Rattle.hashlink_nodes.proofs.arena.Arena.links_mut.Code as code
 
 pub links_mut_spec : {M : Type 1} → statement M
 links_mut_spec 𝓤 𝓛 𝓜 𝓡 wired T L =
     let R : RattleType = param 0 T in let inst = layouts (a_type ∷ []) (T, tt) in
-    lent 𝓤 𝓛 𝓜 𝓡 T Links tt (links_offset R) (#self inst) mut 2 (code.unfolded 𝓤 𝓛.H 𝓜 𝓡 wired (T, tt))
-    (clauses T 𝓛 𝓜.mem 𝓡.returns) refl
+    lent 𝓤 𝓛 𝓜 𝓡 T Links tt (links_offset R) (F.Key.name inst) mut 2 (code.unfolded 𝓤 𝓛.H 𝓜 𝓡 wired (T, tt))
+    (F.clauses T 𝓛 𝓜.mem 𝓡.returns) refl
     (record {
       change = with_links;
       Asked = λ a n. IsSome (lookup (same_node n) a.blocks);
@@ -40,7 +37,7 @@ links_mut_spec 𝓤 𝓛 𝓜 𝓡 wired T L =
                 move ! (1 ∷ []) $ fsplit3 ! $ move ! (3 ∷ 0 ∷ []) $ fjoin ! $ move ! (1 ∷ 2 ∷ 0 ∷ []) $
                 fjoin3 ! $ done !;
           };
-      says = λ z asked r is. qed 𝓛 (‵ (follows (the_row R) Links z.0.3.0.ghost_name r.ghost_name
+      says = λ z asked r is. qed 𝓛 (‵ (follows (arena_row R) Links z.0.3.0.ghost_name r.ghost_name
           (λ w. altered z.0.3.0.now z.0.3.1.0 (with_links w))) ∷ []) ∵
           states ! (ap (option_map (λ (x : Kept T.Denot). x.links)) (found _ asked).1 ∙ ap Some (sym is)) $
           move ! (1 ∷ 0 ∷ []) $ join ! $ done !;

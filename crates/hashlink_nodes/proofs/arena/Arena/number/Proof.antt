@@ -2,21 +2,19 @@
 use Rattle.hashlink_nodes.proofs.Names
 use Names.{◌^◌, ◌<◌, sym, subst, usize, [], ◌∷◌, refl, ap, IsSome, lookup, a_type, id⊢, ‵, ◌$◌, ◌∵◌, !, qed}
 use Names.{move, keep, join, fsplit, fsplit3, use1, done, RattleType, param, layouts, option_map, Kept}
-use Names.{entry_in, number_word, IfSome, block_lent, blocks_lent, number_offset, same_node}
+use Names.{entry_in, number_word, IfSome, block_lent, blocks_lent, number_offset, same_node, imm}
 use Rattle.hashlink_nodes.proofs.ArenaBlocks.{found, block_seen, small_seen}
 use Rattle.hashlink_nodes.proofs.ArenaSteps.{states}
-use mir.Syntax.{imm}
 use Rattle.hashlink_nodes.proofs.ArenaLends.{shared}
-use Rattle.hashlink_nodes.specs.contracts.arena.Arena.number.{clauses}
-use Rattle.hashlink_nodes.specs.contracts.arena.Arena.number.Key.{name as #self}
+use Rattle.hashlink_nodes.specs.contracts.arena.Arena.number as F
 use Rattle.hashlink_nodes.proofs.arena.Arena.number.Statement.{statement}
 use Rattle.hashlink_nodes.proofs.arena.Arena.number.Code as code
 
 pub number_spec : {M : Type 1} → statement M
 number_spec 𝓤 𝓛 𝓜 𝓡 wired T L =
     let R : RattleType = param 0 T in let inst = layouts (a_type ∷ []) (T, tt) in
-    shared 𝓤 𝓛 𝓜 𝓡 T usize tt (number_offset R) (#self inst) imm 1 (code.unfolded 𝓤 𝓛.H 𝓜 𝓡 wired (T, tt))
-    (clauses T 𝓛 𝓜.mem 𝓡.returns) refl
+    shared 𝓤 𝓛 𝓜 𝓡 T usize tt (number_offset R) (F.Key.name inst) imm 1 (code.unfolded 𝓤 𝓛.H 𝓜 𝓡 wired (T, tt))
+    (F.clauses T 𝓛 𝓜.mem 𝓡.returns) refl
     (record {
       Asked = λ a n. IsSome (lookup (same_node n) a.blocks);
       Seen = λ a n held. IfSome (found _ held).0.entry (λ x. x.0 < 2 ^ 48);

@@ -2,21 +2,19 @@
 use Rattle.hashlink_nodes.proofs.Names.{ℕ, Option, ◌∙◌, rewrite, [], ◌∷◌, refl, ap, IsSome, lookup, a_type}
 use Rattle.hashlink_nodes.proofs.Names.{emp, id⊢, ‵, ◌$◌, ◌∵◌, !, qed, move, keep, join, fsplit, use1, done}
 use Rattle.hashlink_nodes.proofs.Names.{fact_i, RattleType, param, layouts, option_map, Kept, entry_in}
-use Rattle.hashlink_nodes.proofs.Names.{block_lent, blocks_lent, pair_lent, pair_offset, same_node}
+use Rattle.hashlink_nodes.proofs.Names.{block_lent, blocks_lent, pair_lent, pair_offset, same_node, imm}
 use Rattle.hashlink_nodes.proofs.ArenaBlocks.{found_entry, block_seen}
 use Rattle.hashlink_nodes.proofs.ArenaSteps.{states}
-use mir.Syntax.{imm}
 use Rattle.hashlink_nodes.proofs.ArenaLends.{shared}
-use Rattle.hashlink_nodes.specs.contracts.arena.Arena.pair.{clauses}
-use Rattle.hashlink_nodes.specs.contracts.arena.Arena.pair.Key.{name as #self}
+use Rattle.hashlink_nodes.specs.contracts.arena.Arena.pair as F
 use Rattle.hashlink_nodes.proofs.arena.Arena.pair.Statement.{statement}
 use Rattle.hashlink_nodes.proofs.arena.Arena.pair.Code as code
 
 pub pair_spec : {M : Type 1} → statement M
 pair_spec 𝓤 𝓛 𝓜 𝓡 wired T L =
     let R : RattleType = param 0 T in let inst = layouts (a_type ∷ []) (T, tt) in
-    shared 𝓤 𝓛 𝓜 𝓡 T R tt (pair_offset R) (#self inst) imm 0 (code.unfolded 𝓤 𝓛.H 𝓜 𝓡 wired (T, tt))
-    (clauses T 𝓛 𝓜.mem 𝓡.returns) refl
+    shared 𝓤 𝓛 𝓜 𝓡 T R tt (pair_offset R) (F.Key.name inst) imm 0 (code.unfolded 𝓤 𝓛.H 𝓜 𝓡 wired (T, tt))
+    (F.clauses T 𝓛 𝓜.mem 𝓡.returns) refl
     (record {
       Asked = λ a n. IsSome (entry_in (lookup (same_node n) a.blocks));
       Seen = λ a n held. Unit {0};

@@ -3,23 +3,19 @@ use Rattle.hashlink_nodes.proofs.Names
 use Names.{◌≡◌, ℕ, Option, ◌∙◌, [], ◌∷◌, refl, sym, ap, Some, IsSome, lookup, full_share, a_type, id⊢, fsep}
 use Names.{‵, ◌$◌, ◌∵◌, !, qed, move, join, fsplit, fjoin, rewrite, done, follows, RattleType, lies_at, param}
 use Names.{layouts, option_map, usize, block_owns, is_small, deed_owns, number_of, links_of, pair_offset}
-use Names.{Links, altered, Kept, kept, entry_in, with_pair, same_node}
-use Rattle.hashlink_nodes.specs.Ownership.{pair_of}
+use Names.{Links, altered, Kept, kept, entry_in, with_pair, same_node, pair_place, mut, arena_row}
 use Rattle.hashlink_nodes.proofs.ArenaBlocks.{found_entry}
 use Rattle.hashlink_nodes.proofs.ArenaSteps.{states}
-use mir.Syntax.{mut}
 use Rattle.hashlink_nodes.proofs.ArenaLends.{lent}
-use Rattle.hashlink_nodes.specs.contracts.arena.Arena.{the_row}
-use Rattle.hashlink_nodes.specs.contracts.arena.Arena.pair_mut.{clauses}
-use Rattle.hashlink_nodes.specs.contracts.arena.Arena.pair_mut.Key.{name as #self}
+use Rattle.hashlink_nodes.specs.contracts.arena.Arena.pair_mut as F
 use Rattle.hashlink_nodes.proofs.arena.Arena.pair_mut.Statement.{statement}
 use Rattle.hashlink_nodes.proofs.arena.Arena.pair_mut.Code as code
 
 pub pair_mut_spec : {M : Type 1} → statement M
 pair_mut_spec 𝓤 𝓛 𝓜 𝓡 wired T L =
     let R : RattleType = param 0 T in let inst = layouts (a_type ∷ []) (T, tt) in
-    lent 𝓤 𝓛 𝓜 𝓡 T R tt (pair_offset R) (#self inst) mut 0 (code.unfolded 𝓤 𝓛.H 𝓜 𝓡 wired (T, tt))
-    (clauses T 𝓛 𝓜.mem 𝓡.returns) refl
+    lent 𝓤 𝓛 𝓜 𝓡 T R tt (pair_offset R) (F.Key.name inst) mut 0 (code.unfolded 𝓤 𝓛.H 𝓜 𝓡 wired (T, tt))
+    (F.clauses T 𝓛 𝓜.mem 𝓡.returns) refl
     (record {
       change = with_pair;
       Asked = λ a n. IsSome (entry_in (lookup (same_node n) a.blocks));
@@ -38,12 +34,12 @@ pair_mut_spec 𝓤 𝓛 𝓜 𝓡 wired T L =
             out = qed 𝓛 (‵ (block_owns R n.at k) ∷ []) ∵
                 rewrite ! 0 (λ x. ‵ (block_owns R n.at (kept k.links x))) at_n.3 refl $ fsplit ! $ join ! $
                 done !;
-            back = λ w. qed 𝓛 (‵ (lies_at R full_share (pair_of R n.at) w) ∷ ‵ (fsep number links) ∷ []) ∵
+            back = λ w. qed 𝓛 (‵ (lies_at R full_share (pair_place R n.at) w) ∷ ‵ (fsep number links) ∷ []) ∵
                 fjoin ! $
                 rewrite ! 0 (λ x. ‵ (block_owns R n.at x)) (sym (to w)) refl $ done !;
           };
       says = λ z asked r is. let at_n = found_entry _ asked in
-          qed 𝓛 (‵ (follows (the_row R) R z.0.3.0.ghost_name r.ghost_name
+          qed 𝓛 (‵ (follows (arena_row R) R z.0.3.0.ghost_name r.ghost_name
           (λ w. altered z.0.3.0.now z.0.3.1.0 (with_pair w))) ∷ []) ∵
           states ! (ap (λ (o : Option (Kept T.Denot)). option_map (λ (x : ℕ × T.Denot). x.1) (entry_in o))
           at_n.2

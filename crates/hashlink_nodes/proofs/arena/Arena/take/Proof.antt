@@ -11,13 +11,10 @@ use Names.{RattleType, owns, Ptr, ptr_val, in_a_block, lies_at, types_at, plain,
 use Names.{heard, opens, closes, Stays, stay_dropped, stay_ref, walk_of, Goes-dropped, Goes-ref, after, word}
 use Names.{word-Good, proved_at, leaves, load, look, well_typed, same_node, alter, entry_in, number_word}
 use Names.{with_entry, Links, blocks_own, block_owns, pair_owns, pair_offset, is_small, number_of}
-use Names.{number_offset, links_of, deed_owns, Arena}
-use Rattle.hashlink_nodes.specs.Ownership.{pair_of}
-use Rattle.hashlink_nodes.specs.contracts.arena.Arena.{the_row}
+use Names.{number_offset, links_of, deed_owns, Arena, pair_place, arena_row}
 use Rattle.hashlink_nodes.proofs.ArenaSteps.{Nd, word_had, no_entry, args_are, states}
 use Rattle.hashlink_nodes.proofs.ArenaBlocks.{found_entry, blocks_cut, blocks_glue, small_shown}
-use Rattle.hashlink_nodes.specs.contracts.arena.Arena.take.{ended, clauses}
-use Rattle.hashlink_nodes.specs.contracts.arena.Arena.take.Key.{name as #self}
+use Rattle.hashlink_nodes.specs.contracts.arena.Arena.take as F
 use Rattle.hashlink_nodes.proofs.arena.Arena.take.Statement.{statement}
 use Rattle.hashlink_nodes.proofs.arena.Arena.take.Code as code
 
@@ -25,14 +22,14 @@ pub take_spec : {M : Type 1} → statement M
 take_spec 𝓤 𝓛 𝓜 𝓡 wired T L =
     let H = 𝓛.H in
     let 𝓣 = tables 𝓤 H 𝓜 𝓡 𝓡.env in
-    let R : RattleType = param 0 T in let En = ended T in let c = clauses T 𝓛 𝓜.mem 𝓡.returns in
+    let R : RattleType = param 0 T in let En = F.ended T in let c = F.clauses T 𝓛 𝓜.mem 𝓡.returns in
     let inst = layouts (a_type ∷ []) (T, tt) in
-    let fn = inst_fn inst code.function in let Ar : RattleType = the_row R in
+    let fn = inst_fn inst code.function in let Ar : RattleType = arena_row R in
     let hs : Stays En.signature.params En.kept
     = (stay_ref (0 ∷ []) tt (plain (λ _. Ar)), (stay_dropped (plain (λ _. Nd)) yes, tt)) in
     proved_at 𝓛 En hs c 𝓜 𝓡
     (Goes-ref 𝓛 2 0 tt (plain (λ _. Ar)), (Goes-dropped 𝓛 2 (plain (λ _. Nd)) yes (λ κs x f. refl), tt))
-    (#self inst) fn (code.unfolded 𝓤 H 𝓜 𝓡 wired (T, tt)) (λ z are.
+    (F.Key.name inst) fn (code.unfolded 𝓤 H 𝓜 𝓡 wired (T, tt)) (λ z are.
     let κs = z.0.0 in
     let qs = z.0.1 in
     let Post : Val → SProp 𝓤 = (walk_of 𝓛 En hs c).post z in
@@ -61,7 +58,7 @@ take_spec 𝓤 𝓛 𝓜 𝓡 wired T L =
     use1 𝓛 (‵ (block_owns R n.at k) ⊛ ‵ (blocks_own R (remove_entry (same_node n) a.blocks)))
     (blocks_cut R 𝓛 n a.blocks k is_k) $ split ! $ fsplit3 ! $
     rewrite ! 0 (λ x. ‵ (pair_owns R n.at x)) is_e refl $
-    in_a_block ! n.at (λ p. lies_at R full_share (pair_of R p) entry.1) (id⊢ 𝓤 (never 𝓤)) (λ b o e.
+    in_a_block ! n.at (λ p. lies_at R full_share (pair_place R p) entry.1) (id⊢ 𝓤 (never 𝓤)) (λ b o e.
     let τ : Ty = lone R.mir in let at = o + pair_offset R in let no = o + number_offset R in
     rewrite ! 2 (λ (p : Ptr). ‵ (fsep (lies_at Links full_share (links_of R p) k.links)
     (deed_owns R p)))

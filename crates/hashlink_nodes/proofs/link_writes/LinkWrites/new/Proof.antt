@@ -6,8 +6,7 @@ use Names.{look_at, get, sets, agg, fact, fact_i, tables, nothing, walk_of, prov
 use Names.{sem, RattleType, makes_shadow, Struct, shape, LinkWrites}
 use Rattle.hashlink_nodes.proofs.ArenaSteps.{mark}
 use Rattle.hashlink_nodes.specs.contracts.link_writes.LinkWrites as W
-use Rattle.hashlink_nodes.specs.contracts.link_writes.LinkWrites.new.{ended, clauses}
-use Rattle.hashlink_nodes.specs.contracts.link_writes.LinkWrites.new.Key.{name as #self}
+use Rattle.hashlink_nodes.specs.contracts.link_writes.LinkWrites.new as F
 use Rattle.hashlink_nodes.proofs.link_writes.LinkWrites.new.Statement.{statement}
 use Rattle.hashlink_nodes.proofs.link_writes.LinkWrites.new.Code as code
 
@@ -23,10 +22,10 @@ mark_made 𝓛 =
 
 pub new_spec : {M : Type 1} → statement M
 new_spec 𝓤 𝓛 𝓜 𝓡 wired =
-    let H = 𝓛.H in let 𝓣 = tables 𝓤 H 𝓜 𝓡 𝓡.env in let c = clauses 𝓛 𝓜.mem 𝓡.returns in
+    let H = 𝓛.H in let 𝓣 = tables 𝓤 H 𝓜 𝓡 𝓡.env in let c = F.clauses 𝓛 𝓜.mem 𝓡.returns in
     let fn = code.function in
-    proved_at 𝓛 ended tt c 𝓜 𝓡 tt #self fn (code.unfolded 𝓤 H 𝓜 𝓡 wired) (λ z are.
-    let Post : Val → SProp 𝓤 = (walk_of 𝓛 ended tt c).post z in
+    proved_at 𝓛 F.ended tt c 𝓜 𝓡 tt F.Key.name fn (code.unfolded 𝓤 H 𝓜 𝓡 wired) (λ z are.
+    let Post : Val → SProp 𝓤 = (walk_of 𝓛 F.ended tt c).post z in
     let made : LinkWrites = record { mark = record {}; count = 0 } in
     qed 𝓛 ((‵ ftrue ⊛ ‵ ftrue) ∷ raw ((c z.0.0 z.0.3).requires z.1) ∷ []) ∵ split ! $
     drop ! $ drop ! $ drop ! $
@@ -36,4 +35,4 @@ new_spec 𝓤 𝓛 𝓜 𝓡 wired =
     nothing ! $ use0 𝓛 (‵ (Mark.own_val (tt, tt) (mark ∷ []))) (mark_made 𝓛) $ fjoin ! $
     use0 𝓛 (raw (fact 𝓤 (made.count ≡ 0))) (fact_i 𝓤 (made.count ≡ 0) (emp 𝓤) refl) $ nothing ! $ nothing ! $
     returns ! (look_at ! 0 refl) $ free_all ! refl $ keep ! (0 ∷ 1 ∷ 3 ∷ 2 ∷ []) $ by !
-    (leaves 𝓛 ended tt c z mark made tt tt)))
+    (leaves 𝓛 F.ended tt c z mark made tt tt)))
