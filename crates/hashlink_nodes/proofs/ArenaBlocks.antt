@@ -1,13 +1,13 @@
 -- One block is taken out of an arena's and put back. Assumes `Logic`.
 use Rattle.hashlink_nodes.proofs.Cuts.{cut_at, cut-removed, cut-altered}
 use Rattle.hashlink_nodes.proofs.Names
-use Names.{◌++◌, id⊢, ◌≡◌, ℕ, ◌+◌, ◌^◌, ◌<◌, arith, Bool, true, false, cond, List, [], ◌∷◌, Option, None}
-use Names.{Some, IsSome, refl, sym, subst, lookup, remove_entry, IfSome, nothing, Ura, ent, sep, via, fst∗}
-use Names.{snd∗, never, never_e, Fml, Lft, fat, froom, Logic, sem, Item, Goal, Seq, ‵, raw, prop, mean, some}
-use Names.{◌⊛◌, ◌$◌, ◌∵◌, !, qed, by, move, keep, use1, use2, pick, drop, flt_l, flt_i, Step, step, split}
-use Names.{fsplit, fsplit3, fjoin, rewrite, done, Model, Ty, Val, full_share, fact, fact_i, fact_use, lone}
-use Names.{part_out, RattleType, Ptr, block_ptr, null_ptr, block_lent, block_owns, blocks_lent, blocks_own}
-use Names.{links_offset, is_small, Links, Kept, alter, entry_in, same_node, eq-same_node, Node}
+use Names.{◌++◌, id⊢, ◌≡◌, ℕ, ◌+◌, ◌^◌, ◌<◌, arith, List, [], ◌∷◌, Option, None, Some, IsSome, refl, sym}
+use Names.{subst, lookup, remove_entry, IfSome, nothing, Ura, ent, sep, via, fst∗, snd∗, never, never_e, Fml}
+use Names.{Lft, fat, froom, Logic, sem, Item, Goal, Seq, ‵, raw, prop, mean, some, ◌⊛◌, ◌$◌, ◌∵◌, !, qed, by}
+use Names.{move, keep, use1, use2, pick, drop, flt_l, flt_i, Step, step, split, fsplit, fsplit3, fjoin, done}
+use Names.{Model, Ty, Val, full_share, fact, fact_i, fact_use, lone, part_out, RattleType, Ptr, block_ptr}
+use Names.{null_ptr, block_lent, block_owns, blocks_lent, blocks_own, links_offset, is_small, Links, Kept}
+use Names.{alter, entry_in, same_node, Node}
 
 -- what a look-up found
 pub found : {X : Type 0} (o : Option X) → IsSome o → (x : X) × (o ≡ Some x)

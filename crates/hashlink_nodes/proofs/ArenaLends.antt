@@ -1,25 +1,25 @@
 -- An arena lends a part of a block, by `&` and by `&mut`. A function of it gives its code, which computes
 -- an address alone, and where the part is in a block. Assumes `Logic`.
 use Rattle.hashlink_nodes.proofs.Names
-use Names.{part_of, Fn, Callee, Model, Closed, Running, fact_i, via, ex_i, Item, Step, step, mean, now, prop}
-use Names.{upd, One, Signature, Slot, ◌+ₚ◌, Ended, Clauses, at_exit, closing, Meets, block_owns, blocks_own}
-use Names.{blocks_lent, same_node, altered, Kept, alter, Node, Arena, ◌≡◌, ℕ, ◌+◌, List, [], ◌∷◌, ◌++◌, refl}
-use Names.{sym, Some, Bor, MutBor, lookup, remove_entry, Ura, full_share, named, Val, vptr, SProp, ent, sep}
-use Names.{emp, never, id⊢, Fml, GName, ftrue, flft, fsep, WpFn, Logic, sem, ‵, raw, ◌⊛◌, some, later, ◌$◌}
-use Names.{◌∵◌, !, qed, by, move, keep, drop, split, split3, join, group, fsplit, fsplit3, fjoin, fpack, pick}
-use Names.{await, rewrite, use0, use1, use2, suffices, feq_i, feq_l, done, fact, tables, RefOf, yes, no}
-use Names.{follows, Part, lends_Part, mem, cell_at, hide, unhide, RattleType, owns, Ptr, block_ptr, null_ptr}
-use Names.{in_a_block, lies_at, lent_at, MutRef, types_at, plain, mut_ref_to, param, nothing, heard, opens}
-use Names.{Stays, stay_dropped, walk_of, Goes-dropped, Goes-spent_ref, word, proved_at, leaves, ◌⊑◌, enter}
-use Names.{alloc_all, pass_all, env, first, blocks, sets, sets_last, is, of_opd, get_in, fld, stop, sub}
-use Names.{whole, ptr_val, addr, through, exec, after, at_ret, get, returns, look_at, free_all, word-Good, Ty}
-use Names.{ap, pointee, lone, layout, arena_row}
+use Names.{word_had, part_of, Fn, Callee, Model, Closed, Running, fact_i, via, ex_i, Item, Step, step, mean}
+use Names.{now, prop, upd, One, Signature, Slot, ◌+ₚ◌, Ended, Clauses, at_exit, closing, Meets, block_owns}
+use Names.{blocks_own, blocks_lent, same_node, altered, Kept, alter, Node, Arena, ◌≡◌, ℕ, ◌+◌, List, [], ◌∷◌}
+use Names.{◌++◌, refl, sym, Some, Bor, MutBor, lookup, remove_entry, Ura, full_share, named, Val, vptr, SProp}
+use Names.{ent, sep, emp, never, id⊢, Fml, GName, ftrue, flft, fsep, WpFn, Logic, sem, ‵, raw, ◌⊛◌, some}
+use Names.{later, ◌$◌, ◌∵◌, !, qed, by, move, keep, drop, split, split3, join, group, fsplit, fsplit3, fjoin}
+use Names.{fpack, pick, await, rewrite, use0, use1, use2, suffices, feq_i, feq_l, done, fact, tables, RefOf}
+use Names.{yes, no, follows, Part, lends_Part, mem, cell_at, hide, unhide, RattleType, owns, Ptr, block_ptr}
+use Names.{null_ptr, in_a_block, lies_at, lent_at, MutRef, types_at, plain, mut_ref_to, param, nothing, heard}
+use Names.{opens, Stays, stay_dropped, walk_of, Goes-dropped, Goes-spent_ref, word, proved_at, leaves, ◌⊑◌}
+use Names.{enter, alloc_all, pass_all, env, first, blocks, sets, sets_last, is, of_opd, get_in, fld, stop}
+use Names.{sub, whole, ptr_val, addr, through, exec, after, at_ret, get, returns, look_at, free_all}
+use Names.{word-Good, Ty, ap, pointee, lone, layout, arena_row}
 use mir.Syntax.{Mutability, erased, local, value_local, ty_ref, ty_ptr, seq, block, assign, place, rv_opd}
 use mir.Syntax.{copy, field, deref, addr_of, return}
 use Rattle.hashlink_nodes.specs.contracts.arena.Block as blocks
 use mathlib.Core.Option.{some as just}
 use prog.Memory.{field_of}
-use Rattle.hashlink_nodes.proofs.ArenaSteps.{Mark, Nd, word_had, args_are}
+use Rattle.hashlink_nodes.proofs.ArenaSteps.{Mark, Nd, no_box, args_are}
 use Rattle.hashlink_nodes.proofs.ArenaBlocks.{blocks_cut, blocks_glue}
 
 -- the signature of a function that lends what the arena has at a node
@@ -160,7 +160,7 @@ module _ {M : Type 1} (𝓤 : Ura M) (𝓛 : Logic 𝓤) (𝓜 : Model 𝓤 𝓛
           drop ! $ heard ! _ (λ held.
           let w = s.part a n held in
           move ! (1 ∷ []) $ fsplit ! $ fsplit ! $ feq_l !
-          (λ e0. move ! (1 ∷ []) $ fsplit ! $ word_had ! n.at z.0.4.1.0 (λ e1. drop ! $
+          (λ e0. move ! (1 ∷ []) $ fsplit ! $ word_had no_box [] n.at ! z.0.4.1.0 (λ e1. drop ! $
           args_are ! (λ (ws : List Val × List Val). Run (ws.0 ++ (ws.1 ++ []))) (λ j. (sym e0 j, sym e1 j)) $
           begins ! at_k Post rb ro n.at $ unhide ! $ fsplit ! $ drop ! $
           use1 𝓛 (‵ (lent_at P (n.at +ₚ off) w κs.0) ⊛ raw (fact 𝓤 (s.Seen a n held))) (s.shows z held) $
@@ -261,7 +261,7 @@ module _ {M : Type 1} (𝓤 : Ura M) (𝓛 : Logic 𝓤) (𝓜 : Model 𝓤 𝓛
           drop ! $ heard ! _ (λ asked.
           let k = (s.block a n asked).0 in let is_k = (s.block a n asked).1 in let h = s.held a n asked in
           move ! (1 ∷ []) $ fsplit ! $ fsplit3 ! $ feq_l !
-          (λ e0. move ! (2 ∷ []) $ fsplit ! $ word_had ! n.at z.0.4.1.0 (λ e1. drop ! $
+          (λ e0. move ! (2 ∷ []) $ fsplit ! $ word_had no_box [] n.at ! z.0.4.1.0 (λ e1. drop ! $
           -- [obs; the borrow; the tokens]
           args_are ! (λ (ws : List Val × List Val). Run (ws.0 ++ (ws.1 ++ []))) (λ j. (sym e0 j, sym e1 j)) $
           move ! (2 ∷ []) $ split3 ! $ move ! (3 ∷ 4 ∷ 0 ∷ []) $

@@ -30,7 +30,7 @@ pub use Rattle.hashlink_nodes.specs.declared.pool.links.Link.{Link}
 pub use Rattle.std.proofs.Common.{Bool, Bor, IsSome, List, MutBor, None, Option, Some, [], ap, arith, cond}
 pub use Rattle.std.proofs.Common.{false, length, refl, subst, suc, sym, true, zero, ℕ, ◌++◌, ◌+◌, ◌-◌, ◌<◌}
 pub use Rattle.std.proofs.Common.{◌^◌, ◌∙◌, ◌∷◌, ◌≡◌}
-pub use Rattle.std.proofs.RcSteps.{Good, word, word-Good}
+pub use Rattle.std.proofs.RcSteps.{Good, word, word-Good, word_had, word_made}
 pub use Rattle.std.proofs.ResultValues.{and_tt}
 pub use Rattle.std.proofs.alloc.Calls.{Al, Goes-blank, handle_tells}
 pub use Rattle.std.proofs.alloc.Shapes.{after}
@@ -59,7 +59,6 @@ pub use contract.Running.{Running, tables}
 pub use denote.Builtin.{One, RefOf, usize}
 pub use denote.Exit.{no, yes}
 pub use denote.Follow.{Part, follows, lends_Part}
-pub use denote.Laws.{Is, Typed, shows}
 pub use denote.Memory.{cell_at, lone, mem, part_at, pointee}
 unfoldable pub use denote.Memory.{part_of}
 pub use denote.Opens.{hide, unhide}
@@ -75,13 +74,13 @@ pub use denote.Shares.{Shares-less}
 pub use denote.Sharing.{ShrLaws, beside, said}
 pub use denote.SharingLaws.{beside_shr_laws, nothing_shr_laws, said_shr_laws}
 pub use denote.Signature.{Signature, Slot, mut_ref_to, plain, types_at}
-pub use denote.Steps.{closes, heard, nothing, opens, peeks}
+pub use denote.Steps.{closes, heard, nothing, opens}
 pub use denote.Struct.Field.{usize-field}
 pub use denote.Struct.Laws.{field_copy, usize-copy}
 pub use denote.Struct.Lending.{Lends, Lends-both, Lends-first, Lends-lies, Lends-nothing, Lends-said, lent_at}
 pub use denote.Struct.Lending.{lent_at_shr_laws, of_Lends}
 pub use denote.Struct.Owning.{shape}
-pub use denote.Struct.Struct.{Shape, Struct, within}
+pub use denote.Struct.Struct.{Struct, within}
 pub use denote.Triple.Clauses.{Clauses, Ended, at_exit, closing}
 pub use denote.Triple.Spec.{Meets}
 pub use denote.Triple.Walked.{Goes-dropped, Goes-ref, Goes-spent_ref, Stays, stay_dropped, stay_ref, walk_of}

@@ -1,11 +1,10 @@
 -- What the state of the blocks is after one of them changed, came or went.
 use Rattle.hashlink_nodes.proofs.Names
-use Names.{◌≡◌, ℕ, ◌+◌, Bool, true, false, cond, List, [], ◌∷◌, length, Option, None, Some, refl, sym, subst}
-use Names.{ap, ◌∙◌, arith, IsNone, is_some, lookup, set_value, remove_entry, lookup-set_value}
-use Names.{length-set_value, same_node, same_node-refl, Differs, same_node_equiv, eq-same_node, State, Blocks}
-use Names.{state, set_at, next_in, prev_in, held_in, store_next, store_prev, hold, Adds, MakesGuard, Drops}
-use Names.{Node, Link, Kept, kept, alter, entry_in, with_links, with_pair, Pool, state_of, pool_with, held}
-use Names.{pair_of, option_map, Held}
+use Names.{◌≡◌, ℕ, ◌+◌, Bool, true, false, cond, List, ◌∷◌, length, Option, None, Some, refl, sym, subst, ap}
+use Names.{◌∙◌, arith, IsNone, is_some, lookup, set_value, remove_entry, lookup-set_value, length-set_value}
+use Names.{same_node, same_node-refl, Differs, same_node_equiv, eq-same_node, State, Blocks, state, set_at}
+use Names.{next_in, prev_in, held_in, store_next, store_prev, hold, Adds, MakesGuard, Drops, Node, Link, Kept}
+use Names.{kept, alter, entry_in, with_links, with_pair, held, pair_of, option_map, Held}
 use Rattle.hashlink_nodes.proofs.ArenaBlocks.{found_entry}
 use Rattle.hashlink_nodes.proofs.Cuts.{cut, cut_at, cut-altered, cut-renewed, cut-removed, others_found}
 use Rattle.hashlink_nodes.proofs.Opening.{length-removed}

@@ -1,15 +1,14 @@
 -- A block that holds nothing, as std has it: room for its parts, and the right to free it. Assumes `Logic`.
 use Rattle.hashlink_nodes.proofs.Names
-use Names.{◌≡◌, ℕ, ◌+◌, List, [], ◌∷◌, ◌++◌, refl, subst, ◌&&◌, T, Ura, Ty, Tys, impl, tnil, tcons, dnil}
-use Names.{ty_int, ty_struct, w64, SProp, ent, sep, wand, apply∗, Fml, ftrue, fwand, froom, rooms_at, lone}
-use Names.{Val, vptr, vstruct, vcons, vnil, of_list, has_ty, WT, Logic, sem, raw, ◌⊛◌, assume, fjoin3, by}
-use Names.{group, split, split3, use1, use2, Item, Goal, Seq, Step, step, ‵, ◌$◌, ◌∵◌, !, qed, keep, move}
-use Names.{drop, fsplit, fst∗, never, fsplit3, fjoin, fpick, fpack, feq_i, feq_l, RattleType, Valss, Ptr}
-use Names.{block_ptr, null_ptr, ptr_val, in_a_block, room_for, nothing, param, done, layout, within, shape}
-use Names.{Al, handle_tells, Good, Links, ghosts, block_room, block_type, deed_owns, pair_offset}
-use Names.{number_offset, links_offset, and_tt, true, bare, RawPtr}
-use Rattle.std.specs.contracts.alloc.Global as heap
-use Rattle.std.proofs.alloc.Global.TheLaws as heap_laws
+use Names.{◌≡◌, ℕ, ◌+◌, List, [], ◌∷◌, ◌++◌, refl, subst, ◌&&◌, T, Ura, Ty, Tys, tnil, tcons, ty_int}
+use Names.{ty_struct, w64, SProp, ent, sep, wand, apply∗, Fml, ftrue, fwand, froom, rooms_at, lone, Val, vptr}
+use Names.{vstruct, vcons, vnil, of_list, has_ty, WT, Logic, sem, raw, ◌⊛◌, assume, fjoin3, by, group, split}
+use Names.{split3, use1, use2, Item, Goal, Seq, Step, step, ‵, ◌$◌, ◌∵◌, !, qed, keep, move, drop, fsplit}
+use Names.{fst∗, never, fsplit3, fjoin, fpick, fpack, feq_i, feq_l, RattleType, Valss, Ptr, block_ptr}
+use Names.{null_ptr, ptr_val, in_a_block, room_for, nothing, param, done, layout, within, shape, handle_tells}
+use Names.{Good, Links, ghosts, block_room, block_type, deed_owns, pair_offset, number_offset, links_offset}
+use Names.{and_tt, true, bare, RawPtr}
+use Rattle.hashlink_nodes.proofs.ArenaSteps.{Heap, heap_handle}
 use Rattle.std_alloc.specs.Vacant.{vacant}
 use Rattle.std_alloc.specs.contracts.room.vacant.Vacant as room
 use Rattle.hashlink_nodes.specs.contracts.arena.Block as block
@@ -17,18 +16,6 @@ use Rattle.hashlink_nodes.specs.contracts.arena.Block as block
 -- a pointer and a handle
 abbrev pub both : Val → Val → Val
 both v w = vstruct (vcons v (vcons w vnil))
-
-abbrev pub Heap : RattleType
-Heap = heap.the_row
-
-abbrev pub al : Al
-al = record {
-  row = Heap;
-  laws = heap_laws.the_row_laws;
-  g = ghosts;
-  d = impl [] tnil dnil;
-  drops = impl [] tnil dnil;
-}
 
 pub vacant_good : (b o : ℕ) (h : Val) → Good (layout Heap) h
     → T (has_ty (layout Heap) h && true) × WT (both (vptr b o) h)
@@ -107,7 +94,7 @@ module _ (T : RattleType) where
         fsplit t $ fpick t
         (λ vss. fsplit t $ feq_l t
         (λ ev. fsplit t $ feq_l t
-        (λ ep. fsplit t $ handle_tells al t d.alloc vss.1.0 (λ h ea fits. drop t $ drop t $
+        (λ ep. fsplit t $ handle_tells heap_handle t d.alloc vss.1.0 (λ h ea fits. drop t $ drop t $
         in_a_block t d.ptr (vacant token B) (fst∗ 𝓤 (never 𝓤) (sem 𝓛 (token (bare (lone B.mir)) null_ptr)))
         (λ b o e. fsplit t $
         use1 𝓛 (‵ (block_room (param 0 T) (block_ptr b o)) ⊛ ‵ (Rejoins T 𝓛 b o)) (block_cut T 𝓛 b o) $

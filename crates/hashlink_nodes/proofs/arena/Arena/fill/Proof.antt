@@ -1,18 +1,18 @@
 -- `fill` writes a pair and its number into the room of a block.
 use Rattle.hashlink_nodes.proofs.Names
-use Names.{◌≡◌, ℕ, ◌+◌, ◌∙◌, ◌^◌, ◌<◌, List, [], ◌∷◌, ◌++◌, refl, sym, ap, Option, Some, None, IsSome, lookup}
-use Names.{remove_entry, full_share, Ty, a_type, ty_int, w64, inst_fn, Val, vint, vptr, vunit, SProp, never}
-use Names.{id⊢, ftrue, fat, froom, flft, fsep, WpFn, ‵, raw, ◌⊛◌, at_ret, ◌$◌, ◌∵◌, !, qed, by, move, keep}
-use Names.{drop, split, split3, group, fsplit, fsplit3, fjoin, fjoin3, rewrite, use1, use2, feq_i, feq_l}
-use Names.{stop, fld, of_opd, addr, store, init, assigns, assigns_last, first, blocks, exec, returns, enter}
-use Names.{alloc_all, pass_all, free_all, look_at, get, get_in, through, sets, is, env, sub, whole, fact, ◌⊑◌}
-use Names.{tables, part_in, usize, no, yes, lone, part_at, uint_in, uint_out, RattleType, owns, Ptr, ptr_val}
-use Names.{in_a_block, lies_at, types_at, plain, param, layouts, param_laws, nothing, heard, opens, closes}
-use Names.{Stays, stay_dropped, stay_ref, walk_of, Goes-dropped, Goes-ref, after, word, word-Good, proved_at}
-use Names.{leaves, flt_l, unit_lit, same_node, alter, entry_in, number_word, with_entry, Links, blocks_own}
-use Names.{block_owns, pair_owns, pair_room, pair_offset, is_small, number_of, number_offset, links_of}
-use Names.{deed_owns, Arena, arena_row}
-use Rattle.hashlink_nodes.proofs.ArenaSteps.{Nd, word_had, told, args_are, states}
+use Names.{word_had, handle_tells, ◌≡◌, ℕ, ◌+◌, ◌∙◌, ◌^◌, ◌<◌, List, [], ◌∷◌, ◌++◌, refl, sym, ap, Option}
+use Names.{Some, None, IsSome, lookup, remove_entry, full_share, Ty, a_type, ty_int, w64, inst_fn, Val, vint}
+use Names.{vptr, vunit, SProp, never, id⊢, ftrue, fat, froom, flft, fsep, WpFn, ‵, raw, ◌⊛◌, at_ret, ◌$◌, ◌∵◌}
+use Names.{ !, qed, by, move, keep, drop, split, split3, group, fsplit, fsplit3, fjoin, fjoin3, rewrite, use1}
+use Names.{use2, feq_i, feq_l, stop, fld, of_opd, addr, store, init, assigns, assigns_last, first, blocks}
+use Names.{exec, returns, enter, alloc_all, pass_all, free_all, look_at, get, get_in, through, sets, is, env}
+use Names.{sub, whole, fact, ◌⊑◌, tables, part_in, usize, no, yes, lone, part_at, uint_in, uint_out}
+use Names.{RattleType, owns, Ptr, ptr_val, in_a_block, lies_at, types_at, plain, param, layouts, param_laws}
+use Names.{nothing, heard, opens, closes, Stays, stay_dropped, stay_ref, walk_of, Goes-dropped, Goes-ref}
+use Names.{after, word, word-Good, proved_at, leaves, flt_l, unit_lit, same_node, alter, entry_in}
+use Names.{number_word, with_entry, Links, blocks_own, block_owns, pair_owns, pair_room, pair_offset}
+use Names.{is_small, number_of, number_offset, links_of, deed_owns, Arena, arena_row}
+use Rattle.hashlink_nodes.proofs.ArenaSteps.{Nd, no_box, as_handle, args_are, states}
 use Rattle.hashlink_nodes.proofs.ArenaBlocks.{found, blocks_cut, blocks_glue, small_shown}
 use Rattle.hashlink_nodes.specs.contracts.arena.Arena.fill as F
 use Rattle.hashlink_nodes.proofs.arena.Arena.fill.Statement.{statement}
@@ -64,9 +64,9 @@ fill_spec 𝓤 𝓛 𝓜 𝓡 wired T L =
     let filled = with_entry (Some (number, pair)) in
     let new : Arena T.Denot = record { mark = a.mark; blocks = alter (same_node n) filled a.blocks } in
     move ! (1 ∷ []) $ fsplit ! $ fsplit3 ! $ feq_l !
-    (λ e0. move ! (2 ∷ []) $ fsplit ! $ word_had ! n.at z.0.4.1.0
+    (λ e0. move ! (2 ∷ []) $ fsplit ! $ word_had no_box [] n.at ! z.0.4.1.0
     (λ e1. fsplit ! $ fsplit ! $ feq_l ! (λ e2. flt_l ! (λ fits.
-    fsplit ! $ told R (param_laws 0 T L) ! pair z.0.4.1.1.1.0 (λ v e3 good.
+    fsplit ! $ handle_tells (as_handle R (param_laws 0 T L)) ! pair z.0.4.1.1.1.0 (λ v e3 good.
     -- [what the pair owns; nothing; obs; the borrow; the tokens]
     move ! (1 ∷ []) $ drop ! $ move ! (3 ∷ []) $ split3 ! $
     args_are ! (λ (us : List Val × List Val × List Val × List Val). Run

@@ -1,19 +1,19 @@
 -- `give_back` takes a block out of those that the arena owns.
 use Rattle.hashlink_nodes.proofs.Names
-use Names.{◌≡◌, ℕ, ◌+◌, ◌∙◌, ◌^◌, List, [], ◌∷◌, ◌++◌, refl, sym, ap, Option, None, IsSome, lookup}
-use Names.{remove_entry, full_share, Ty, a_type, ty_int, w64, bare, inst_fn, Val, vint, vptr, SProp, never}
-use Names.{id⊢, ftrue, fat, froom, flft, fsep, WpFn, ‵, raw, ◌⊛◌, some, ◌$◌, ◌∵◌, !, qed, by, move, keep}
-use Names.{drop, split, split3, group, fsplit, fsplit3, fjoin, fjoin3, pick, rewrite, use1, feq_i, feq_l}
-use Names.{stop, fld, of_opd, and_then, no_more, returns, enter, alloc_all, pass_all, free_all, look_at, get}
-use Names.{get_in, sets, is, sub, whole, agg, fact, ◌⊑◌, tables, part_out, usize, yes, lone, uint_out}
-use Names.{RattleType, owns, Ptr, block_ptr, ptr_val, in_a_block, lies_at, types_at, plain, param, layouts}
-use Names.{nothing, heard, opens, closes, Stays, stay_dropped, stay_ref, walk_of, Goes-dropped, Goes-ref}
-use Names.{word, word-Good, proved_at, leaves, handle_tells, same_node, entry_in, number_word, Links}
-use Names.{blocks_own, block_owns, pair_owns, pair_room, is_small, number_of, number_offset, links_of}
-use Names.{links_offset, deed_owns, Arena, arena_row}
-use Rattle.hashlink_nodes.proofs.ArenaSteps.{Nd, word_had, args_are, states}
+use Names.{word_had, handle_tells, ◌≡◌, ℕ, ◌+◌, ◌∙◌, ◌^◌, List, [], ◌∷◌, ◌++◌, refl, sym, ap, Option, None}
+use Names.{IsSome, lookup, remove_entry, full_share, Ty, a_type, ty_int, w64, bare, inst_fn, Val, vint, vptr}
+use Names.{SProp, never, id⊢, ftrue, fat, froom, flft, fsep, WpFn, ‵, raw, ◌⊛◌, some, ◌$◌, ◌∵◌, !, qed, by}
+use Names.{move, keep, drop, split, split3, group, fsplit, fsplit3, fjoin, fjoin3, pick, rewrite, use1, feq_i}
+use Names.{feq_l, stop, fld, of_opd, and_then, no_more, returns, enter, alloc_all, pass_all, free_all}
+use Names.{look_at, get, get_in, sets, is, sub, whole, agg, fact, ◌⊑◌, tables, part_out, usize, yes, lone}
+use Names.{uint_out, RattleType, owns, Ptr, block_ptr, ptr_val, in_a_block, lies_at, types_at, plain, param}
+use Names.{layouts, nothing, heard, opens, closes, Stays, stay_dropped, stay_ref, walk_of, Goes-dropped}
+use Names.{Goes-ref, word, word-Good, proved_at, leaves, same_node, entry_in, number_word, Links, blocks_own}
+use Names.{block_owns, pair_owns, pair_room, is_small, number_of, number_offset, links_of, links_offset}
+use Names.{deed_owns, Arena, arena_row}
+use Rattle.hashlink_nodes.proofs.ArenaSteps.{Nd, no_box, args_are, states, Heap, heap_handle}
 use Rattle.hashlink_nodes.proofs.ArenaBlocks.{found, blocks_cut}
-use Rattle.hashlink_nodes.proofs.VacantSteps.{both, Heap, Vacant, al, vacant_good, vacant_in}
+use Rattle.hashlink_nodes.proofs.VacantSteps.{both, Vacant, vacant_good, vacant_in}
 use Rattle.hashlink_nodes.specs.contracts.arena.Arena.give_back as F
 use Rattle.hashlink_nodes.proofs.arena.Arena.give_back.Statement.{statement}
 use Rattle.hashlink_nodes.proofs.arena.Arena.give_back.Code as code
@@ -57,8 +57,8 @@ give_back_spec 𝓤 𝓛 𝓜 𝓡 wired T L =
     let is_e : k.entry ≡ None = ap entry_in (sym is_k) ∙ lacks in
     let new : Arena T.Denot = record { mark = a.mark; blocks = remove_entry (same_node n) a.blocks } in
     move ! (1 ∷ []) $ fsplit ! $ fsplit3 ! $ feq_l !
-    (λ e0. move ! (2 ∷ []) $ fsplit ! $ word_had ! n.at z.0.4.1.0
-    (λ e1. fsplit ! $ handle_tells al ! alloc z.0.4.1.1.0 (λ h e2 fits.
+    (λ e0. move ! (2 ∷ []) $ fsplit ! $ word_had no_box [] n.at ! z.0.4.1.0
+    (λ e1. fsplit ! $ handle_tells heap_handle ! alloc z.0.4.1.1.0 (λ h e2 fits.
     -- [the handle; nothing; obs; the borrow; the tokens]
     move ! (1 ∷ []) $ drop ! $ move ! (3 ∷ []) $ split3 ! $
     args_are ! (λ (us : List Val × List Val × List Val). Run (us.0 ++ (us.1 ++ (us.2 ++ []))))

@@ -1,15 +1,16 @@
 -- `keep` adds a block to those that the arena owns. It lies apart from them, since it is owned beside them.
 use Rattle.hashlink_nodes.proofs.Names
-use Names.{◌≡◌, ◌+◌, ◌^◌, List, [], ◌∷◌, ◌++◌, refl, sym, subst, Option, None, lookup, full_share, lit<, Ty}
-use Names.{a_type, w64, inst_fn, Val, vptr, SProp, ftrue, froom, flft, WpFn, ‵, raw, ◌⊛◌, at_ret, ◌$◌, ◌∵◌}
-use Names.{ !, qed, by, move, keep, drop, split, split3, join, group, fsplit, fsplit3, fjoin, fjoin3, use1}
-use Names.{use2, feq_i, feq_l, stop, fld, of_opd, addr, init, assigns, assigns_last, first, blocks, exec}
-use Names.{and_then, no_more, returns, enter, alloc_all, pass_all, free_all, look_at, get, get_in, through}
-use Names.{sets, env, sub, whole, agg, tables, part_in, usize, no, yes, lone, part_at, uint_in, RattleType}
-use Names.{owns, block_ptr, types_at, plain, param, layouts, nothing, opens, closes, Stays, stay_dropped}
-use Names.{stay_ref, walk_of, Goes-dropped, Goes-ref, Goes-blank, after, word, word-Good, proved_at, leaves}
-use Names.{same_node, Kept, kept, Links, number_offset, links_offset, Arena, Node, arena_row, IsNone}
-use Rattle.hashlink_nodes.proofs.ArenaSteps.{told, no_entry, word_made, args_are, states}
+use Names.{word_made, handle_tells, ◌≡◌, ◌+◌, ◌^◌, List, [], ◌∷◌, ◌++◌, refl, sym, subst, Option, None}
+use Names.{lookup, full_share, lit<, Ty, a_type, w64, inst_fn, Val, vptr, SProp, ftrue, froom, flft, WpFn, ‵}
+use Names.{raw, ◌⊛◌, at_ret, ◌$◌, ◌∵◌, !, qed, by, move, keep, drop, split, split3, join, group, fsplit}
+use Names.{fsplit3, fjoin, fjoin3, use1, use2, feq_i, feq_l, stop, fld, of_opd, addr, init, assigns}
+use Names.{assigns_last, first, blocks, exec, and_then, no_more, returns, enter, alloc_all, pass_all}
+use Names.{free_all, look_at, get, get_in, through, sets, env, sub, whole, agg, tables, part_in, usize, no}
+use Names.{yes, lone, part_at, uint_in, RattleType, owns, block_ptr, types_at, plain, param, layouts, nothing}
+use Names.{opens, closes, Stays, stay_dropped, stay_ref, walk_of, Goes-dropped, Goes-ref, Goes-blank, after}
+use Names.{word, word-Good, proved_at, leaves, same_node, Kept, kept, Links, number_offset, links_offset}
+use Names.{Arena, Node, arena_row, IsNone}
+use Rattle.hashlink_nodes.proofs.ArenaSteps.{as_handle, no_entry, no_box, args_are, states}
 use Rattle.hashlink_nodes.proofs.ArenaBlocks.{small_shown, apart_from, knows}
 use Rattle.hashlink_nodes.proofs.ArenaSharing.{LL}
 use Rattle.hashlink_nodes.proofs.VacantSteps.{both, Vacant, vacant_good, vacant_out}
@@ -51,7 +52,7 @@ keep_spec 𝓤 𝓛 𝓜 𝓡 wired T L =
     split ! $ move ! (2 ∷ []) $ drop ! $
     move ! (1 ∷ []) $ fsplit ! $ fsplit3 ! $ feq_l !
     (λ e0. move ! (2 ∷ []) $ fsplit ! $ vacant_out T ! d z.0.4.1.0 (λ b o h ws fits.
-    move ! (2 ∷ []) $ fsplit ! $ told Links LL ! links z.0.4.1.1.0 (λ w e2 good.
+    move ! (2 ∷ []) $ fsplit ! $ handle_tells (as_handle Links LL) ! links z.0.4.1.1.0 (λ w e2 good.
     let n : Node = record { at = block_ptr b o } in let bare_block : Kept T.Denot = kept links None in
     let new : Arena T.Denot = record { mark = a.mark; blocks = (n, bare_block) ∷ a.blocks } in
     -- [what the links own; nothing; the room; the deed; obs; the borrow; the tokens]
@@ -94,7 +95,7 @@ keep_spec 𝓤 𝓛 𝓜 𝓡 wired T L =
     let P : Option (Kept T.Denot) → Type 0 = λ s. IsNone s in
     states ! (subst P (sym free) refl) $ states ! {φ = new.blocks ≡ (n, bare_block) ∷ a.blocks} refl $ join
     ! $
-    word_made ! (block_ptr b o) $ move ! (4 ∷ 5 ∷ 6 ∷ []) $ group ! 3 $
+    word_made no_box [] (block_ptr b o) ! $ move ! (4 ∷ 5 ∷ 6 ∷ []) $ group ! 3 $
     nothing ! $ nothing ! $ fjoin ! $ nothing ! $ fjoin ! $ move ! (4 ∷ 5 ∷ []) $ feq_i ! (List Val) z.0.4.0
     (vptr rb ro ∷ []) e0 $ fjoin3 !
     $ fjoin ! $

@@ -1,6 +1,6 @@
 -- `take` reads the pair of a block out, and leaves room.
 use Rattle.hashlink_nodes.proofs.Names
-use Names.{◌≡◌, ℕ, ◌+◌, ◌∙◌, ◌^◌, List, [], ◌∷◌, ◌++◌, refl, sym, ap, Option, None, IsSome, lookup}
+use Names.{word_had, ◌≡◌, ℕ, ◌+◌, ◌∙◌, ◌^◌, List, [], ◌∷◌, ◌++◌, refl, sym, ap, Option, None, IsSome, lookup}
 use Names.{remove_entry, option_map, full_share, lit<, Ty, a_type, ty_int, w64, bare, inst_fn, Val, vint}
 use Names.{vptr, SProp, never, id⊢, ftrue, fat, froom, flft, fsep, WpFn, ‵, raw, ◌⊛◌, some, at_ret, ◌$◌, ◌∵◌}
 use Names.{ !, qed, by, move, keep, drop, split, split3, join, group, fsplit, fsplit3, fjoin, fjoin3, pick}
@@ -12,7 +12,7 @@ use Names.{heard, opens, closes, Stays, stay_dropped, stay_ref, walk_of, Goes-dr
 use Names.{word-Good, proved_at, leaves, load, look, well_typed, same_node, alter, entry_in, number_word}
 use Names.{with_entry, Links, blocks_own, block_owns, pair_owns, pair_offset, is_small, number_of}
 use Names.{number_offset, links_of, deed_owns, Arena, pair_place, arena_row}
-use Rattle.hashlink_nodes.proofs.ArenaSteps.{Nd, word_had, no_entry, args_are, states}
+use Rattle.hashlink_nodes.proofs.ArenaSteps.{Nd, no_box, no_entry, args_are, states}
 use Rattle.hashlink_nodes.proofs.ArenaBlocks.{found_entry, blocks_cut, blocks_glue, small_shown}
 use Rattle.hashlink_nodes.specs.contracts.arena.Arena.take as F
 use Rattle.hashlink_nodes.proofs.arena.Arena.take.Statement.{statement}
@@ -48,7 +48,7 @@ take_spec 𝓤 𝓛 𝓜 𝓡 wired T L =
     let left = with_entry None in
     let new : Arena T.Denot = record { mark = a.mark; blocks = alter (same_node n) left a.blocks } in
     move ! (1 ∷ []) $ fsplit ! $ fsplit3 ! $ feq_l !
-    (λ e0. move ! (2 ∷ []) $ fsplit ! $ word_had ! n.at z.0.4.1.0 (λ e1. drop ! $
+    (λ e0. move ! (2 ∷ []) $ fsplit ! $ word_had no_box [] n.at ! z.0.4.1.0 (λ e1. drop ! $
     -- [obs; the borrow; the tokens]
     args_are ! (λ (ws : List Val × List Val). Run (ws.0 ++ (ws.1 ++ []))) (λ j. (sym e0 j, sym e1 j)) $
     move ! (2 ∷ []) $ split3 ! $ move ! (3 ∷ 4 ∷ 0 ∷ []) $

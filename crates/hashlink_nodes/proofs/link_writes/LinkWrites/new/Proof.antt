@@ -1,24 +1,12 @@
 -- A count begins at 0.
-use Rattle.hashlink_nodes.proofs.Names
-use Names.{◌≡◌, [], ◌∷◌, refl, SProp, emp, ent, ftrue, Val, vstruct, vnil, ‵, raw, ◌⊛◌, ◌$◌, ◌∵◌, !, qed, by}
-use Names.{keep, drop, split, use0, fjoin, no_more, and_then, returns, enter, alloc_all, pass_all, free_all}
-use Names.{look_at, get, sets, agg, fact, fact_i, tables, nothing, walk_of, proved_at, leaves, Ura, Logic}
-use Names.{sem, RattleType, makes_shadow, Struct, shape, LinkWrites}
-use Rattle.hashlink_nodes.proofs.ArenaSteps.{mark}
-use Rattle.hashlink_nodes.specs.contracts.link_writes.LinkWrites as W
+use Rattle.hashlink_nodes.proofs.Names.{◌≡◌, [], ◌∷◌, refl, SProp, emp, ftrue, Val, ‵, raw, ◌⊛◌, ◌$◌, ◌∵◌, ! }
+use Rattle.hashlink_nodes.proofs.Names.{qed, by, keep, drop, split, use0, fjoin, no_more, and_then, returns}
+use Rattle.hashlink_nodes.proofs.Names.{enter, alloc_all, pass_all, free_all, look_at, get, sets, agg, fact}
+use Rattle.hashlink_nodes.proofs.Names.{fact_i, tables, nothing, walk_of, proved_at, leaves, LinkWrites}
+use Rattle.hashlink_nodes.proofs.ArenaSteps.{Heap, Mark, mark, mark_made}
 use Rattle.hashlink_nodes.specs.contracts.link_writes.LinkWrites.new as F
 use Rattle.hashlink_nodes.proofs.link_writes.LinkWrites.new.Statement.{statement}
 use Rattle.hashlink_nodes.proofs.link_writes.LinkWrites.new.Code as code
-
--- the machine value of a count, which has no bytes
-abbrev Mark : RattleType
-Mark = Struct (shape W.the_type)
-
-mark_made : {M : Type 1} {𝓤 : Ura M} (𝓛 : Logic 𝓤)
-    → ent 𝓤 (emp 𝓤) (sem 𝓛 (Mark.own_val (tt, tt) (mark ∷ [])))
-mark_made 𝓛 =
-    makes_shadow 𝓛 (Mark.own_val (tt, tt) (mark ∷ [])) (λ vss. (tt, ((λ uss. (tt, tt)), tt)))
-    ((vstruct vnil ∷ [], tt), (refl, ((tt, (refl, tt)), tt)))
 
 pub new_spec : {M : Type 1} → statement M
 new_spec 𝓤 𝓛 𝓜 𝓡 wired =
@@ -32,7 +20,7 @@ new_spec 𝓤 𝓛 𝓜 𝓡 wired =
     enter ! 𝓣.C 𝓣.Λ fn [] Post $ alloc_all ! (λ l. pass_all ! refl tt $
     sets ! (agg ! (no_more !)) refl (tt, tt) $ sets ! (agg ! (and_then ! (get ! refl) (no_more !))) refl
     (tt, (tt, tt)) $
-    nothing ! $ use0 𝓛 (‵ (Mark.own_val (tt, tt) (mark ∷ []))) (mark_made 𝓛) $ fjoin ! $
+    nothing ! $ use0 𝓛 (‵ ((Mark Heap).own_val (tt, tt) (mark ∷ []))) (mark_made Heap 𝓛) $ fjoin ! $
     use0 𝓛 (raw (fact 𝓤 (made.count ≡ 0))) (fact_i 𝓤 (made.count ≡ 0) (emp 𝓤) refl) $ nothing ! $ nothing ! $
     returns ! (look_at ! 0 refl) $ free_all ! refl $ keep ! (0 ∷ 1 ∷ 3 ∷ 2 ∷ []) $ by !
     (leaves 𝓛 F.ended tt c z mark made tt tt)))
