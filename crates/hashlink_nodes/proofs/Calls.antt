@@ -134,14 +134,16 @@ module _ {K V : Type 0} where
   spare_of {s} {g} {first} {v = v} o some =
       take_spare s g first v.entries v.free v.link_writes o.ring (omega (arith, some, o.is_spare))
 
-  pub ready_spare : {s s' : State K V} {g first first' : Node} {len spare : ℕ} {v : Ring K V} (h : Held K V)
-      → Opened s g first len spare v → 0 < spare → first' ≡ s.next first → s' ≡ hold first (Some h) s
-      → Ready s' first g first' h (len + 1) (spare - 1) (ring v.entries (drop 1 v.free) v.link_writes)
-  ready_spare {s} {s'} {g} {first} {v = v} h o some is_first is =
-      let v' = ring v.entries (drop 1 v.free) v.link_writes in record {
-        ring = subst (λ m. IsRing s' (first ∷ []) g m v') (sym is_first)
+  pub ready_spare : {n : Inside K V} {s' : State K V} {g first' : Node} {h : Held K V} {v : Ring K V}
+      → IsSound n → ring_of n ≡ v → n.guard ≡ Some g → 0 < n.spare
+      → first' ≡ (state_of n.pool).next n.first_spare → s' ≡ hold n.first_spare (Some h) (state_of n.pool)
+      → Ready s' n.first_spare g first' h (n.len + 1) (n.spare - 1)
+      (ring v.entries (drop 1 v.free) v.link_writes)
+  ready_spare {n} {s'} {g} {h = h} {v} sound view is_guard some is_first is =
+      let o = opened sound view is_guard in let v' = ring v.entries (drop 1 v.free) v.link_writes in record {
+        ring = subst (λ m. IsRing s' (n.first_spare ∷ []) g m v') (sym is_first)
             (holds_now (spare_of o some).ring (Some h) is);
-        holds = held_now s is;
+        holds = held_now (state_of n.pool) is;
         is_len = omega (arith, o.is_len);
         is_spare = omega (arith, length-drop 1 v.free, o.is_spare);
       }
@@ -166,15 +168,16 @@ module _ {K V : Type 0} where
       ]) refl is
 
   -- a new node
-  pub ready_new : {s s₁ s₂ : State K V} {n g first : Node} {len spare : ℕ} {v : Ring K V} (h : Held K V)
-      → Opened s g first len spare v → Adds n s s₁ → len + spare + 1 < 2 ^ 63 → s₂ ≡ hold n (Some h) s₁
-      → Ready s₂ n g first h (len + 1) spare v
-  ready_new {s₁ = s₁} h o a few is = record {
-    ring = holds_now (added o.ring a (omega (arith, few, o.is_len, o.is_spare))) (Some h) is;
-    holds = held_now s₁ is;
-    is_len = omega (arith, o.is_len);
-    is_spare = o.is_spare;
-  }
+  pub ready_new : {n : Inside K V} {s s₁ s₂ : State K V} {m g : Node} {h : Held K V} {v : Ring K V}
+      → IsSound n → ring_of n ≡ v → GuardIs (state_of n.pool) s n.guard g → v.free ≡ [] → n.len + 1 < 2 ^ 63
+      → Adds m s s₁ → s₂ ≡ hold m (Some h) s₁ → Ready s₂ m g n.first_spare h (n.len + 1) n.spare v
+  ready_new {s₁ = s₁} {h = h} sound view is_guard none few a is =
+      let o = guarded_now sound view is_guard in record {
+        ring = holds_now (added o.ring a (omega (arith, few, o.is_len, ap length none))) (Some h) is;
+        holds = held_now s₁ is;
+        is_len = omega (arith, o.is_len);
+        is_spare = o.is_spare;
+      }
 
   -- ---- nodes are given back
   pub spare_gone : {s s' : State K V} {guard : Option Node} {g first first' : Node} {len spare : ℕ}

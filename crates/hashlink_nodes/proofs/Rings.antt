@@ -246,13 +246,11 @@ module _ {K V : Type 0} where
   module _ {s s' : State K V} {out : List Node} {g first n : Node} {v : Ring K V} (r : IsRing s out g first v)
       (off : IsOff n (g ∷ (keys_of v.entries ++ v.free))) (d : Differs n s s') where
     carried : {w : ℕ} → AllByRecursion (Has s) (g ∷ (keys_of v.entries ++ v.free)) → (out' : List Node)
-        → IsDistinct same_node (out' ++ g ∷ (keys_of v.entries ++ v.free))
-        → (AllByRecursion (Has s') (g ∷ (keys_of v.entries ++ v.free))
-        → AllByRecursion (Has s') (out' ++ g ∷ (keys_of v.entries ++ v.free)))
+        → IsDistinct same_node (out' ++ g ∷ (keys_of v.entries ++ v.free)) → AllByRecursion (Has s') out'
         → s'.size ≡ length out' + length v.entries + length v.free + 1
         → length out' + length v.entries + length v.free < 2 ^ 63 → s'.link_writes ≡ w
         → IsRing s' out' g first (ring v.entries v.free w)
-    carried there out' apart with_out size few writes =
+    carried there out' apart has_out size few writes =
         let ks = keys_of v.entries in let fs = v.free in
         let on_ring = all_left (Off n) (g ∷ ks) fs off in let on_free = all_right (Off n) (g ∷ ks) fs off in
         record {
@@ -264,7 +262,8 @@ module _ {K V : Type 0} where
           apart = apart;
           full = full_off d v.entries on_ring.1 r.full;
           bare = all_zip (λ m k o. d.held m (flip n m o) ∙ k) (g ∷ fs) r.bare (off.0, on_free);
-          there = with_out (all_zip (λ m k o. d.has m (flip n m o) ∙ k) (g ∷ (ks ++ fs)) there off);
+          there = all_both (Has s') out' (g ∷ (ks ++ fs)) has_out
+              (all_zip (λ m k o. d.has m (flip n m o) ∙ k) (g ∷ (ks ++ fs)) there off);
           size = size;
           few = few;
           writes = writes;
@@ -280,7 +279,7 @@ module _ {K V : Type 0} where
     kept : {w : ℕ} → IsRing s (n ∷ []) g first v → Differs n s s' → s'.has n ≡ true → s'.size ≡ s.size
         → s'.link_writes ≡ w → IsRing s' (n ∷ []) g first (ring v.entries v.free w)
     kept r d has size =
-        carried r (IsDistinct-head same_node n _ r.apart) d r.there.1 (n ∷ []) r.apart (λ k. (has, k))
+        carried r (IsDistinct-head same_node n _ r.apart) d r.there.1 (n ∷ []) r.apart (has, tt)
         (size ∙ r.size) r.few
 
     pub added : IsRing s [] g first v → Adds n s s' → length v.entries + length v.free + 1 < 2 ^ 63
@@ -288,12 +287,12 @@ module _ {K V : Type 0} where
     added r a few =
         let off = all_as (λ m k. has_not s n m a.absent k) (g ∷ (keys_of v.entries ++ v.free)) r.there in
         carried r off a.differs r.there (n ∷ []) (IsDistinct-cons same_node n _ off r.apart)
-        (λ k. (a.there, k)) (omega (arith, r.size, a.size)) (omega (arith, few)) (a.link_writes ∙ r.writes)
+        (a.there, tt) (omega (arith, r.size, a.size)) (omega (arith, few)) (a.link_writes ∙ r.writes)
 
     pub dropped : IsRing s (n ∷ []) g first v → Drops n s s' → IsRing s' [] g first v
     dropped r d =
         carried r (IsDistinct-head same_node n _ r.apart) d.differs r.there.1 []
-        (IsDistinct-tail same_node n _ r.apart) (λ k. k) (omega (arith, r.size, d.size))
+        (IsDistinct-tail same_node n _ r.apart) tt (omega (arith, r.size, d.size))
         (omega (arith, r.few)) (d.link_writes ∙ r.writes)
 
   module _ {s s' : State K V} {g first n : Node} {v : Ring K V} (r : IsRing s (n ∷ []) g first v) where

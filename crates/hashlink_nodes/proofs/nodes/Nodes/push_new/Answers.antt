@@ -1,38 +1,34 @@
 use Rattle.hashlink_nodes.proofs.Names.{◌+◌, Some, length, ap, sym, subst, refl, ◌∙◌, arith, state_of, held}
 use Rattle.hashlink_nodes.proofs.Names.{Pool}
-use Rattle.hashlink_nodes.proofs.Calls.{Ready, guarded_now, into_before, ready_new}
+use Rattle.hashlink_nodes.proofs.Calls.{guarded_now, into_before, ready_new}
 use Rattle.hashlink_nodes.proofs.Opening.{Leaves, known, leaves, seal}
 use Rattle.hashlink_nodes.proofs.nodes.Nodes.push_new.Given as given
-use Rattle.hashlink_nodes.proofs.nodes.Nodes.push_new.Goals.{After-fill, In-Err-make}
+use Rattle.hashlink_nodes.proofs.nodes.Nodes.push_new.Goals.{In-Err-make}
 use Rattle.hashlink_nodes.proofs.nodes.Nodes.push_new.Goals as goal
 
 pub fill-requires : goal.fill-requires
 fill-requires g c =
     let a = c.in-Ok-make.ensures.made in record { has = a.there; bare = a.bare; small = c.requires.small }
 
--- ---- the new node is ready, and goes in
-ready : (g : given.Over) (c : After-fill g)
-    → Ready (state_of c.fill.new.self) c.in-Ok-make.node c.in-Ok.guard c.self.inside.first_spare
-    (held c.args.number c.args.key c.args.value) (c.self.inside.len + 1) c.self.inside.spare c.args.self.now
-ready g c =
-    let room = (known c.self.invariant c.self.view_is).is_spare in
-    ready_new (held c.args.number c.args.key c.args.value)
-    (guarded_now c.self.invariant c.self.view_is c.in-Ok.ensures.made) c.in-Ok-make.ensures.made
-    (omega (arith, c.if-self-ge-MOST.false, ap length c.requires.none, room)) c.fill.ensures
-
+-- ---- the new node goes in
 pub attach_before-requires : goal.attach_before-requires
 attach_before-requires g c =
-    (into_before (ready g (goal.at.attach_before-requires g c).After-fill) c.args.place c.requires.place c.unwrap_or.ensures).fits
+    (into_before (ready_new c.self.invariant c.self.view_is c.in-Ok.ensures.made c.requires.none
+    (omega (arith, c.if-self-ge-MOST.false)) c.in-Ok-make.ensures.made c.fill.ensures) c.args.place
+    c.requires.place c.unwrap_or.ensures).fits
 
 pub invariant_of-self-in-Ok-make : goal.invariant_of-self-in-Ok-make
 invariant_of-self-in-Ok-make g c =
-    let i = into_before (ready g (goal.at.invariant_of-self-in-Ok-make g c).After-fill) c.args.place c.requires.place
-    c.unwrap_or.ensures in
+    let i = into_before (ready_new c.self.invariant c.self.view_is c.in-Ok.ensures.made c.requires.none
+    (omega (arith, c.if-self-ge-MOST.false)) c.in-Ok-make.ensures.made c.fill.ensures) c.args.place
+    c.requires.place c.unwrap_or.ensures in
     seal (i.leaves refl c.attach_before.ensures).sound
 
 pub returns-in-Ok-make : goal.returns-in-Ok-make
 returns-in-Ok-make g c =
-    let i = into_before (ready g (goal.at.returns-in-Ok-make g c).After-fill) c.args.place c.requires.place c.unwrap_or.ensures in
+    let i = into_before (ready_new c.self.invariant c.self.view_is c.in-Ok.ensures.made c.requires.none
+    (omega (arith, c.if-self-ge-MOST.false)) c.in-Ok-make.ensures.made c.fill.ensures) c.args.place
+    c.requires.place c.unwrap_or.ensures in
     let l = i.leaves refl c.attach_before.ensures in record {
       entries = l.entries;
       free = l.free ∙ c.requires.none;
