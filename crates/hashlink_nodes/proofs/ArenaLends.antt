@@ -82,8 +82,8 @@ module _ {M : Type 1} (𝓤 : Ura M) (𝓛 : Logic 𝓤) (𝓜 : Model 𝓤 𝓛
       exec ! 𝓣.C 𝓣.Λ Ev (after 1 fn.body) (at_ret Ev Post) $ sets ! (of_opd ! (get ! refl)) refl (tt, tt) $
       returns ! (look_at ! 0 refl) $ free_all ! refl $ keep ! (0 ∷ []) $ done !)))
 
-  begins : {K : Type 0} {Γ : List (Item 𝓤)} {τ : Ty} → K → field_of (layout (blocks.the_row R)) nth ≡ just (τ, off)
-      → (Post : Val → SProp 𝓤) (rb ro : ℕ) (p : Ptr)
+  begins : {K : Type 0} {Γ : List (Item 𝓤)} {τ : Ty} → K
+      → field_of (layout (blocks.the_row R)) nth ≡ just (τ, off) → (Post : Val → SProp 𝓤) (rb ro : ℕ) (p : Ptr)
       → Step K 𝓛 Γ (upd (mean 𝓛 (Address p Post))) Γ (prop (Runs (vptr rb ro ∷ word p ∷ []) Post))
   begins t e Post rb ro p = step (λ s. record { prf = found e Post rb ro p _ s.prf })
 

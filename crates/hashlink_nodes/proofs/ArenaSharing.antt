@@ -48,26 +48,19 @@ module _ {M : Type 1} {𝓤 : Ura M} (𝓛 : Logic 𝓤) (l : Lft) (R : RattleTy
 
   Lends-block : (p : Ptr) (k : Kept R.Denot) → Lends 𝓛 (block_owns R p k) (block_lent R p k) l
   Lends-block p k =
-      let number = lies_at usize full_share (number_of R p) (number_word k.entry) in
-      let links = lies_at Links full_share (links_of R p) k.links in
-      let number_lent = lent_at usize (number_of R p) (number_word k.entry) in
-      let links_lent = lent_at Links (links_of R p) k.links in
-      let numbered = fsep (is_small R k.entry) number in
-      let numbered_lent = beside (said (is_small R k.entry)) number_lent in
-      let linked = fsep links (deed_owns R p) in
-      Lends-both 𝓛 (pair_owns R p k.entry) (fsep numbered linked) (pair_lent R p k.entry)
-      (beside numbered_lent links_lent) l (Lends-pair p k.entry)
-      (Lends-both 𝓛 numbered linked numbered_lent links_lent l
-      (Lends-both 𝓛 (is_small R k.entry) number (said (is_small R k.entry)) number_lent l
-      (Lends-small k.entry)
+      let small = said (is_small R k.entry) in let links = lent_at Links (links_of R p) k.links in
+      let number = lent_at usize (number_of R p) (number_word k.entry) in
+      Lends-both 𝓛 _ _ (pair_lent R p k.entry) (beside (beside small number) links) l (Lends-pair p k.entry)
+      (Lends-both 𝓛 _ _ (beside small number) links l
+      (Lends-both 𝓛 _ _ small number l (Lends-small k.entry)
       (Lends-lies 𝓛 usize l (number_of R p) (number_word k.entry)
       (Shares-less 𝓛 usize usize.lives l (⊑_static l) (number_laws.shares M 𝓤 𝓛) (number_word k.entry))))
-      (Lends-first 𝓛 links (deed_owns R p) links_lent l
+      (Lends-first 𝓛 _ (deed_owns R p) links l
       (Lends-lies 𝓛 Links l (links_of R p) k.links
       (Shares-less 𝓛 Links Links.lives l (⊑_static l) (LL.shares 𝓛) k.links))))
 
   pub Lends-blocks : (bs : List (Node × Kept R.Denot)) → Lends 𝓛 (blocks_own R bs) (blocks_lent R bs) l
   Lends-blocks [] = Lends-nothing 𝓛 ftrue l
   Lends-blocks (b ∷ bs) =
-      Lends-both 𝓛 (block_owns R b.0.at b.1) (blocks_own R bs) (block_lent R b.0.at b.1) (blocks_lent R bs) l
-      (Lends-block b.0.at b.1) (Lends-blocks bs)
+      Lends-both 𝓛 _ _ (block_lent R b.0.at b.1) (blocks_lent R bs) l (Lends-block b.0.at b.1)
+      (Lends-blocks bs)

@@ -1,8 +1,9 @@
 -- What the walks of the arena's functions share. Assumes `Logic`.
 use Rattle.hashlink_nodes.proofs.Names.{◌≡◌, ◌^◌, List, [], ◌∷◌, refl, subst, Ura, lit<, int_big, w64, Fits}
+use denote.Shadow.{makes_shadow}
 use Rattle.hashlink_nodes.proofs.Names.{Val, vint, vstruct, vcons, vnil, SProp, ent, emp, guard_i, via, fact}
 use Rattle.hashlink_nodes.proofs.Names.{fact_i, prop, raw, use0, Item, Goal, Seq, Step, step, ◌$◌, Env, Opd}
-use Rattle.hashlink_nodes.proofs.Names.{Logic, sem, RattleType, makes_shadow, Laws, Struct, shape, Al, impl}
+use Rattle.hashlink_nodes.proofs.Names.{Logic, sem, RattleType, Laws, Struct, shape, Al, impl}
 use Rattle.hashlink_nodes.proofs.Names.{tnil, dnil, ftrue}
 use Rattle.hashlink_nodes.specs.contracts.arena.Arena as A
 use Rattle.hashlink_nodes.specs.contracts.node.Node as N

@@ -6,6 +6,7 @@ use Names.{length-drop, length-set_value, Node, Inside, same_node, state_of, Rin
 use Names.{IsSound, SoundAt, ring_of, State, GuardIs, attached, detached, hold, store_next, Adds, Drops}
 use Names.{AreThere, IsPlace, put_before, put_after, held, pair_of, with_number}
 use Rattle.std.proofs.Common.{drop}
+use Rattle.hashlink_nodes.specs.declared.pool.Pool.{Pool}
 use Rattle.hashlink_nodes.proofs.Paths.{head_or, last_or}
 use Rattle.hashlink_nodes.proofs.Cuts.{Gap, cut-removed, cut-renewed, before_place, after_place, same_some}
 use Rattle.hashlink_nodes.proofs.Rings.{Linked, linked, attach, Entries, InRing, in_ring, detach, held_out}
@@ -52,19 +53,19 @@ module _ {K V : Type 0} where
           r.is_spare;
     }
 
-    module _ (place : Option Node) (is_place : IsPlace v.entries place) {p : Node} (is_p : p ≡ unwrap_or place g)
-      where
-        pub into_before : Into s n g first (s.prev p) p len spare v (put_before place (n, h) v.entries)
-        into_before =
-            let at = before_place v.entries g place is_place in let is = is_p ∙ at.node in
-            let l = linked r.ring at.gap.before at.gap.after at.gap.is in
-            into at.gap l (ap s.prev is ∙ l.back) is
+    module _ (place : Option Node) (is_place : IsPlace v.entries place) {p : Node}
+        (is_p : p ≡ unwrap_or place g) where
+      pub into_before : Into s n g first (s.prev p) p len spare v (put_before place (n, h) v.entries)
+      into_before =
+          let at = before_place v.entries g place is_place in let is = is_p ∙ at.node in
+          let l = linked r.ring at.gap.before at.gap.after at.gap.is in
+          into at.gap l (ap s.prev is ∙ l.back) is
 
-        pub into_after : Into s n g first p (s.next p) len spare v (put_after place (n, h) v.entries)
-        into_after =
-            let at = after_place v.entries g place is_place in let is = is_p ∙ at.node in
-            let l = linked r.ring at.gap.before at.gap.after at.gap.is in
-            into at.gap l is (ap s.next is ∙ l.on)
+      pub into_after : Into s n g first p (s.next p) len spare v (put_after place (n, h) v.entries)
+      into_after =
+          let at = after_place v.entries g place is_place in let is = is_p ∙ at.node in
+          let l = linked r.ring at.gap.before at.gap.after at.gap.is in
+          into at.gap l is (ap s.next is ∙ l.on)
 
   -- ---- a node of the ring
   module _ {s : State K V} {guard : Option Node} {g first n : Node} {len spare : ℕ} {v : Ring K V}
@@ -166,6 +167,15 @@ module _ {K V : Type 0} where
             subst (λ (t : State K V × Node). Opened t.0 t.1 n.first_spare n.len n.spare v)
             (λ i. (sym m.1 i, sym m.0 i)) (opened sound view some)
       ]) refl is
+
+  -- and stays, if nothing else comes in
+  pub guard_stays : {n : Inside K V} {p p' : Pool K V} {g : Node} {v : Ring K V} → IsSound n → ring_of n ≡ v
+      → GuardIs (state_of n.pool) (state_of p) n.guard g → p' ≡ p
+      → Leaves (state_of p') (Some g) n.first_spare n.len n.spare v
+  guard_stays {n} {g = g} {v} sound view is_guard same =
+      let o = guarded_now sound view is_guard in
+      subst (λ (x : Pool K V). Leaves (state_of x) (Some g) n.first_spare n.len n.spare v) (sym same)
+      (leaves refl o.ring o.is_len o.is_spare)
 
   -- a new node
   pub ready_new : {n : Inside K V} {s s₁ s₂ : State K V} {m g : Node} {h : Held K V} {v : Ring K V}

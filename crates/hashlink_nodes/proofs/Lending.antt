@@ -1,7 +1,8 @@
 -- What a ring is where a node of it holds another value, written behind a `&mut` to the old one.
 use Rattle.hashlink_nodes.proofs.Names.{◌≡◌, Some, ap, sym, subst, ◌∙◌, option_map, option_map_or, set_value}
+use Rattle.hashlink_nodes.specs.NodesLends.{with_value_at}
 use Rattle.hashlink_nodes.proofs.Names.{lookup, Node, Inside, Ring, same_node, state_of, pool_with}
-use Rattle.hashlink_nodes.proofs.Names.{with_value_at, IsSound, ring_of, Held, Holds, pair_of, ring}
+use Rattle.hashlink_nodes.proofs.Names.{IsSound, ring_of, Held, Holds, pair_of, ring}
 use Rattle.hashlink_nodes.proofs.Names.{with_value, entry_in, refl}
 use Rattle.hashlink_nodes.proofs.StateLemmas.{pair_at, pair_anew, paired}
 use Rattle.hashlink_nodes.proofs.Cuts.{cut-looked}
@@ -10,7 +11,8 @@ use Rattle.hashlink_nodes.proofs.Calls.{renewed}
 
 pub lent : {K V : Type 0} {n : Inside K V} {v : Ring K V} → IsSound n → ring_of n ≡ v → (m : Node)
     → Holds v.entries m → (p : K × V) → option_map pair_of ((state_of n.pool).held m) ≡ Some p → (w : V)
-    → Leaves (state_of (pool_with n.pool m (p.0, w))) n.guard n.first_spare n.len n.spare (with_value_at v m w)
+    → Leaves (state_of (pool_with n.pool m (p.0, w))) n.guard n.first_spare n.len n.spare
+    (with_value_at v m w)
 lent {K} {V} {n} {v} sound view m there p is w =
     let at = node_in sound view m there in let bs = n.pool.arena.blocks in
     let change = λ (h : Held K V). with_value h w in

@@ -3,7 +3,6 @@ pub use Rattle.hashlink_nodes.specs.ArenaLends.{altered}
 pub use Rattle.hashlink_nodes.specs.Kept.{Kept, alter, entry_in, kept, number_word, with_entry, with_links}
 pub use Rattle.hashlink_nodes.specs.Kept.{with_pair}
 pub use Rattle.hashlink_nodes.specs.Node.{eq-same_node, same_node, same_node-refl, same_node_equiv}
-pub use Rattle.hashlink_nodes.specs.NodesLends.{with_value_at}
 pub use Rattle.hashlink_nodes.specs.Ownership.{Links, block_lent, block_owns, block_room, block_type}
 pub use Rattle.hashlink_nodes.specs.Ownership.{blocks_lent, blocks_own, deed_owns, is_small, links_of}
 pub use Rattle.hashlink_nodes.specs.Ownership.{links_offset, number_of, number_offset, pair_lent}
@@ -25,7 +24,6 @@ pub use Rattle.hashlink_nodes.specs.declared.arena.Arena.{Arena}
 pub use Rattle.hashlink_nodes.specs.declared.link_writes.LinkWrites.{LinkWrites}
 pub use Rattle.hashlink_nodes.specs.declared.node.Node.{Node}
 pub use Rattle.hashlink_nodes.specs.declared.nodes.Nodes.TheInside.{Inside}
-pub use Rattle.hashlink_nodes.specs.declared.pool.Pool.{Pool}
 pub use Rattle.hashlink_nodes.specs.declared.pool.links.Link.{Link}
 pub use Rattle.std.proofs.Common.{Bool, Bor, IsSome, List, MutBor, None, Option, Some, [], ap, arith, cond}
 pub use Rattle.std.proofs.Common.{false, length, refl, subst, suc, sym, true, zero, ℕ, ◌++◌, ◌+◌, ◌-◌, ◌<◌}
@@ -36,7 +34,6 @@ pub use Rattle.std.proofs.alloc.Calls.{Al, Goes-blank, handle_tells}
 pub use Rattle.std.proofs.alloc.Shapes.{after}
 pub use Rattle.std.proofs.lemmas.List.{append-nil, append_assoc, length-append, length-drop, map-append}
 pub use Rattle.std.proofs.lemmas.List.{nil_from_length}
-pub use Rattle.std.proofs.lemmas.List.Sorted.{IsPermutation-middle, IsPermutation-sym}
 pub use Rattle.std.proofs.lemmas.Map.{length-set_value, lookup-set_value}
 pub use Rattle.std.proofs.lemmas.Map.Entries.{length-keys_of}
 pub use Rattle.std.proofs.lemmas.Map.Keys.{IsDistinct-IsPermutation, IsDistinct-cons, IsDistinct-head}
@@ -69,7 +66,6 @@ pub use denote.Plain.{uint_in, uint_out}
 pub use denote.RattleType.{RattleType, RowLaws, Valss, owns}
 pub use denote.RawPtr.{Ptr, RawPtr, block_ptr, in_a_block, lies_at, null_ptr, ptr_val, room_for, ◌+ₚ◌}
 pub use denote.Ref.{MutRef}
-pub use denote.Shadow.{makes_shadow}
 pub use denote.Shares.{Shares-less}
 pub use denote.Sharing.{ShrLaws, beside, said}
 pub use denote.SharingLaws.{beside_shr_laws, nothing_shr_laws, said_shr_laws}

@@ -1,6 +1,7 @@
 -- Paths along links, and what stays of them where one link changes.
 use Rattle.hashlink_nodes.proofs.Names.{true, ◌≡◌, ℕ, zero, suc, false, cond, List, [], ◌∷◌, ◌++◌, length}
-use Rattle.hashlink_nodes.proofs.Names.{refl, sym, ap, ◌∙◌, subst, IsPermutation-middle, IsPermutation-sym}
+use Rattle.std.proofs.lemmas.List.Sorted.{IsPermutation-middle, IsPermutation-sym}
+use Rattle.hashlink_nodes.proofs.Names.{refl, sym, ap, ◌∙◌, subst}
 use Rattle.hashlink_nodes.proofs.Names.{IsDistinct-head, IsDistinct-tail, IsDistinct-cons}
 use Rattle.hashlink_nodes.proofs.Names.{IsDistinct-IsPermutation, AllByRecursion, IsDistinct, Node, same_node}
 use Rattle.hashlink_nodes.proofs.Names.{same_node_equiv, same_node-refl, set_at, IsLinked, IsChain, walk}

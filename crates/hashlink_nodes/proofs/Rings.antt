@@ -210,8 +210,8 @@ module _ {K V : Type 0} where
   full_off {n = n} d (e ∷ es) off h = (d.held e.0 (flip n e.0 off.0) ∙ h.0, full_off d es off.1 h.1)
 
   -- a node of the ring holds something else
-  pub renew : {s s' : State K V} {g first : Node} (n : Node) (h : Held K V) (xs ys : Entries K V) {fs : List Node}
-      {w : ℕ} → IsRing s [] g first (ring (xs ++ (n, h) ∷ ys) fs w) → (x : Held K V) → s' ≡ hold n (Some x) s
+  pub renew : {s s' : State K V} {g first : Node} (n : Node) (h : Held K V) (xs ys : Entries K V)
+      {fs : List Node} {w : ℕ} → IsRing s [] g first (ring (xs ++ (n, h) ∷ ys) fs w) → (x : Held K V) → s' ≡ hold n (Some x) s
       → IsRing s' [] g first (ring (xs ++ (n, x) ∷ ys) fs w)
   unfolding hold
   renew {s} {s'} {g} {first} n h xs ys {fs} {w} r x is =

@@ -197,7 +197,8 @@ module _ {K V : Type 0} where
       → bs' ≡ (n, kept l None) ∷ bs → IsNone (lookup (same_node n) bs)
       → Adds n (state bs count) (state bs' count)
   added bs count n l is apart =
-      let b = kept {T = K × V} l None in let found = λ (m : Node) (y : Bool). cond y (Some b) (lookup (same_node m) bs) in
+      let b = kept {T = K × V} l None in
+      let found = λ (m : Node) (y : Bool). cond y (Some b) (lookup (same_node m) bs) in
       subst (λ x. Adds n (state bs count) (state x count)) (sym is) (record {
         differs = differs bs ((n, b) ∷ bs) (λ m k. ap (found m) k);
         absent = apart;

@@ -89,7 +89,8 @@ give_back_spec 𝓤 𝓛 𝓜 𝓡 wired T L =
     use1 𝓛 (‵ (froom (bare τ) b at)) (𝓛.laws.room-raw τ b at) $
     -- [room for the links; the deed; room for the number, for the pair]
     move ! (3 ∷ 2 ∷ 0 ∷ []) $ fjoin3 ! $
-    -- [the room; the deed; the others; the mark; its cell; the open borrow; obs; auth; a token; nothing; the handle]
+    -- [the room; the deed; the others; the mark; its cell; the open borrow; obs; auth; a token; nothing; the
+    -- handle]
     sets ! (is ! (of_opd ! (get_in ! (fld ! refl (stop !)) (sub ! 0 refl (whole !)))) (ap ptr_val e)) refl
     (tt, tt) $
     sets ! (agg ! (and_then ! (get ! refl) (and_then ! (get ! refl) (no_more !)))) refl

@@ -13,8 +13,8 @@ use Rattle.hashlink_nodes.proofs.arena.Arena.number.Code as code
 pub number_spec : {M : Type 1} → statement M
 number_spec 𝓤 𝓛 𝓜 𝓡 wired T L =
     let R : RattleType = param 0 T in let inst = layouts (a_type ∷ []) (T, tt) in
-    shared 𝓤 𝓛 𝓜 𝓡 T usize tt (number_offset R) (F.Key.name inst) imm 1 (code.unfolded 𝓤 𝓛.H 𝓜 𝓡 wired (T, tt))
-    (F.clauses T 𝓛 𝓜.mem 𝓡.returns) refl
+    shared 𝓤 𝓛 𝓜 𝓡 T usize tt (number_offset R) (F.Key.name inst) imm 1
+    (code.unfolded 𝓤 𝓛.H 𝓜 𝓡 wired (T, tt)) (F.clauses T 𝓛 𝓜.mem 𝓡.returns) refl
     (record {
       Asked = λ a n. IsSome (lookup (same_node n) a.blocks);
       Seen = λ a n held. IfSome (found _ held).0.entry (λ x. x.0 < 2 ^ 48);

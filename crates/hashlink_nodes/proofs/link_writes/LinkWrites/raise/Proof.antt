@@ -14,7 +14,8 @@ pub raise_spec : {M : Type 1} → statement M
 raise_spec 𝓤 𝓛 𝓜 𝓡 wired =
     let H = 𝓛.H in let 𝓣 = tables 𝓤 H 𝓜 𝓡 𝓡.env in let c = F.clauses 𝓛 𝓜.mem 𝓡.returns in let fn =
     code.function in
-    let hs : Stays F.ended.signature.params F.ended.kept = (stay_ref (0 ∷ []) tt (plain (λ _. the_row)), tt) in
+    let hs : Stays F.ended.signature.params F.ended.kept
+    = (stay_ref (0 ∷ []) tt (plain (λ _. the_row)), tt) in
     proved_at 𝓛 F.ended hs c 𝓜 𝓡 (Goes-ref 𝓛 1 0 tt (plain (λ _. the_row)), tt) F.Key.name fn
     (code.unfolded 𝓤 H 𝓜 𝓡 wired)
     (λ z are.

@@ -15,7 +15,10 @@ invariant_of-self-lent g c = λ w. record {
 
 pub returns : goal.returns
 returns g c = (
-  (refl, λ w. (lent c.self.invariant c.self.view_is c.args.node c.requires _ c.entry_mut.ensures.pair w).view),
+  (
+    refl,
+    λ w. (lent c.self.invariant c.self.view_is c.args.node c.requires _ c.entry_mut.ensures.pair w).view,
+  ),
   record {
     lends = tt;
     pair =

@@ -1,9 +1,6 @@
 use Rattle.hashlink_nodes.proofs.Names.{◌+◌, Some, length, ap, sym, subst, refl, ◌∙◌, arith, state_of, held}
-use Rattle.hashlink_nodes.proofs.Names.{Pool}
-use Rattle.hashlink_nodes.proofs.Calls.{guarded_now, into_before, ready_new}
-use Rattle.hashlink_nodes.proofs.Opening.{Leaves, known, leaves, seal}
-use Rattle.hashlink_nodes.proofs.nodes.Nodes.push_new.Given as given
-use Rattle.hashlink_nodes.proofs.nodes.Nodes.push_new.Goals.{In-Err-make}
+use Rattle.hashlink_nodes.proofs.Calls.{guard_stays, into_before, ready_new}
+use Rattle.hashlink_nodes.proofs.Opening.{seal}
 use Rattle.hashlink_nodes.proofs.nodes.Nodes.push_new.Goals as goal
 
 pub fill-requires : goal.fill-requires
@@ -39,19 +36,11 @@ returns-in-Ok-make g c =
     }
 
 -- ---- it is refused, and the guard stays
-stays : (g : given.Over) (c : In-Err-make g)
-    → Leaves (state_of c.make.new.self) (Some c.in-Ok.guard) c.self.inside.first_spare c.self.inside.len
-    c.self.inside.spare c.args.self.now
-stays g c =
-    let o = guarded_now c.self.invariant c.self.view_is c.in-Ok.ensures.made in
-    let C : Type 0 = Pool g.row.K.Denot g.row.V.Denot in
-    subst
-    (λ (x : C). Leaves (state_of x) (Some c.in-Ok.guard) c.self.inside.first_spare c.self.inside.len
-    c.self.inside.spare c.args.self.now)
-    (sym c.in-Err-make.ensures.refused) (leaves refl o.ring o.is_len o.is_spare)
-
 pub invariant_of-self-in-Err-make : goal.invariant_of-self-in-Err-make
-invariant_of-self-in-Err-make g c = seal (stays g c).sound
+invariant_of-self-in-Err-make g c =
+    seal (guard_stays c.self.invariant c.self.view_is c.in-Ok.ensures.made
+    c.in-Err-make.ensures.refused).sound
 
 pub returns-in-Err-make-clause-refused : goal.returns-in-Err-make-clause-refused
-returns-in-Err-make-clause-refused g c = (stays g c).view
+returns-in-Err-make-clause-refused g c =
+    (guard_stays c.self.invariant c.self.view_is c.in-Ok.ensures.made c.in-Err-make.ensures.refused).view
