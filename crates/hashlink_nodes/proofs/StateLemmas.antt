@@ -11,34 +11,19 @@ use Rattle.hashlink_nodes.proofs.Opening.{length-removed}
 use Rattle.hashlink_nodes.proofs.Paths.{set_at_here, set_at_other}
 use Rattle.hashlink_nodes.specs.declared.pool.links.Links.{Links}
 
-module _ {X : Type 0} where
-  lookup_set : (n m : Node) (bs : List (Node × X)) (b w : X) → lookup (same_node n) bs ≡ Some b
-      → lookup (same_node m) (set_value (same_node n) bs w)
-      ≡ cond (same_node m n) (Some w) (lookup (same_node m) bs)
-  lookup_set n m bs b w e =
-      let there : is_some (lookup (same_node n) bs) ≡ true = ap is_some e in
-      lookup-set_value same_node_equiv (same_node n) (λ x y h. same_node_equiv.congr n x y h) m w bs there
-      ∙ ap (λ y. cond y (Some w) (lookup (same_node m) bs)) (same_node_equiv.symm n m)
+module _ {X Y : Type 0} (f : Option X → Y) where
+  picked : (y : Bool) (w : X) (o : Option X) → f (cond y (Some w) o) ≡ cond y (f (Some w)) (f o)
+  picked true w o = refl
+  picked false w o = refl
 
-  -- what is read of a node whose block comes first
-  seen_first : {Y : Type 0} (f : Node → Option X → Y) (n m : Node) (w : X) (o : Option X)
-      → f m (cond (same_node m n) (Some w) o) ≡ cond (same_node m n) (f n (Some w)) (f m o)
-  seen_first f n m w o =
-      (elim (same_node m n) as
-      (λ (y : Bool). same_node m n ≡ y → f m (cond y (Some w) o) ≡ cond y (f n (Some w)) (f m o)) [
-        | true ↦ λ same. ap (λ k. f k (Some w)) (eq-same_node m n same)
-        | false ↦ λ _. refl
-      ]) refl
-
-  -- what is read of each node
-  abbrev reads : {Y : Type 0} → (Node → Option X → Y) → List (Node × X) → Node → Y
-  reads f bs m = f m (lookup (same_node m) bs)
-
-  module _ {Y : Type 0} (f : Node → Option X → Y) (n : Node) (bs : List (Node × X)) (b w : X)
-      (e : lookup (same_node n) bs ≡ Some b) where
-    -- after a write at n
-    seen_at : reads f (set_value (same_node n) bs w) ≡ set_at (reads f bs) n (f n (Some w))
-    seen_at = λ i m. (ap (f m) (lookup_set n m bs b w e) ∙ seen_first f n m w (lookup (same_node m) bs)) i
+  -- what is read of each node after a write at n
+  seen_at : (n : Node) (bs : List (Node × X)) (w : X) → is_some (lookup (same_node n) bs) ≡ true
+      → (λ m. f (lookup (same_node m) (set_value (same_node n) bs w)))
+      ≡ set_at (λ m. f (lookup (same_node m) bs)) n (f (Some w))
+  seen_at n bs w there = λ i m.
+      (ap f (lookup-set_value same_node_equiv (same_node n) (same_node_equiv.congr n) m w bs there)
+      ∙ ap (λ y. f (cond y (Some w) (lookup (same_node m) bs))) (same_node_equiv.symm n m)
+      ∙ picked (same_node m n) w (lookup (same_node m) bs)) i
 
 -- f, but at n what it is there
 set_same : {X : Type 0} (f : Node → X) (n : Node) (x : X) → x ≡ f n → set_at f n x ≡ f
@@ -99,10 +84,10 @@ module _ {K V : Type 0} (bs : Blocks K V) (count count' : ℕ) (n : Node) (k : K
     link_writes = count';
   }
   changed_state f = ap (λ x. state x count') (is_set f) ∙ (λ i. record {
-    next = seen_at next_in n bs k (f k) e i;
-    prev = seen_at prev_in n bs k (f k) e i;
-    held = seen_at (λ m. held_in) n bs k (f k) e i;
-    has = (seen_at (λ m. is_some) n bs k (f k) e ∙ set_same S.has n true (ap is_some (sym e))) i;
+    next = seen_at next_in n bs (f k) (ap is_some e) i;
+    prev = seen_at prev_in n bs (f k) (ap is_some e) i;
+    held = seen_at held_in n bs (f k) (ap is_some e) i;
+    has = (seen_at is_some n bs (f k) (ap is_some e) ∙ set_same S.has n true (ap is_some (sym e))) i;
     size = length-set_value (same_node n) bs (f k) i;
     link_writes = count';
   })
@@ -111,10 +96,10 @@ module _ {K V : Type 0} (bs : Blocks K V) (count count' : ℕ) (n : Node) (k : K
   same_held = set_same S.held n (held_in (Some k)) (ap held_in (sym e))
 
   same_next : (to : Node) → to ≡ k.links.next.to → set_at S.next n to ≡ S.next
-  same_next to is = set_same S.next n to (is ∙ ap (next_in n) (sym e))
+  same_next to is = set_same S.next n to (is ∙ ap next_in (sym e))
 
   same_prev : (to : Node) → to ≡ k.links.prev.to → set_at S.prev n to ≡ S.prev
-  same_prev to is = set_same S.prev n to (is ∙ ap (prev_in n) (sym e))
+  same_prev to is = set_same S.prev n to (is ∙ ap prev_in (sym e))
 
   module _ (l : Links) (is_l : k.links ≡ l) (to : Node) (link : Link) (is_new : link ≡ record { to = to })
       (raised : count' ≡ count + 1) where
@@ -186,8 +171,8 @@ module _ {K V : Type 0} where
       → ((m : Node) → same_node m n ≡ false → lookup (same_node m) bs' ≡ lookup (same_node m) bs)
       → Differs n (state bs count) (state bs' count')
   differs bs bs' at = record {
-    next = λ m k. ap (next_in m) (at m k);
-    prev = λ m k. ap (prev_in m) (at m k);
+    next = λ m k. ap next_in (at m k);
+    prev = λ m k. ap prev_in (at m k);
     held = λ m k. ap held_in (at m k);
     has = λ m k. ap is_some (at m k);
   }

@@ -1,6 +1,7 @@
 -- What the blocks of a ring say, read at any node: its links and what it holds.
 use Rattle.std.specs.Prelude.{ℕ, ◌+◌, ◌≡◌, Bool, true, false, cond, List, length, Option, None, Some, is_some}
 use Rattle.std.specs.Map.{lookup}
+use denote.RawPtr.{null_ptr}
 use Rattle.hashlink_nodes.specs.Node.{same_node}
 use Rattle.hashlink_nodes.specs.declared.node.Node.{Node}
 use Rattle.hashlink_nodes.specs.declared.held.Held.{Held}
@@ -26,22 +27,22 @@ abbrev pub Blocks : Type 0 → Type 0 → Type 0
 Blocks K V = List (Node × Kept (K × V))
 
 module _ {K V : Type 0} where
-  -- a node without a block reads as one that links to itself and holds nothing
-  abbrev pub next_in : Node → Option (Kept (K × V)) → Node
-  next_in n None = n
-  next_in n (Some b) = b.links.next.to
+  -- a node without a block reads as one that links nowhere and holds nothing
+  abbrev pub next_in : Option (Kept (K × V)) → Node
+  next_in None = record { at = null_ptr }
+  next_in (Some b) = b.links.next.to
 
-  abbrev pub prev_in : Node → Option (Kept (K × V)) → Node
-  prev_in n None = n
-  prev_in n (Some b) = b.links.prev.to
+  abbrev pub prev_in : Option (Kept (K × V)) → Node
+  prev_in None = record { at = null_ptr }
+  prev_in (Some b) = b.links.prev.to
 
   abbrev pub held_in : Option (Kept (K × V)) → Option (Held K V)
   held_in b = option_map (λ e. held e.0 e.1.0 e.1.1) (entry_in b)
 
   abbrev pub state : Blocks K V → ℕ → State K V
   state bs writes = record {
-    next = λ n. next_in n (lookup (same_node n) bs);
-    prev = λ n. prev_in n (lookup (same_node n) bs);
+    next = λ n. next_in (lookup (same_node n) bs);
+    prev = λ n. prev_in (lookup (same_node n) bs);
     held = λ n. held_in (lookup (same_node n) bs);
     has = λ n. is_some (lookup (same_node n) bs);
     size = length bs;
