@@ -83,7 +83,8 @@ module _ {M : Type 1} (𝓤 : Ura M) (𝓛 : Logic 𝓤) (𝓜 : Model 𝓤 𝓛
       returns ! (look_at ! 0 refl) $ free_all ! refl $ keep ! (0 ∷ []) $ done !)))
 
   begins : {K : Type 0} {Γ : List (Item 𝓤)} {τ : Ty} → K
-      → field_of (layout (blocks.the_row R)) nth ≡ just (τ, off) → (Post : Val → SProp 𝓤) (rb ro : ℕ) (p : Ptr)
+      → field_of (layout (blocks.the_row R)) nth ≡ just (τ, off)
+      → (Post : Val → SProp 𝓤) (rb ro : ℕ) (p : Ptr)
       → Step K 𝓛 Γ (upd (mean 𝓛 (Address p Post))) Γ (prop (Runs (vptr rb ro ∷ word p ∷ []) Post))
   begins t e Post rb ro p = step (λ s. record { prf = found e Post rb ro p _ s.prf })
 

@@ -1,10 +1,10 @@
 -- What the walks of the arena's functions share. Assumes `Logic`.
-use Rattle.hashlink_nodes.proofs.Names.{◌≡◌, ◌^◌, List, [], ◌∷◌, refl, subst, Ura, lit<, int_big, w64, Fits}
+use Rattle.hashlink_nodes.proofs.Names.{ℕ, ◌<◌, ty_int, Good, ◌≡◌, ◌^◌, List, [], ◌∷◌, refl, subst, Ura, lit<}
+use Rattle.hashlink_nodes.proofs.Names.{int_big, w64, Fits, Val, vint, vstruct, vcons, vnil, SProp, ent, emp}
+use Rattle.hashlink_nodes.proofs.Names.{guard_i, via, fact, fact_i, prop, raw, use0, Item, Goal, Seq, Step}
+use Rattle.hashlink_nodes.proofs.Names.{step, ◌$◌, Env, Opd, Logic, sem, RattleType, Laws, Struct, shape, Al}
+use Rattle.hashlink_nodes.proofs.Names.{impl, tnil, dnil, ftrue}
 use denote.Shadow.{makes_shadow}
-use Rattle.hashlink_nodes.proofs.Names.{Val, vint, vstruct, vcons, vnil, SProp, ent, emp, guard_i, via, fact}
-use Rattle.hashlink_nodes.proofs.Names.{fact_i, prop, raw, use0, Item, Goal, Seq, Step, step, ◌$◌, Env, Opd}
-use Rattle.hashlink_nodes.proofs.Names.{Logic, sem, RattleType, Laws, Struct, shape, Al, impl}
-use Rattle.hashlink_nodes.proofs.Names.{tnil, dnil, ftrue}
 use Rattle.hashlink_nodes.specs.contracts.arena.Arena as A
 use Rattle.hashlink_nodes.specs.contracts.node.Node as N
 use Rattle.std.specs.contracts.alloc.Global as heap
@@ -26,6 +26,9 @@ pub mark_made : (R : RattleType) {M : Type 1} {𝓤 : Ura M} (𝓛 : Logic 𝓤)
 mark_made R 𝓛 =
     makes_shadow 𝓛 ((Mark R).own_val (tt, tt) (mark ∷ [])) (λ vss. (tt, ((λ uss. (tt, tt)), tt)))
     ((vstruct vnil ∷ [], tt), (refl, ((tt, (refl, tt)), tt)))
+
+pub fits_word : {n : ℕ} → n < 2 ^ 64 → Good (ty_int w64) (vint w64 n)
+fits_word p = (tt, record { fits = p })
 
 -- what std's lemmas on machine values ask for beside a row, and do not look at
 abbrev pub as_handle : (R : RattleType) → Laws R → Al

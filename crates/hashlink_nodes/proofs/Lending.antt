@@ -1,9 +1,8 @@
 -- What a ring is where a node of it holds another value, written behind a `&mut` to the old one.
 use Rattle.hashlink_nodes.proofs.Names.{◌≡◌, Some, ap, sym, subst, ◌∙◌, option_map, option_map_or, set_value}
+use Rattle.hashlink_nodes.proofs.Names.{lookup, Node, Inside, Ring, same_node, state_of, pool_with, IsSound}
+use Rattle.hashlink_nodes.proofs.Names.{ring_of, Held, Holds, pair_of, ring, with_value, entry_in, refl}
 use Rattle.hashlink_nodes.specs.NodesLends.{with_value_at}
-use Rattle.hashlink_nodes.proofs.Names.{lookup, Node, Inside, Ring, same_node, state_of, pool_with}
-use Rattle.hashlink_nodes.proofs.Names.{IsSound, ring_of, Held, Holds, pair_of, ring}
-use Rattle.hashlink_nodes.proofs.Names.{with_value, entry_in, refl}
 use Rattle.hashlink_nodes.proofs.StateLemmas.{pair_at, pair_anew, paired}
 use Rattle.hashlink_nodes.proofs.Cuts.{cut-looked}
 use Rattle.hashlink_nodes.proofs.Opening.{Leaves, node_in}

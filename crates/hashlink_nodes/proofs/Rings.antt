@@ -211,8 +211,8 @@ module _ {K V : Type 0} where
 
   -- a node of the ring holds something else
   pub renew : {s s' : State K V} {g first : Node} (n : Node) (h : Held K V) (xs ys : Entries K V)
-      {fs : List Node} {w : ℕ} → IsRing s [] g first (ring (xs ++ (n, h) ∷ ys) fs w) → (x : Held K V) → s' ≡ hold n (Some x) s
-      → IsRing s' [] g first (ring (xs ++ (n, x) ∷ ys) fs w)
+      {fs : List Node} {w : ℕ} → IsRing s [] g first (ring (xs ++ (n, h) ∷ ys) fs w) → (x : Held K V)
+      → s' ≡ hold n (Some x) s → IsRing s' [] g first (ring (xs ++ (n, x) ∷ ys) fs w)
   unfolding hold
   renew {s} {s'} {g} {first} n h xs ys {fs} {w} r x is =
       let ks = keys_of xs in let ls = keys_of ys in let d = differs_hold n (Some x) s in

@@ -12,7 +12,7 @@ use Names.{nothing, heard, opens, closes, Stays, stay_dropped, stay_ref, walk_of
 use Names.{after, word, word-Good, proved_at, leaves, flt_l, unit_lit, same_node, alter, entry_in}
 use Names.{number_word, with_entry, Links, blocks_own, block_owns, pair_owns, pair_room, pair_offset}
 use Names.{is_small, number_of, number_offset, links_of, deed_owns, Arena, arena_row}
-use Rattle.hashlink_nodes.proofs.ArenaSteps.{Nd, no_box, as_handle, args_are, states}
+use Rattle.hashlink_nodes.proofs.ArenaSteps.{fits_word, Nd, no_box, as_handle, args_are, states}
 use Rattle.hashlink_nodes.proofs.ArenaBlocks.{found, blocks_cut, blocks_glue, small_shown}
 use Rattle.hashlink_nodes.specs.contracts.arena.Arena.fill as F
 use Rattle.hashlink_nodes.proofs.arena.Arena.fill.Statement.{statement}
@@ -20,33 +20,21 @@ use Rattle.hashlink_nodes.proofs.arena.Arena.fill.Code as code
 
 pub fill_spec : {M : Type 1} → statement M
 fill_spec 𝓤 𝓛 𝓜 𝓡 wired T L =
-    let H = 𝓛.H in
-    let 𝓣 = tables 𝓤 H 𝓜 𝓡 𝓡.env in
+    let H = 𝓛.H in let 𝓣 = tables 𝓤 H 𝓜 𝓡 𝓡.env in
     let R : RattleType = param 0 T in let En = F.ended T in let c = F.clauses T 𝓛 𝓜.mem 𝓡.returns in
     let inst = layouts (a_type ∷ []) (T, tt) in
     let fn = inst_fn inst code.function in let Ar : RattleType = arena_row R in
     let hs : Stays En.signature.params En.kept
     = (
       stay_ref (0 ∷ []) tt (plain (λ _. Ar)),
-      (
-        stay_dropped (plain (λ _. Nd)) yes,
-        (stay_dropped (plain (λ _. usize)) yes, (stay_dropped (plain (λ _. R)) no, tt)),
-      ),
-    )
-    in
-    proved_at 𝓛 En hs c 𝓜 𝓡 (
-      Goes-ref 𝓛 2 0 tt (plain (λ _. Ar)),
-      (
-        Goes-dropped 𝓛 2 (plain (λ _. Nd)) yes (λ κs x f. refl),
-        (
-          Goes-dropped 𝓛 2 (plain (λ _. usize)) yes (λ κs x f. refl),
-          (Goes-dropped 𝓛 2 (plain (λ _. R)) no (λ κs x f. refl), tt),
-        ),
-      ),
-    )
+      (stay_dropped _ yes, (stay_dropped _ yes, (stay_dropped _ no, tt))),
+    ) in
+    let node_goes = Goes-dropped 𝓛 2 (plain (λ _. Nd)) yes (λ κs x f. refl) in
+    let number_goes = Goes-dropped 𝓛 2 (plain (λ _. usize)) yes (λ κs x f. refl) in
+    let pair_goes = Goes-dropped 𝓛 2 (plain (λ _. R)) no (λ κs x f. refl) in
+    proved_at 𝓛 En hs c 𝓜 𝓡 (Goes-ref 𝓛 2 0 tt (plain (λ _. Ar)), (node_goes, (number_goes, (pair_goes, tt))))
     (F.Key.name inst) fn (code.unfolded 𝓤 H 𝓜 𝓡 wired (T, tt)) (λ z are.
-    let κs = z.0.0 in
-    let qs = z.0.1 in
+    let κs = z.0.0 in let qs = z.0.1 in
     let Post : Val → SProp 𝓤 = (walk_of 𝓛 En hs c).post z in
     let Run : List Val → SProp 𝓤 = λ ws. WpFn 𝓤 H 𝓣.C 𝓣.Λ fn ws Post in
     let a = z.0.3.0.now in
@@ -72,7 +60,7 @@ fill_spec 𝓤 𝓛 𝓜 𝓡 wired T L =
     args_are ! (λ (us : List Val × List Val × List Val × List Val). Run
     (us.0 ++ (us.1 ++ (us.2 ++ (us.3 ++ []))))) (λ j. (sym e0 j, sym e1 j, sym e2 j, sym e3 j)) $
     enter ! 𝓣.C 𝓣.Λ fn (vptr rb ro ∷ word n.at ∷ vint w64 number ∷ v ∷ []) Post $ alloc_all !
-    (λ l. pass_all ! refl ((tt, tt), (word-Good [] n.at, ((tt, record { fits = fits }), (good, tt)))) $
+    (λ l. pass_all ! refl ((tt, tt), (word-Good [] n.at, ((fits_word fits), (good, tt)))) $
     let Ev = env fn.locals l in
     move ! (4 ∷ 5 ∷ 0 ∷ []) $ opens ! tt Ar {h = a} rb ro
     (λ vs. move ! (1 ∷ []) $ fsplit ! $ move ! (1 ∷ []) $
@@ -96,11 +84,7 @@ fill_spec 𝓤 𝓛 𝓜 𝓡 wired T L =
     sets ! (is ! (of_opd ! (get_in ! (fld ! refl (stop !)) (sub ! 0 refl (whole !)))) (ap ptr_val e)) refl
     (tt, tt) $
     first ! $ blocks ! $ sets ! (addr ! (through ! refl (fld ! refl (stop !)))) refl (tt, tt) $
-    assigns ! (of_opd ! (get ! refl)) (through ! refl (stop !)) (store ! 0 refl (
-      tt,
-      record
-          { fits = fits },
-    )) $
+    assigns ! (of_opd ! (get ! refl)) (through ! refl (stop !)) (store ! 0 refl (fits_word fits)) $
     sets ! (addr ! (through ! refl (fld ! refl (stop !)))) refl (tt, tt) $
     sets ! (of_opd ! (get ! refl)) refl good $
     assigns_last ! (of_opd ! (get ! refl)) (through ! refl (stop !)) (init ! 1 refl good) $

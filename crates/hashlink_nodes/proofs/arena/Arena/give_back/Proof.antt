@@ -20,27 +20,17 @@ use Rattle.hashlink_nodes.proofs.arena.Arena.give_back.Code as code
 
 pub give_back_spec : {M : Type 1} → statement M
 give_back_spec 𝓤 𝓛 𝓜 𝓡 wired T L =
-    let H = 𝓛.H in
-    let 𝓣 = tables 𝓤 H 𝓜 𝓡 𝓡.env in
+    let H = 𝓛.H in let 𝓣 = tables 𝓤 H 𝓜 𝓡 𝓡.env in
     let R : RattleType = param 0 T in let En = F.ended T in let c = F.clauses T 𝓛 𝓜.mem 𝓡.returns in
     let inst = layouts (a_type ∷ []) (T, tt) in
     let fn = inst_fn inst code.function in let Ar : RattleType = arena_row R in
     let hs : Stays En.signature.params En.kept
-    = (
-      stay_ref (0 ∷ []) tt (plain (λ _. Ar)),
-      (stay_dropped (plain (λ _. Nd)) yes, (stay_dropped (plain (λ _. Heap)) yes, tt)),
-    )
-    in
-    proved_at 𝓛 En hs c 𝓜 𝓡 (
-      Goes-ref 𝓛 2 0 tt (plain (λ _. Ar)),
-      (
-        Goes-dropped 𝓛 2 (plain (λ _. Nd)) yes (λ κs x f. refl),
-        (Goes-dropped 𝓛 2 (plain (λ _. Heap)) yes (λ κs x f. refl), tt),
-      ),
-    )
+    = (stay_ref (0 ∷ []) tt (plain (λ _. Ar)), (stay_dropped _ yes, (stay_dropped _ yes, tt))) in
+    let node_goes = Goes-dropped 𝓛 2 (plain (λ _. Nd)) yes (λ κs x f. refl) in
+    let heap_goes = Goes-dropped 𝓛 2 (plain (λ _. Heap)) yes (λ κs x f. refl) in
+    proved_at 𝓛 En hs c 𝓜 𝓡 (Goes-ref 𝓛 2 0 tt (plain (λ _. Ar)), (node_goes, (heap_goes, tt)))
     (F.Key.name inst) fn (code.unfolded 𝓤 H 𝓜 𝓡 wired (T, tt)) (λ z are.
-    let κs = z.0.0 in
-    let qs = z.0.1 in
+    let κs = z.0.0 in let qs = z.0.1 in
     let Post : Val → SProp 𝓤 = (walk_of 𝓛 En hs c).post z in
     let Run : List Val → SProp 𝓤 = λ ws. WpFn 𝓤 H 𝓣.C 𝓣.Λ fn ws Post in
     let a = z.0.3.0.now in

@@ -10,7 +10,7 @@ use Names.{yes, lone, part_at, uint_in, RattleType, owns, block_ptr, types_at, p
 use Names.{opens, closes, Stays, stay_dropped, stay_ref, walk_of, Goes-dropped, Goes-ref, Goes-blank, after}
 use Names.{word, word-Good, proved_at, leaves, same_node, Kept, kept, Links, number_offset, links_offset}
 use Names.{Arena, Node, arena_row, IsNone}
-use Rattle.hashlink_nodes.proofs.ArenaSteps.{as_handle, no_entry, no_box, args_are, states}
+use Rattle.hashlink_nodes.proofs.ArenaSteps.{fits_word, as_handle, no_entry, no_box, args_are, states}
 use Rattle.hashlink_nodes.proofs.ArenaBlocks.{small_shown, apart_from, knows}
 use Rattle.hashlink_nodes.proofs.ArenaSharing.{LL}
 use Rattle.hashlink_nodes.proofs.VacantSteps.{both, Vacant, vacant_good, vacant_out}
@@ -20,28 +20,18 @@ use Rattle.hashlink_nodes.proofs.arena.Arena.keep.Code as code
 
 pub keep_spec : {M : Type 1} → statement M
 keep_spec 𝓤 𝓛 𝓜 𝓡 wired T L =
-    let H = 𝓛.H in
-    let 𝓣 = tables 𝓤 H 𝓜 𝓡 𝓡.env in
+    let H = 𝓛.H in let 𝓣 = tables 𝓤 H 𝓜 𝓡 𝓡.env in
     let R : RattleType = param 0 T in let En = F.ended T in let c = F.clauses T 𝓛 𝓜.mem 𝓡.returns in
     let inst = layouts (a_type ∷ []) (T, tt) in
     let fn = inst_fn inst code.function in let Ar : RattleType = arena_row R in
     let Vc : RattleType = Vacant T in
     let hs : Stays En.signature.params En.kept
-    = (
-      stay_ref (0 ∷ []) tt (plain (λ _. Ar)),
-      (stay_dropped (plain (λ _. Vc)) no, (stay_dropped (plain (λ _. Links)) yes, tt)),
-    )
-    in
-    proved_at 𝓛 En hs c 𝓜 𝓡 (
-      Goes-ref 𝓛 2 0 tt (plain (λ _. Ar)),
-      (
-        Goes-blank 𝓛 2 (plain (λ _. Vc)) no (λ κs x f. tt),
-        (Goes-dropped 𝓛 2 (plain (λ _. Links)) yes (λ κs x f. refl), tt),
-      ),
-    )
+    = (stay_ref (0 ∷ []) tt (plain (λ _. Ar)), (stay_dropped _ no, (stay_dropped _ yes, tt))) in
+    let vacant_goes = Goes-blank 𝓛 2 (plain (λ _. Vc)) no (λ κs x f. tt) in
+    let links_go = Goes-dropped 𝓛 2 (plain (λ _. Links)) yes (λ κs x f. refl) in
+    proved_at 𝓛 En hs c 𝓜 𝓡 (Goes-ref 𝓛 2 0 tt (plain (λ _. Ar)), (vacant_goes, (links_go, tt)))
     (F.Key.name inst) fn (code.unfolded 𝓤 H 𝓜 𝓡 wired (T, tt)) (λ z are.
-    let κs = z.0.0 in
-    let qs = z.0.1 in
+    let κs = z.0.0 in let qs = z.0.1 in
     let Post : Val → SProp 𝓤 = (walk_of 𝓛 En hs c).post z in
     let Run : List Val → SProp 𝓤 = λ ws. WpFn 𝓤 H 𝓣.C 𝓣.Λ fn ws Post in
     let a = z.0.3.0.now in let rb = z.0.3.0.ref_ptr.0 in let ro = z.0.3.0.ref_ptr.1 in let d = z.0.3.1.0 in
@@ -71,11 +61,7 @@ keep_spec 𝓤 𝓛 𝓜 𝓡 wired T L =
     -- own; obs; the borrow]
     sets ! (of_opd ! (get_in ! (fld ! refl (stop !)) (sub ! 0 refl (whole !)))) refl (tt, tt) $
     first ! $ blocks ! $ sets ! (addr ! (through ! refl (fld ! refl (stop !)))) refl (tt, tt) $
-    assigns ! (of_opd ! (no_entry !)) (through ! refl (stop !)) (init ! 2 refl (
-      tt,
-      record
-          { fits = lit< tt },
-    )) $
+    assigns ! (of_opd ! (no_entry !)) (through ! refl (stop !)) (init ! 2 refl (fits_word (lit< tt))) $
     sets ! (addr ! (through ! refl (fld ! refl (stop !)))) refl (tt, tt) $
     sets ! (of_opd ! (get ! refl)) refl good $
     assigns_last ! (of_opd ! (get ! refl)) (through ! refl (stop !)) (init ! 0 refl good) $

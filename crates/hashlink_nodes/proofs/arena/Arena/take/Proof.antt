@@ -12,7 +12,7 @@ use Names.{heard, opens, closes, Stays, stay_dropped, stay_ref, walk_of, Goes-dr
 use Names.{word-Good, proved_at, leaves, load, look, well_typed, same_node, alter, entry_in, number_word}
 use Names.{with_entry, Links, blocks_own, block_owns, pair_owns, pair_offset, is_small, number_of}
 use Names.{number_offset, links_of, deed_owns, Arena, pair_place, arena_row}
-use Rattle.hashlink_nodes.proofs.ArenaSteps.{Nd, no_box, no_entry, args_are, states}
+use Rattle.hashlink_nodes.proofs.ArenaSteps.{fits_word, Nd, no_box, no_entry, args_are, states}
 use Rattle.hashlink_nodes.proofs.ArenaBlocks.{found_entry, blocks_cut, blocks_glue, small_shown}
 use Rattle.hashlink_nodes.specs.contracts.arena.Arena.take as F
 use Rattle.hashlink_nodes.proofs.arena.Arena.take.Statement.{statement}
@@ -20,18 +20,16 @@ use Rattle.hashlink_nodes.proofs.arena.Arena.take.Code as code
 
 pub take_spec : {M : Type 1} → statement M
 take_spec 𝓤 𝓛 𝓜 𝓡 wired T L =
-    let H = 𝓛.H in
-    let 𝓣 = tables 𝓤 H 𝓜 𝓡 𝓡.env in
+    let H = 𝓛.H in let 𝓣 = tables 𝓤 H 𝓜 𝓡 𝓡.env in
     let R : RattleType = param 0 T in let En = F.ended T in let c = F.clauses T 𝓛 𝓜.mem 𝓡.returns in
     let inst = layouts (a_type ∷ []) (T, tt) in
     let fn = inst_fn inst code.function in let Ar : RattleType = arena_row R in
     let hs : Stays En.signature.params En.kept
-    = (stay_ref (0 ∷ []) tt (plain (λ _. Ar)), (stay_dropped (plain (λ _. Nd)) yes, tt)) in
-    proved_at 𝓛 En hs c 𝓜 𝓡
-    (Goes-ref 𝓛 2 0 tt (plain (λ _. Ar)), (Goes-dropped 𝓛 2 (plain (λ _. Nd)) yes (λ κs x f. refl), tt))
+    = (stay_ref (0 ∷ []) tt (plain (λ _. Ar)), (stay_dropped _ yes, tt)) in
+    let node_goes = Goes-dropped 𝓛 2 (plain (λ _. Nd)) yes (λ κs x f. refl) in
+    proved_at 𝓛 En hs c 𝓜 𝓡 (Goes-ref 𝓛 2 0 tt (plain (λ _. Ar)), (node_goes, tt))
     (F.Key.name inst) fn (code.unfolded 𝓤 H 𝓜 𝓡 wired (T, tt)) (λ z are.
-    let κs = z.0.0 in
-    let qs = z.0.1 in
+    let κs = z.0.0 in let qs = z.0.1 in
     let Post : Val → SProp 𝓤 = (walk_of 𝓛 En hs c).post z in
     let Run : List Val → SProp 𝓤 = λ ws. WpFn 𝓤 H 𝓣.C 𝓣.Λ fn ws Post in
     let a = z.0.3.0.now in
@@ -75,11 +73,7 @@ take_spec 𝓤 𝓛 𝓜 𝓡 wired T L =
     sets ! (is ! (of_opd ! (get_in ! (fld ! refl (stop !)) (sub ! 0 refl (whole !)))) (ap ptr_val e)) refl
     (tt, tt) $
     first ! $ blocks ! $ sets ! (addr ! (through ! refl (fld ! refl (stop !)))) refl (tt, tt) $
-    assigns ! (of_opd ! (no_entry !)) (through ! refl (stop !)) (store ! 0 refl (
-      tt,
-      record
-          { fits = lit< tt },
-    )) $
+    assigns ! (of_opd ! (no_entry !)) (through ! refl (stop !)) (store ! 0 refl (fits_word (lit< tt))) $
     sets ! (addr ! (through ! refl (fld ! refl (stop !)))) refl (tt, tt) $
     sets_last ! (of_opd ! (load ! (through ! refl (stop !)) (look ! 1 refl))) refl good $
     exec ! 𝓣.C 𝓣.Λ Ev (after 2 fn.body) (at_ret Ev Post) $ sets ! (of_opd ! (get ! refl)) refl good $

@@ -19,8 +19,7 @@ raise_spec 𝓤 𝓛 𝓜 𝓡 wired =
     proved_at 𝓛 F.ended hs c 𝓜 𝓡 (Goes-ref 𝓛 1 0 tt (plain (λ _. the_row)), tt) F.Key.name fn
     (code.unfolded 𝓤 H 𝓜 𝓡 wired)
     (λ z are.
-    let κs = z.0.0 in
-    let qs = z.0.1 in
+    let κs = z.0.0 in let qs = z.0.1 in
     let Post : Val → SProp 𝓤 = (walk_of 𝓛 F.ended hs c).post z in
     let Run : List Val → SProp 𝓤 = λ ws. WpFn 𝓤 H 𝓣.C 𝓣.Λ fn ws Post in
     let a = z.0.3.0.now in let rb = z.0.3.0.ref_ptr.0 in let ro = z.0.3.0.ref_ptr.1 in
