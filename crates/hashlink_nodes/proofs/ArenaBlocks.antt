@@ -1,22 +1,18 @@
 -- One block is taken out of an arena's and put back. Assumes `Logic`.
-use Rattle.hashlink_nodes.proofs.Names.{◌≡◌, ℕ, ◌+◌, ◌^◌, ◌<◌, arith, Bool, true, false, cond, List, [], ◌∷◌}
-use Rattle.hashlink_nodes.proofs.Names.{Option, None, Some, IsSome, refl, sym, subst, lookup, remove_entry}
-use Rattle.hashlink_nodes.proofs.Names.{IfSome, nothing, Ura, ent, sep, via, fst∗, snd∗, never, never_e, Fml}
-use Rattle.hashlink_nodes.proofs.Names.{Lft, fat, froom, Logic, sem, Item, Goal, Seq, ‵, raw, prop, mean}
-use Rattle.hashlink_nodes.proofs.Names.{some, ◌⊛◌, ◌$◌, ◌∵◌, !, qed, by, move, keep, use1, use2, pick, drop}
-use Rattle.hashlink_nodes.proofs.Names.{flt_l, flt_i, Step, step, split, fsplit, fsplit3, fjoin, rewrite}
-use Rattle.hashlink_nodes.proofs.Names.{done, Model, Ty, Val, full_share, fact, fact_i, fact_use, lone}
-use Rattle.hashlink_nodes.proofs.Names.{part_out, RattleType, Ptr, block_ptr, null_ptr, block_lent}
-use Rattle.hashlink_nodes.proofs.Names.{block_owns, blocks_lent, blocks_own, links_offset, is_small, Links}
-use Rattle.hashlink_nodes.proofs.Names.{Kept, alter, entry_in, same_node, eq-same_node, Node}
+use Rattle.hashlink_nodes.proofs.Cuts.{cut_at, cut-removed, cut-altered}
+use Rattle.hashlink_nodes.proofs.Names
+use Names.{◌++◌, id⊢, ◌≡◌, ℕ, ◌+◌, ◌^◌, ◌<◌, arith, List, [], ◌∷◌, Option, None, Some, IsSome, refl, sym}
+use Names.{subst, lookup, remove_entry, IfSome, nothing, Ura, ent, sep, via, fst∗, snd∗, never, never_e, Fml}
+use Names.{Lft, fat, froom, Logic, sem, Item, Goal, Seq, ‵, raw, prop, mean, some, ◌⊛◌, ◌$◌, ◌∵◌, !, qed, by}
+use Names.{move, keep, use1, use2, pick, drop, flt_l, flt_i, Step, step, split, fsplit, fsplit3, fjoin, done}
+use Names.{Model, Ty, Val, full_share, fact, fact_i, fact_use, lone, part_out, RattleType, Ptr, block_ptr}
+use Names.{null_ptr, block_lent, block_owns, blocks_lent, blocks_own, links_offset, is_small, Links, Kept}
+use Names.{alter, entry_in, same_node, Node}
 
 -- what a look-up found
 pub found : {X : Type 0} (o : Option X) → IsSome o → (x : X) × (o ≡ Some x)
 found (Some x) t = (x, refl)
 found None t = absurd (cc t)
-
-some_eq : {X : Type 0} {x y : X} → Some x ≡ Some y → x ≡ y
-some_eq e = cc
 
 -- and the entry of what was found
 pub found_entry : {T : Type 0} (o : Option (Kept T)) → IsSome (entry_in o)
@@ -31,66 +27,57 @@ module _ (R : RattleType) {M : Type 1} {𝓤 : Ura M} (𝓛 : Logic 𝓤) (n : N
   abbrev pub One : Kept R.Denot → Fml
   One x = block_owns R n.at x
 
+  module _ (x : Kept R.Denot) (ys : Entries) where
+    out_of : (xs : Entries) → ent 𝓤 (sem 𝓛 (blocks_own R (xs ++ (n, x) ∷ ys)))
+        (sep 𝓤 (sem 𝓛 (One x)) (sem 𝓛 (blocks_own R (xs ++ ys))))
+    out_of [] = id⊢ 𝓤 _
+    out_of (b ∷ xs) = qed 𝓛 (‵ (blocks_own R (b ∷ (xs ++ (n, x) ∷ ys))) ∷ []) ∵ fsplit ! $ move ! (1 ∷ []) $
+        use1 𝓛 (‵ (One x) ⊛ ‵ (blocks_own R (xs ++ ys))) (out_of xs) $ split ! $ move ! (2 ∷ 1 ∷ []) $
+        fjoin ! $ move ! (1 ∷ []) $ done !
+
+    back_in : (xs : Entries) → ent 𝓤 (sep 𝓤 (sem 𝓛 (One x)) (sem 𝓛 (blocks_own R (xs ++ ys))))
+        (sem 𝓛 (blocks_own R (xs ++ (n, x) ∷ ys)))
+    back_in [] = id⊢ 𝓤 _
+    back_in (b ∷ xs) = qed 𝓛 (‵ (One x) ∷ ‵ (blocks_own R (b ∷ (xs ++ ys))) ∷ []) ∵ move ! (1 ∷ []) $
+        fsplit ! $ move ! (2 ∷ 1 ∷ []) $
+        use2 𝓛 (‵ (blocks_own R (xs ++ (n, x) ∷ ys))) (back_in xs) $ move ! (1 ∷ 0 ∷ []) $ fjoin ! $ done !
+
+    shown : (κ : Lft) (xs : Entries)
+        → ent 𝓤 (sem 𝓛 (blocks_lent R (xs ++ (n, x) ∷ ys) κ)) (sem 𝓛 (block_lent R n.at x κ))
+    shown κ [] = fst∗ 𝓤 (sem 𝓛 (block_lent R n.at x κ)) (sem 𝓛 (blocks_lent R ys κ))
+    shown κ (b ∷ xs) =
+        let rest = sem 𝓛 (blocks_lent R (xs ++ (n, x) ∷ ys) κ) in
+        via 𝓤 rest (snd∗ 𝓤 (sem 𝓛 (block_lent R b.0.at b.1 κ)) rest) (shown κ xs)
+
   -- the block of n comes out
   pub blocks_cut : (bs : Entries) (x : Kept R.Denot) → lookup (same_node n) bs ≡ Some x
       → ent 𝓤 (sem 𝓛 (blocks_own R bs))
       (sep 𝓤 (sem 𝓛 (One x)) (sem 𝓛 (blocks_own R (remove_entry (same_node n) bs))))
-  blocks_cut [] x e = absurd (cc e)
-  blocks_cut (b ∷ bs) x e =
-      (elim (same_node n b.0) as
-      (λ (y : Bool). same_node n b.0 ≡ y → cond y (Some b.1) (lookup (same_node n) bs) ≡ Some x
-      → ent 𝓤 (sem 𝓛 (blocks_own R (b ∷ bs)))
-      (sep 𝓤 (sem 𝓛 (One x)) (sem 𝓛 (blocks_own R (cond y bs (b ∷ remove_entry (same_node n) bs)))))) [
-        | true ↦ λ same at. let eb : b.0 ≡ n = sym (eq-same_node n b.0 same) in let ex : b.1
-            ≡ x = some_eq at in
-            qed 𝓛 (‵ (blocks_own R (b ∷ bs)) ∷ []) ∵ fsplit ! $ rewrite ! 0
-            (λ (c : Node × Kept R.Denot). ‵ (block_owns R c.0.at c.1)) (λ i. (eb i, ex i)) refl $ done !
-        | false ↦ λ _ at. qed 𝓛 (‵ (blocks_own R (b ∷ bs)) ∷ []) ∵ fsplit ! $ move ! (1 ∷ []) $
-            use1 𝓛 (‵ (One x) ⊛ ‵ (blocks_own R (remove_entry (same_node n) bs)))
-            (blocks_cut bs x at) $ split ! $
-            move ! (2 ∷ 1 ∷ []) $ fjoin ! $ move ! (1 ∷ []) $ done !
-      ]) refl e
+  blocks_cut bs x e =
+      let c = cut_at bs n x e in
+      subst (λ (t : Entries × Kept R.Denot × Entries). ent 𝓤 (sem 𝓛 (blocks_own R t.0))
+      (sep 𝓤 (sem 𝓛 (One t.1)) (sem 𝓛 (blocks_own R t.2))))
+      (λ i. (sym c.0.is i, c.1 i, sym (cut-removed c.0) i)) (out_of c.0.value c.0.after c.0.before)
 
   -- a block goes to the place of the one that came out
   pub blocks_glue : (bs : Entries) (x : Kept R.Denot) (f : Kept R.Denot → Kept R.Denot)
       → lookup (same_node n) bs ≡ Some x
       → ent 𝓤 (sep 𝓤 (sem 𝓛 (One (f x))) (sem 𝓛 (blocks_own R (remove_entry (same_node n) bs))))
       (sem 𝓛 (blocks_own R (alter (same_node n) f bs)))
-  blocks_glue [] x f e = absurd (cc e)
-  blocks_glue (b ∷ bs) x f e =
-      (elim (same_node n b.0) as
-      (λ (y : Bool). same_node n b.0 ≡ y → cond y (Some b.1) (lookup (same_node n) bs) ≡ Some x
-      → ent 𝓤 (sep 𝓤 (sem 𝓛 (One (f x))) (sem 𝓛 (blocks_own R (cond y bs (b ∷ remove_entry
-      (same_node n) bs)))))
-      (sem 𝓛 (blocks_own R (cond y ((b.0, f b.1) ∷ bs) (b ∷ alter (same_node n) f bs))))) [
-        | true ↦ λ same at. let eb : n ≡ b.0 = eq-same_node n b.0 same in let ex : x ≡ b.1
-            = sym (some_eq at) in
-            qed 𝓛 (‵ (One (f x)) ∷ ‵ (blocks_own R bs) ∷ []) ∵ rewrite ! 0
-            (λ (c : Node × Kept R.Denot). ‵ (block_owns R c.0.at (f c.1))) (λ i. (eb i, ex i)) refl $
-            fjoin ! $ done !
-        | false ↦ λ _ at. qed 𝓛 (‵ (One (f x)) ∷ ‵ (blocks_own R (b ∷ remove_entry (same_node n) bs)) ∷ []) ∵
-            move ! (1 ∷ []) $ fsplit ! $ move ! (2 ∷ 1 ∷ []) $
-            use2 𝓛 (‵ (blocks_own R (alter (same_node n) f bs))) (blocks_glue bs x f at) $
-            move ! (1 ∷ 0 ∷ []) $
-            fjoin ! $ done !
-      ]) refl e
+  blocks_glue bs x f e =
+      let c = cut_at bs n x e in
+      subst (λ (t : Kept R.Denot × Entries × Entries).
+      ent 𝓤 (sep 𝓤 (sem 𝓛 (One (f t.0))) (sem 𝓛 (blocks_own R t.1))) (sem 𝓛 (blocks_own R t.2)))
+      (λ i. (c.1 i, sym (cut-removed c.0) i, sym (cut-altered c.0 f) i))
+      (back_in (f c.0.value) c.0.after c.0.before)
 
   -- a `&` to the arena shows the value of n
   pub block_seen : (κ : Lft) (bs : Entries) (x : Kept R.Denot) → lookup (same_node n) bs ≡ Some x
       → ent 𝓤 (sem 𝓛 (blocks_lent R bs κ)) (sem 𝓛 (block_lent R n.at x κ))
-  block_seen κ [] x e = absurd (cc e)
-  block_seen κ (b ∷ bs) x e =
-      (elim (same_node n b.0) as
-      (λ (y : Bool). same_node n b.0 ≡ y → cond y (Some b.1) (lookup (same_node n) bs) ≡ Some x
-      → ent 𝓤 (sem 𝓛 (blocks_lent R (b ∷ bs) κ)) (sem 𝓛 (block_lent R n.at x κ))) [
-        | true ↦ λ same at. let eb : b.0 ≡ n = sym (eq-same_node n b.0 same) in let ex : b.1
-            ≡ x = some_eq at in
-            subst (λ (c : Node × Kept R.Denot). ent 𝓤 (sem 𝓛 (blocks_lent R (b ∷ bs) κ))
-            (sem 𝓛 (block_lent R c.0.at c.1 κ)))
-            (λ i. (eb i, ex i)) (fst∗ 𝓤 (sem 𝓛 (block_lent R b.0.at b.1 κ)) (sem 𝓛 (blocks_lent R bs κ)))
-        | false ↦ λ _ at. via 𝓤 (sem 𝓛 (blocks_lent R bs κ))
-            (snd∗ 𝓤 (sem 𝓛 (block_lent R b.0.at b.1 κ)) (sem 𝓛 (blocks_lent R bs κ))) (block_seen κ bs x at)
-      ]) refl e
+  block_seen κ bs x e =
+      let c = cut_at bs n x e in
+      subst (λ (t : Entries × Kept R.Denot). ent 𝓤 (sem 𝓛 (blocks_lent R t.0 κ))
+      (sem 𝓛 (block_lent R n.at t.1 κ))) (λ i. (sym c.0.is i, c.1 i)) (shown c.0.value c.0.after κ c.0.before)
 
 module _ (R : RattleType) {M : Type 1} {𝓤 : Ura M} (𝓛 : Logic 𝓤) (𝓜 : Model 𝓤 𝓛.H) where
   abbrev τ : Ty
@@ -123,17 +110,14 @@ module _ (R : RattleType) {M : Type 1} {𝓤 : Ura M} (𝓛 : Logic 𝓤) (𝓜 
   pub apart_from : (n : Node) (x : Kept R.Denot) (bs : List (Node × Kept R.Denot))
       → ent 𝓤 (sep 𝓤 (sem 𝓛 (block_owns R n.at x)) (sem 𝓛 (blocks_own R bs)))
       (fact 𝓤 (lookup (same_node n) bs ≡ None))
-  apart_from n x [] = fact_i 𝓤 (lookup (same_node n) [] ≡ None) _ refl
-  apart_from n x (b ∷ bs) = (elim (same_node n b.0) as (λ (y : Bool). same_node n b.0 ≡ y
-      → ent 𝓤 (sep 𝓤 (sem 𝓛 (block_owns R n.at x)) (sem 𝓛 (blocks_own R (b ∷ bs))))
-      (fact 𝓤 (cond y (Some b.1) (lookup (same_node n) bs) ≡ None))) [
-        | true ↦ λ same. let eb : b.0 ≡ n = sym (eq-same_node n b.0 same) in
-            qed 𝓛 (‵ (block_owns R n.at x) ∷ ‵ (blocks_own R (b ∷ bs)) ∷ []) ∵
-            move ! (1 ∷ []) $ fsplit ! $
-            rewrite ! 0 (λ (m : Node). ‵ (block_owns R m.at b.1)) eb refl $
-            keep ! (0 ∷ 2 ∷ []) $ use2 𝓛 (raw (never 𝓤)) (clash n.at b.1 x) $ by ! (never_e 𝓤 _)
-        | false ↦ λ _. qed 𝓛 (‵ (block_owns R n.at x) ∷ ‵ (blocks_own R (b ∷ bs)) ∷ []) ∵
-            move ! (1 ∷ []) $ fsplit ! $ keep ! (2 ∷ 1 ∷ []) $ by ! (apart_from n x bs)
+  apart_from n x bs = (elim (lookup (same_node n) bs) as
+      (λ (o : Option (Kept R.Denot)). lookup (same_node n) bs ≡ o
+      → ent 𝓤 (sep 𝓤 (sem 𝓛 (block_owns R n.at x)) (sem 𝓛 (blocks_own R bs))) (fact 𝓤 (o ≡ None))) [
+        | None ↦ λ _. fact_i 𝓤 _ _ refl
+        | Some y ↦ λ e. qed 𝓛 (‵ (block_owns R n.at x) ∷ ‵ (blocks_own R bs) ∷ []) ∵ move ! (1 ∷ []) $
+            use1 𝓛 (‵ (block_owns R n.at y) ⊛ ‵ (blocks_own R (remove_entry (same_node n) bs)))
+            (blocks_cut R 𝓛 n bs y e) $
+            split ! $ keep ! (0 ∷ 2 ∷ []) $ use2 𝓛 (raw (never 𝓤)) (clash n.at y x) $ by ! (never_e 𝓤 _)
       ]) refl
 
 module _ {M : Type 1} {𝓤 : Ura M} {𝓛 : Logic 𝓤} {K : Type 0} {Γ : List (Item 𝓤)} {G : Goal 𝓤 𝓛.H} where

@@ -1,22 +1,25 @@
 -- An arena lends a part of a block, by `&` and by `&mut`. A function of it gives its code, which computes
 -- an address alone, and where the part is in a block. Assumes `Logic`.
-use Rattle.hashlink_nodes.proofs.Names.{part_of, Fn, Callee, Model, Closed, Running, fact_i, via, ex_i, Item}
-use Rattle.hashlink_nodes.proofs.Names.{Step, step, mean, now, prop, upd, One, Signature, Slot, ◌+ₚ◌, Ended}
-use Rattle.hashlink_nodes.proofs.Names.{Clauses, at_exit, closing, Meets, block_owns, blocks_own, blocks_lent}
-use Rattle.hashlink_nodes.proofs.Names.{same_node, altered, Kept, alter, Node, Arena}
-use Rattle.hashlink_nodes.proofs.Walks.{◌≡◌, ℕ, ◌+◌, List, [], ◌∷◌, ◌++◌, refl, sym, Some, Bor, MutBor}
-use Rattle.hashlink_nodes.proofs.Walks.{lookup, remove_entry, Ura, full_share, named, Val, vptr, SProp, ent}
-use Rattle.hashlink_nodes.proofs.Walks.{sep, emp, never, id⊢, Fml, GName, ftrue, flft, fsep, WpFn, Logic, sem}
-use Rattle.hashlink_nodes.proofs.Walks.{‵, raw, ◌⊛◌, some, later, ◌$◌, ◌∵◌, !, qed, by, move, keep, drop}
-use Rattle.hashlink_nodes.proofs.Walks.{split, split3, join, group, fsplit, fsplit3, fjoin, fpack, pick}
-use Rattle.hashlink_nodes.proofs.Walks.{await, rewrite, use0, use1, use2, suffices, feq_i, feq_l, done, fact}
-use Rattle.hashlink_nodes.proofs.Walks.{tables, RefOf, yes, no, follows, Part, lends_Part, mem, cell_at, hide}
-use Rattle.hashlink_nodes.proofs.Walks.{unhide, RattleType, owns, Ptr, block_ptr, null_ptr, in_a_block}
-use Rattle.hashlink_nodes.proofs.Walks.{lies_at, lent_at, MutRef, types_at, plain, mut_ref_to, param, nothing}
-use Rattle.hashlink_nodes.proofs.Walks.{heard, opens, Stays, stay_dropped, walk_of, Goes-dropped}
-use Rattle.hashlink_nodes.proofs.Walks.{Goes-spent_ref, word, proved_at, leaves, ◌⊑◌}
-use Rattle.hashlink_nodes.specs.contracts.arena.Arena.{the_row}
-use Rattle.hashlink_nodes.proofs.ArenaSteps.{Mark, Nd, word_had, args_are}
+use Rattle.hashlink_nodes.proofs.Names
+use Names.{word_had, part_of, Fn, Callee, Model, Closed, Running, fact_i, via, ex_i, Item, Step, step, mean}
+use Names.{now, prop, upd, One, Signature, Slot, ◌+ₚ◌, Ended, Clauses, at_exit, closing, Meets, block_owns}
+use Names.{blocks_own, blocks_lent, same_node, altered, Kept, alter, Node, Arena, ◌≡◌, ℕ, ◌+◌, List, [], ◌∷◌}
+use Names.{◌++◌, refl, sym, Some, Bor, MutBor, lookup, remove_entry, Ura, full_share, named, Val, vptr, SProp}
+use Names.{ent, sep, emp, never, id⊢, Fml, GName, ftrue, flft, fsep, WpFn, Logic, sem, ‵, raw, ◌⊛◌, some}
+use Names.{later, ◌$◌, ◌∵◌, !, qed, by, move, keep, drop, split, split3, join, group, fsplit, fsplit3, fjoin}
+use Names.{fpack, pick, await, rewrite, use0, use1, use2, suffices, feq_i, feq_l, done, fact, tables, RefOf}
+use Names.{yes, no, follows, Part, lends_Part, mem, cell_at, hide, unhide, RattleType, owns, Ptr, block_ptr}
+use Names.{null_ptr, in_a_block, lies_at, lent_at, MutRef, types_at, plain, mut_ref_to, param, nothing, heard}
+use Names.{opens, Stays, stay_dropped, walk_of, Goes-dropped, Goes-spent_ref, word, proved_at, leaves, ◌⊑◌}
+use Names.{enter, alloc_all, pass_all, env, first, blocks, sets, sets_last, is, of_opd, get_in, fld, stop}
+use Names.{sub, whole, ptr_val, addr, through, exec, after, at_ret, get, returns, look_at, free_all}
+use Names.{word-Good, Ty, ap, pointee, lone, layout, arena_row}
+use mir.Syntax.{Mutability, erased, local, value_local, ty_ref, ty_ptr, seq, block, assign, place, rv_opd}
+use mir.Syntax.{copy, field, deref, addr_of, return}
+use Rattle.hashlink_nodes.specs.contracts.arena.Block as blocks
+use mathlib.Core.Option.{some as just}
+use prog.Memory.{field_of}
+use Rattle.hashlink_nodes.proofs.ArenaSteps.{Mark, Nd, no_box, args_are}
 use Rattle.hashlink_nodes.proofs.ArenaBlocks.{blocks_cut, blocks_glue}
 
 -- the signature of a function that lends what the arena has at a node
@@ -28,29 +31,62 @@ signed self result = record {
   result = result;
 }
 
+-- its code, where it lends the field k of a block by references of this mutability
+abbrev lending : RattleType → RattleType → Mutability → ℕ → Fn
+lending R P m k = record {
+  lifetimes = 1;
+  outlives = (1, 0) ∷ [];
+  ty_params = [];
+  givens = 0;
+  params = 2;
+  locals = local (ty_ref (named 0) m (pointee P.written)) value_local
+      ∷ local (ty_ref (named 0) m (pointee (arena_row R).written)) value_local
+      ∷ local (lone Nd.mir) value_local ∷ local (ty_ref erased m (pointee P.written)) value_local
+      ∷ local ty_ptr value_local ∷ [];
+  body = seq (block (seq (assign (place 4 []) (rv_opd (copy (place 2 (field 0 ∷ [])))))
+      (assign (place 3 []) (addr_of (place 4 (deref (layout (blocks.the_row R)) ∷ field k ∷ []))))))
+      (seq (assign (place 0 []) (rv_opd (copy (place 3 [])))) return);
+}
+
 module _ {M : Type 1} (𝓤 : Ura M) (𝓛 : Logic 𝓤) (𝓜 : Model 𝓤 𝓛.H) (𝓡 : Running 𝓤 𝓛.H 𝓜) (T P : RattleType)
-    (one : One P.mir) (off : ℕ) (key : Callee) (fn : Fn) where
+    (one : One P.mir) (off : ℕ) (key : Callee) (m : Mutability) (nth : ℕ) where
   open 𝓛 use {H}
 
   abbrev R : RattleType
   R = param 0 T
 
-  abbrev Runs : List Val → (Val → SProp 𝓤) → SProp 𝓤
-  Runs vs Post = let 𝓣 = tables 𝓤 H 𝓜 𝓡 𝓡.env in WpFn 𝓤 H 𝓣.C 𝓣.Λ fn vs Post
-
   -- the address of the part of a block at p is what is returned
-  abbrev pub Address : Ptr → (Val → SProp 𝓤) → Item 𝓤
+  abbrev Address : Ptr → (Val → SProp 𝓤) → Item 𝓤
   Address p Post =
       some (λ (x : ℕ × ℕ). raw (fact 𝓤 (p ≡ block_ptr x.0 x.1)) ⊛ raw (Post (vptr x.0 (x.1 + off))))
 
-  -- the code returns that address
-  abbrev pub Finds : Type 2
-  Finds = (Post : Val → SProp 𝓤) (rb ro : ℕ) (p : Ptr) (Q : SProp 𝓤)
-      → ent 𝓤 Q (mean 𝓛 (later (Address p Post))) → ent 𝓤 Q (Runs (vptr rb ro ∷ word p ∷ []) Post)
+  abbrev fn : Fn
+  fn = lending R P m nth
 
-  begins : {K : Type 0} {Γ : List (Item 𝓤)} → K → Finds → (Post : Val → SProp 𝓤) (rb ro : ℕ) (p : Ptr)
+  abbrev Runs : List Val → (Val → SProp 𝓤) → SProp 𝓤
+  Runs vs Post = let 𝓣 = tables 𝓤 H 𝓜 𝓡 𝓡.env in WpFn 𝓤 H 𝓣.C 𝓣.Λ fn vs Post
+
+  -- the code returns that address
+  found : {τ : Ty} → field_of (layout (blocks.the_row R)) nth ≡ just (τ, off) → (Post : Val → SProp 𝓤)
+      (rb ro : ℕ) (p : Ptr) (Q : SProp 𝓤)
+      → ent 𝓤 Q (mean 𝓛 (later (Address p Post))) → ent 𝓤 Q (Runs (vptr rb ro ∷ word p ∷ []) Post)
+  found e Post rb ro p Q ran =
+      let 𝓣 = tables 𝓤 H 𝓜 𝓡 𝓡.env in
+      qed 𝓛 (raw Q ∷ []) ∵ enter ! 𝓣.C 𝓣.Λ fn (vptr rb ro ∷ word p ∷ []) Post $
+      alloc_all ! (λ l. pass_all ! refl ((tt, tt), (word-Good [] p, tt)) $ let Ev = env fn.locals l in
+      use1 𝓛 (later (Address p Post)) ran $ await ! tt $
+      pick ! (λ x. split ! $ heard ! _ (λ at. first ! $ blocks ! $
+      sets ! (is ! (of_opd ! (get_in ! (fld ! refl (stop !)) (sub ! 0 refl (whole !)))) (ap ptr_val at)) refl
+      (tt, tt) $
+      sets_last ! (addr ! (through ! refl (fld ! e (stop !)))) refl (tt, tt) $
+      exec ! 𝓣.C 𝓣.Λ Ev (after 1 fn.body) (at_ret Ev Post) $ sets ! (of_opd ! (get ! refl)) refl (tt, tt) $
+      returns ! (look_at ! 0 refl) $ free_all ! refl $ keep ! (0 ∷ []) $ done !)))
+
+  begins : {K : Type 0} {Γ : List (Item 𝓤)} {τ : Ty} → K
+      → field_of (layout (blocks.the_row R)) nth ≡ just (τ, off)
+      → (Post : Val → SProp 𝓤) (rb ro : ℕ) (p : Ptr)
       → Step K 𝓛 Γ (upd (mean 𝓛 (Address p Post))) Γ (prop (Runs (vptr rb ro ∷ word p ∷ []) Post))
-  begins t finds Post rb ro p = step (λ s. record { prf = finds Post rb ro p _ s.prf })
+  begins t e Post rb ro p = step (λ s. record { prf = found e Post rb ro p _ s.prf })
 
   addressed : (Post : Val → SProp 𝓤) (p : Ptr) (b o : ℕ) → p ≡ block_ptr b o
       → ent 𝓤 (Post (vptr b (o + off))) (mean 𝓛 (Address p Post))
@@ -63,14 +99,14 @@ module _ {M : Type 1} (𝓤 : Ura M) (𝓛 : Logic 𝓤) (𝓜 : Model 𝓤 𝓛
   -- a part is lent by `&`, or by `&mut`
   abbrev S : Ended
   S = record {
-    signature = signed (RefOf (0 ∷ []) tt (plain (λ _. the_row R)) (λ _. tt))
+    signature = signed (RefOf (0 ∷ []) tt (plain (λ _. arena_row R)) (λ _. tt))
         (RefOf (0 ∷ []) tt (plain (λ _. P)) (λ _. one));
     kept = (yes, (yes, tt));
   }
 
   abbrev S' : Ended
   S' = record {
-    signature = signed (mut_ref_to (0 ∷ []) tt (plain (λ _. the_row R)))
+    signature = signed (mut_ref_to (0 ∷ []) tt (plain (λ _. arena_row R)))
         (mut_ref_to (0 ∷ []) tt (plain (λ _. P)));
     kept = (no, (yes, tt));
   }
@@ -79,7 +115,7 @@ module _ {M : Type 1} (𝓤 : Ura M) (𝓛 : Logic 𝓤) (𝓜 : Model 𝓤 𝓛
     module _ (c : Clauses 𝓤 S) where
       abbrev pub shared_stays : Stays S.signature.params S.kept
       shared_stays = (
-        stay_dropped (RefOf (0 ∷ []) tt (plain (λ _. the_row R)) (λ _. tt)) yes,
+        stay_dropped (RefOf (0 ∷ []) tt (plain (λ _. arena_row R)) (λ _. tt)) yes,
         (stay_dropped (plain (λ _. Nd)) yes, tt),
       )
 
@@ -103,12 +139,12 @@ module _ {M : Type 1} (𝓤 : Ura M) (𝓛 : Logic 𝓤) (𝓜 : Model 𝓤 𝓛
             ((c z.0.0 z.0.3).ensures z.1 (record { ref_ptr = at; now = part _ _ held })
             (at_exit S z.0.0 z.0.3 (tt, (tt, tt))))
 
-      pub shared : Shares → Finds
+      pub shared : {τ : Ty} → field_of (layout (blocks.the_row R)) nth ≡ just (τ, off) → Shares
           → Meets 𝓛 S.signature (let 𝓣 = tables 𝓤 H 𝓜 𝓡 𝓡.env in 𝓣.C key)
           (closing 𝓛 S c)
-      shared s finds =
+      shared at_k s =
           proved_at 𝓛 S shared_stays c 𝓜 𝓡 (
-            Goes-dropped 𝓛 2 (RefOf (0 ∷ []) tt (plain (λ _. the_row R)) (λ _. tt)) yes (λ κs x f. refl),
+            Goes-dropped 𝓛 2 (RefOf (0 ∷ []) tt (plain (λ _. arena_row R)) (λ _. tt)) yes (λ κs x f. refl),
             (Goes-dropped 𝓛 2 (plain (λ _. Nd)) yes (λ κs x f. refl), tt),
           )
           key fn closed (λ z are.
@@ -125,9 +161,9 @@ module _ {M : Type 1} (𝓤 : Ura M) (𝓛 : Logic 𝓤) (𝓜 : Model 𝓤 𝓛
           drop ! $ heard ! _ (λ held.
           let w = s.part a n held in
           move ! (1 ∷ []) $ fsplit ! $ fsplit ! $ feq_l !
-          (λ e0. move ! (1 ∷ []) $ fsplit ! $ word_had ! n.at z.0.4.1.0 (λ e1. drop ! $
+          (λ e0. move ! (1 ∷ []) $ fsplit ! $ word_had no_box [] n.at ! z.0.4.1.0 (λ e1. drop ! $
           args_are ! (λ (ws : List Val × List Val). Run (ws.0 ++ (ws.1 ++ []))) (λ j. (sym e0 j, sym e1 j)) $
-          begins ! finds Post rb ro n.at $ unhide ! $ fsplit ! $ drop ! $
+          begins ! at_k Post rb ro n.at $ unhide ! $ fsplit ! $ drop ! $
           use1 𝓛 (‵ (lent_at P (n.at +ₚ off) w κs.0) ⊛ raw (fact 𝓤 (s.Seen a n held))) (s.shows z held) $
           split ! $ move ! (1 ∷ []) $ heard ! _ (λ seen.
           in_a_block ! n.at (λ p. lent_at P (p +ₚ off) w κs.0)
@@ -145,7 +181,7 @@ module _ {M : Type 1} (𝓤 : Ura M) (𝓛 : Logic 𝓤) (𝓜 : Model 𝓤 𝓛
     module _ (c : Clauses 𝓤 S') where
       abbrev pub lent_stays : Stays S'.signature.params S'.kept
       lent_stays = (
-        stay_dropped (mut_ref_to (0 ∷ []) tt (plain (λ _. the_row R))) no,
+        stay_dropped (mut_ref_to (0 ∷ []) tt (plain (λ _. arena_row R))) no,
         (stay_dropped (plain (λ _. Nd)) yes, tt),
       )
 
@@ -170,11 +206,11 @@ module _ {M : Type 1} (𝓤 : Ura M) (𝓛 : Logic 𝓤) (𝓜 : Model 𝓤 𝓛
         Rest =
             fsep (h.rest n.at)
             (fsep (blocks_own R (remove_entry (same_node n) a.blocks))
-            (fsep ((Mark R).own_val (tt, tt) vs) (cell_at full_share (the_row R).mir vs rb ro)))
+            (fsep ((Mark R).own_val (tt, tt) vs) (cell_at full_share (arena_row R).mir vs rb ro)))
 
         comes_back : lookup (same_node n) a.blocks ≡ Some k → n.at ≡ block_ptr b o → (w : P.Denot)
             → ent 𝓤 (sep 𝓤 (sem 𝓛 ((mem P).own_at w b (o + off))) (sem 𝓛 Rest))
-            (sem 𝓛 ((mem (the_row R)).own_at (altered a n (change w)) rb ro))
+            (sem 𝓛 ((mem (arena_row R)).own_at (altered a n (change w)) rb ro))
         unfolding part_of
         comes_back is_k e w =
             let new = altered a n (change w) in
@@ -185,8 +221,8 @@ module _ {M : Type 1} (𝓤 : Ura M) (𝓛 : Logic 𝓤) (𝓜 : Model 𝓤 𝓛
             use2 𝓛 (‵ (blocks_own R (alter (same_node n) (change w) a.blocks)))
             (blocks_glue R 𝓛 n a.blocks k (change w) is_k) $
             move ! (1 ∷ []) $ fsplit ! $ move ! (0 ∷ 2 ∷ []) $ fjoin ! $ move ! (1 ∷ 0 ∷ []) $ fjoin ! $
-            fpack ! (List Val) (λ us. fsep (cell_at full_share (the_row R).mir us rb ro)
-            ((the_row R).own_val new us)) vs $ done !
+            fpack ! (List Val) (λ us. fsep (cell_at full_share (arena_row R).mir us rb ro)
+            ((arena_row R).own_val new us)) vs $ done !
 
       pub record Lends : Type 2 where
         pub change : P.Denot → Kept R.Denot → Kept R.Denot
@@ -199,15 +235,15 @@ module _ {M : Type 1} (𝓤 : Ura M) (𝓛 : Logic 𝓤) (𝓜 : Model 𝓤 𝓛
         pub held : (a : Arena R.Denot) (n : Node) (asked : Asked a n) → Held n (block a n asked).0 change
         pub says : (z : Z') (asked : Asked z.0.3.0.now z.0.3.1.0)
             (r : MutBor P.Denot) → r.now ≡ (held _ _ asked).part
-            → ent 𝓤 (sem 𝓛 (follows (the_row R) P z.0.3.0.ghost_name r.ghost_name
+            → ent 𝓤 (sem 𝓛 (follows (arena_row R) P z.0.3.0.ghost_name r.ghost_name
             (λ w. altered z.0.3.0.now z.0.3.1.0 (change w))))
             ((c z.0.0 z.0.3).ensures z.1 r (at_exit S' z.0.0 z.0.3 (tt, (tt, tt))))
 
-      pub lent : Lends → Finds
+      pub lent : {τ : Ty} → field_of (layout (blocks.the_row R)) nth ≡ just (τ, off) → Lends
           → Meets 𝓛 S'.signature (let 𝓣 = tables 𝓤 H 𝓜 𝓡 𝓡.env in 𝓣.C key)
           (closing 𝓛 S' c)
-      lent s finds =
-          let Ar : RattleType = the_row R in
+      lent at_k s =
+          let Ar : RattleType = arena_row R in
           proved_at 𝓛 S' lent_stays c 𝓜 𝓡 (
             Goes-spent_ref 𝓛 2 (0 ∷ []) tt (plain (λ _. Ar)),
             (Goes-dropped 𝓛 2 (plain (λ _. Nd)) yes (λ κs x f. refl), tt),
@@ -226,11 +262,11 @@ module _ {M : Type 1} (𝓤 : Ura M) (𝓛 : Logic 𝓤) (𝓜 : Model 𝓤 𝓛
           drop ! $ heard ! _ (λ asked.
           let k = (s.block a n asked).0 in let is_k = (s.block a n asked).1 in let h = s.held a n asked in
           move ! (1 ∷ []) $ fsplit ! $ fsplit3 ! $ feq_l !
-          (λ e0. move ! (2 ∷ []) $ fsplit ! $ word_had ! n.at z.0.4.1.0 (λ e1. drop ! $
+          (λ e0. move ! (2 ∷ []) $ fsplit ! $ word_had no_box [] n.at ! z.0.4.1.0 (λ e1. drop ! $
           -- [obs; the borrow; the tokens]
           args_are ! (λ (ws : List Val × List Val). Run (ws.0 ++ (ws.1 ++ []))) (λ j. (sym e0 j, sym e1 j)) $
           move ! (2 ∷ []) $ split3 ! $ move ! (3 ∷ 4 ∷ 0 ∷ []) $
-          begins ! finds Post rb ro n.at $
+          begins ! at_k Post rb ro n.at $
           opens ! tt Ar {h = a} rb ro (λ vs. move ! (1 ∷ []) $ fsplit ! $ move ! (1 ∷ []) $
           use1 𝓛 (‵ (block_owns R n.at k) ⊛ ‵ (blocks_own R (remove_entry (same_node n) a.blocks)))
           (blocks_cut R 𝓛 n a.blocks k is_k) $ split ! $

@@ -1,13 +1,11 @@
 -- A `&` to an arena is made where one to each part of its blocks is. Assumes `Logic`.
-use Rattle.hashlink_nodes.proofs.Names.{ℕ, List, [], ◌∷◌, Option, Some, None, Ura, full_share, Lft, Incl}
-use Rattle.hashlink_nodes.proofs.Names.{ftrue, fsep, Logic, ⊑_static, usize, Laws, Sharable, copy_shared}
-use Rattle.hashlink_nodes.proofs.Names.{RattleType, RowLaws, Ptr, lies_at, ShrLaws, said, beside}
-use Rattle.hashlink_nodes.proofs.Names.{beside_shr_laws, nothing_shr_laws, said_shr_laws, Shares-less}
-use Rattle.hashlink_nodes.proofs.Names.{usize-field, usize-copy, Lends, lent_at, lent_at_shr_laws, Lends-lies}
-use Rattle.hashlink_nodes.proofs.Names.{Lends-first, Lends-both, Lends-said, Lends-nothing, Kept, number_word}
-use Rattle.hashlink_nodes.proofs.Names.{Links, blocks_lent, blocks_own, block_lent, block_owns, pair_lent}
-use Rattle.hashlink_nodes.proofs.Names.{pair_owns, is_small, deed_owns, free_right, number_of, links_of, Node}
-use Rattle.hashlink_nodes.specs.Ownership.{pair_of}
+use Rattle.hashlink_nodes.proofs.Names
+use Names.{ℕ, List, [], ◌∷◌, Option, Some, None, Ura, full_share, Lft, Incl, ftrue, fsep, Logic, ⊑_static}
+use Names.{usize, Laws, Sharable, copy_shared, RattleType, RowLaws, Ptr, lies_at, ShrLaws, said, beside}
+use Names.{beside_shr_laws, nothing_shr_laws, said_shr_laws, Shares-less, usize-field, usize-copy, Lends}
+use Names.{lent_at, lent_at_shr_laws, Lends-lies, Lends-first, Lends-both, Lends-said, Lends-nothing, Kept}
+use Names.{number_word, Links, blocks_lent, blocks_own, block_lent, block_owns, pair_lent, pair_owns}
+use Names.{is_small, deed_owns, number_of, links_of, Node, pair_place}
 use Rattle.hashlink_nodes.proofs.pool.links.Links.TheLaws as links_laws
 
 abbrev number_laws : Sharable usize-field
@@ -19,7 +17,7 @@ LL = links_laws.the_row_laws
 module _ (R : RattleType) (L : RowLaws R) where
   pair_lent_laws : (p : Ptr) (e : Option (ℕ × R.Denot)) → ShrLaws (pair_lent R p e)
   pair_lent_laws p None = nothing_shr_laws
-  pair_lent_laws p (Some e) = lent_at_shr_laws R L (pair_of R p) e.1
+  pair_lent_laws p (Some e) = lent_at_shr_laws R L (pair_place R p) e.1
 
   small_laws : (e : Option (ℕ × R.Denot)) → ShrLaws (said (is_small R e))
   small_laws None = said_shr_laws ftrue tt
@@ -42,7 +40,7 @@ module _ {M : Type 1} {𝓤 : Ura M} (𝓛 : Logic 𝓤) (l : Lft) (R : RattleTy
   Lends-pair : (p : Ptr) (e : Option (ℕ × R.Denot)) → Lends 𝓛 (pair_owns R p e) (pair_lent R p e) l
   Lends-pair p None = Lends-nothing 𝓛 (pair_owns R p None) l
   Lends-pair p (Some e) =
-      Lends-lies 𝓛 R l (pair_of R p) e.1 (Shares-less 𝓛 R R.lives l inc (L.shares 𝓛) e.1)
+      Lends-lies 𝓛 R l (pair_place R p) e.1 (Shares-less 𝓛 R R.lives l inc (L.shares 𝓛) e.1)
 
   Lends-small : (e : Option (ℕ × R.Denot)) → Lends 𝓛 (is_small R e) (said (is_small R e)) l
   Lends-small None = Lends-said 𝓛 ftrue tt l
@@ -50,26 +48,19 @@ module _ {M : Type 1} {𝓤 : Ura M} (𝓛 : Logic 𝓤) (l : Lft) (R : RattleTy
 
   Lends-block : (p : Ptr) (k : Kept R.Denot) → Lends 𝓛 (block_owns R p k) (block_lent R p k) l
   Lends-block p k =
-      let number = lies_at usize full_share (number_of R p) (number_word k.entry) in
-      let links = lies_at Links full_share (links_of R p) k.links in
-      let number_lent = lent_at usize (number_of R p) (number_word k.entry) in
-      let links_lent = lent_at Links (links_of R p) k.links in
-      let numbered = fsep (is_small R k.entry) number in
-      let numbered_lent = beside (said (is_small R k.entry)) number_lent in
-      let linked = fsep links (deed_owns R free_right p) in
-      Lends-both 𝓛 (pair_owns R p k.entry) (fsep numbered linked) (pair_lent R p k.entry)
-      (beside numbered_lent links_lent) l (Lends-pair p k.entry)
-      (Lends-both 𝓛 numbered linked numbered_lent links_lent l
-      (Lends-both 𝓛 (is_small R k.entry) number (said (is_small R k.entry)) number_lent l
-      (Lends-small k.entry)
+      let small = said (is_small R k.entry) in let links = lent_at Links (links_of R p) k.links in
+      let number = lent_at usize (number_of R p) (number_word k.entry) in
+      Lends-both 𝓛 _ _ (pair_lent R p k.entry) (beside (beside small number) links) l (Lends-pair p k.entry)
+      (Lends-both 𝓛 _ _ (beside small number) links l
+      (Lends-both 𝓛 _ _ small number l (Lends-small k.entry)
       (Lends-lies 𝓛 usize l (number_of R p) (number_word k.entry)
       (Shares-less 𝓛 usize usize.lives l (⊑_static l) (number_laws.shares M 𝓤 𝓛) (number_word k.entry))))
-      (Lends-first 𝓛 links (deed_owns R free_right p) links_lent l
+      (Lends-first 𝓛 _ (deed_owns R p) links l
       (Lends-lies 𝓛 Links l (links_of R p) k.links
       (Shares-less 𝓛 Links Links.lives l (⊑_static l) (LL.shares 𝓛) k.links))))
 
   pub Lends-blocks : (bs : List (Node × Kept R.Denot)) → Lends 𝓛 (blocks_own R bs) (blocks_lent R bs) l
   Lends-blocks [] = Lends-nothing 𝓛 ftrue l
   Lends-blocks (b ∷ bs) =
-      Lends-both 𝓛 (block_owns R b.0.at b.1) (blocks_own R bs) (block_lent R b.0.at b.1) (blocks_lent R bs) l
-      (Lends-block b.0.at b.1) (Lends-blocks bs)
+      Lends-both 𝓛 _ _ (block_lent R b.0.at b.1) (blocks_lent R bs) l (Lends-block b.0.at b.1)
+      (Lends-blocks bs)

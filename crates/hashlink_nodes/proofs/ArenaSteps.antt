@@ -1,13 +1,15 @@
 -- What the walks of the arena's functions share. Assumes `Logic`.
-use Rattle.hashlink_nodes.proofs.Names.{◌≡◌, ◌^◌, List, [], ◌∷◌, ◌++◌, refl, subst, Ura, lit<, Ty, int_big}
-use Rattle.hashlink_nodes.proofs.Names.{w64, Fits, Val, vint, vstruct, vcons, vnil, of_list, SProp, ent, emp}
+use Rattle.hashlink_nodes.proofs.Names.{ℕ, ◌<◌, ty_int, Good, ◌≡◌, ◌^◌, List, [], ◌∷◌, refl, subst, Ura, lit<}
+use Rattle.hashlink_nodes.proofs.Names.{int_big, w64, Fits, Val, vint, vstruct, vcons, vnil, SProp, ent, emp}
 use Rattle.hashlink_nodes.proofs.Names.{guard_i, via, fact, fact_i, prop, raw, use0, Item, Goal, Seq, Step}
-use Rattle.hashlink_nodes.proofs.Names.{step, ‵, ◌$◌, drop, fsplit, fjoin, fpick, fpack, feq_i, feq_l}
-use Rattle.hashlink_nodes.proofs.Names.{rewrite, Env, Opd, Logic, sem, RattleType, Valss, Ptr, RawPtr}
-use Rattle.hashlink_nodes.proofs.Names.{ptr_val, makes_shadow, Typed, Is, shows, layout, Laws, nothing, peeks}
-use Rattle.hashlink_nodes.proofs.Names.{Shape, Struct, within, shape, Good, word}
+use Rattle.hashlink_nodes.proofs.Names.{step, ◌$◌, Env, Opd, Logic, sem, RattleType, Laws, Struct, shape, Al}
+use Rattle.hashlink_nodes.proofs.Names.{impl, tnil, dnil, ftrue}
+use denote.Shadow.{makes_shadow}
 use Rattle.hashlink_nodes.specs.contracts.arena.Arena as A
 use Rattle.hashlink_nodes.specs.contracts.node.Node as N
+use Rattle.std.specs.contracts.alloc.Global as heap
+use Rattle.std.proofs.alloc.Global.TheLaws as heap_laws
+use Rattle.std.proofs.BoxSteps.Form.{Bx}
 
 -- the arena's own field, which takes no bytes
 abbrev pub Mark : RattleType → RattleType
@@ -25,42 +27,27 @@ mark_made R 𝓛 =
     makes_shadow 𝓛 ((Mark R).own_val (tt, tt) (mark ∷ [])) (λ vss. (tt, ((λ uss. (tt, tt)), tt)))
     ((vstruct vnil ∷ [], tt), (refl, ((tt, (refl, tt)), tt)))
 
-abbrev one_field : Shape
-one_field = record { name = []; args = []; types = []; fields = RawPtr ∷ [] }
+pub fits_word : {n : ℕ} → n < 2 ^ 64 → Good (ty_int w64) (vint w64 n)
+fits_word p = (tt, record { fits = p })
 
-abbrev pub Word : RattleType
-Word = Struct one_field
+-- what std's lemmas on machine values ask for beside a row, and do not look at
+abbrev pub as_handle : (R : RattleType) → Laws R → Al
+as_handle R L = record {
+  row = R;
+  laws = L;
+  g = record { dealloc_token = λ _ _ _. ftrue };
+  d = impl [] tnil dnil;
+  drops = impl [] tnil dnil;
+}
 
-module _ {M : Type 1} {𝓤 : Ura M} {𝓛 : Logic 𝓤} {K : Type 0} {Γ : List (Item 𝓤)} {G : Goal 𝓤 𝓛.H} where
-  pub word_had : K → (c : Ptr) (vs : List Val) → (vs ≡ word c ∷ [] → Seq K 𝓛 Γ G)
-      → Seq K 𝓛 (‵ (Word.own_val (c, tt) vs) ∷ Γ) G
-  word_had t c vs k =
-      fpick t
-      (λ vss. fsplit t $ feq_l t
-      (λ ev. fsplit t $ feq_l t
-      (λ e. drop t $ k (subst (λ (ws : List Val). vs ≡ vstruct (of_list (ws ++ [])) ∷ []) e ev))))
+abbrev pub Heap : RattleType
+Heap = heap.the_row
 
-  pub word_made : K → (c : Ptr) → Step K 𝓛 (‵ (Word.own_val (c, tt) (word c ∷ [])) ∷ Γ) G Γ G
-  word_made t c = step (λ s.
-      nothing t $ feq_i t (List Val) (ptr_val c ∷ []) (ptr_val c ∷ []) refl $ fjoin t $ feq_i t (List Val)
-      (word c ∷ []) (word c ∷ []) refl $ fjoin t $
-      fpack t (Valss (RawPtr ∷ [])) (within one_field (c, tt) (word c ∷ [])) (ptr_val c ∷ [], tt) $ s)
+abbrev pub heap_handle : Al
+heap_handle = as_handle Heap heap_laws.the_row_laws
 
-alone : (τ : Ty) (vs : List Val) → Typed (τ ∷ []) vs → (v : Val) × ((vs ≡ v ∷ []) × Good τ v)
-alone τ [] t = absurd t
-alone τ (v ∷ []) t = (v, (refl, t.0))
-alone τ (v ∷ w ∷ vs) t = absurd t.1
-
-module _ (R : RattleType) (L : Laws R) {M : Type 1} {𝓤 : Ura M} {𝓛 : Logic 𝓤} {K : Type 0}
-    {Γ : List (Item 𝓤)} {G : Goal 𝓤 𝓛.H} where
-  -- what is owned of a value is one machine value, of its type
-  pub told : K → (x : R.Denot) (vs : List Val)
-      → ((v : Val) → vs ≡ v ∷ [] → Good (layout R) v → Seq K 𝓛 (‵ (R.own_val x (v ∷ [])) ∷ Γ) G)
-      → Seq K 𝓛 (‵ (R.own_val x vs) ∷ Γ) G
-  told t x vs k =
-      peeks t R (Is R) (shows 𝓛 R) x vs (λ is.
-      let one = alone (layout R) vs (subst (λ τs. Typed τs vs) L.one ((L.lawful 𝓛).typed x vs is)) in
-      rewrite t 0 (λ (us : List Val). ‵ (R.own_val x us)) one.1.0 refl $ k one.0 one.1.0 one.1.1)
+abbrev pub no_box : Bx
+no_box = record { row = Heap; laws = heap_laws.the_row_laws; al = heap_handle }
 
 module _ {M : Type 1} {𝓤 : Ura M} {𝓛 : Logic 𝓤} {K : Type 0} {Γ : List (Item 𝓤)} {E : Env 𝓤 𝓛.H} where
   -- the number of a block that has no pair, as it is written

@@ -1,113 +1,151 @@
 -- What the calls of a ring cite: each from the ring as it is opened to the ring as it is closed.
-use Rattle.hashlink_nodes.proofs.Names.{◌≡◌, ℕ, ◌+◌, ◌-◌, ◌^◌, ◌<◌, [], ◌∷◌, ◌++◌, length, Option, Some, None}
-use Rattle.hashlink_nodes.proofs.Names.{refl, sym, ap, ◌∙◌, subst, arith, IfSome, lookup_entry, keys_of}
-use Rattle.hashlink_nodes.proofs.Names.{lookup, remove_entry, set_value, option_map, append-nil}
-use Rattle.hashlink_nodes.proofs.Names.{length-append, length-drop, length-set_value, Node, Inside, same_node}
-use Rattle.hashlink_nodes.proofs.Names.{state_of, Ring, ring, IsRing, IsSound, SoundAt, ring_at, ring_of}
-use Rattle.hashlink_nodes.proofs.Names.{State, GuardIs, attached, detached, hold, store_next, Adds, Drops}
+use Rattle.hashlink_nodes.proofs.Names
+use Names.{◌≡◌, ℕ, ◌+◌, ◌-◌, ◌^◌, ◌<◌, [], ◌∷◌, ◌++◌, length, Option, Some, None, refl, sym, ap, ◌∙◌, subst}
+use Names.{arith, keys_of, unwrap_or, remove_entry, set_value, option_map, append-nil, length-append}
+use Names.{length-drop, length-set_value, Node, Inside, same_node, state_of, Ring, ring, Held, IsRing}
+use Names.{IsSound, SoundAt, ring_of, State, GuardIs, attached, detached, hold, store_next, Adds, Drops}
+use Names.{AreThere, IsPlace, put_before, put_after, held, pair_of, with_number}
 use Rattle.std.proofs.Common.{drop}
-use Rattle.hashlink_nodes.specs.declared.held.Held.{Held}
-use Rattle.hashlink_nodes.proofs.Paths.{last_or}
-use Rattle.hashlink_nodes.proofs.Cuts.{Gap, cut-looked, cut-entry}
-use Rattle.hashlink_nodes.proofs.Shapes.{shape_made}
-use Rattle.hashlink_nodes.proofs.Rings.{linked, Ends, attach, Entries, InRing, in_ring, detach, detach_node}
-use Rattle.hashlink_nodes.proofs.Rings.{held_out, holds_now, held_now, added, dropped, spared, take_spare}
-use Rattle.hashlink_nodes.proofs.Rings.{renew}
-use Rattle.hashlink_nodes.proofs.Opening.{length-gap, Leaves, NodeAt, Opened, if_some, leaves, length-removed}
-use Rattle.hashlink_nodes.proofs.Opening.{opened, empty}
+use Rattle.hashlink_nodes.specs.declared.pool.Pool.{Pool}
+use Rattle.hashlink_nodes.proofs.Paths.{head_or, last_or}
+use Rattle.hashlink_nodes.proofs.Cuts.{Gap, cut-removed, cut-renewed, before_place, after_place, same_some}
+use Rattle.hashlink_nodes.proofs.Rings.{Linked, linked, attach, Entries, InRing, in_ring, detach, held_out}
+use Rattle.hashlink_nodes.proofs.Rings.{holds_now, held_now, added, dropped, spared, take_spare, renew, Taken}
+use Rattle.hashlink_nodes.proofs.Rings.{guarded, held_anew}
+use Rattle.hashlink_nodes.proofs.Opening.{length-gap, Leaves, NodeAt, Opened, leaves, length-removed, opened}
+use Rattle.hashlink_nodes.proofs.Opening.{empty}
 
 module _ {K V : Type 0} where
-  -- ---- a node of the ring holds something else
-  pub record Renewed (s s' : State K V) (guard : Option Node) (first : Node) (len spare : ℕ)
-      (v : Ring K V) (n : Node) (change : Held K V → Held K V) : Type 0 where
-    pub sound : SoundAt s' guard first len spare
-    pub entries : IfSome (lookup (same_node n) v.entries)
-        (λ h. (ring_at s' guard first len spare).entries ≡ set_value (same_node n) v.entries (change h))
-    pub free : (ring_at s' guard first len spare).free ≡ v.free
-    pub link_writes : s'.link_writes ≡ v.link_writes
-
-  -- ---- the entry of n moves
-  pub record Moved (s : State K V) (guard : Option Node) (first : Node) (len spare : ℕ) (v : Ring K V)
-      (n : Node) (put : Node × Held K V → Entries K V) : Type 0 where
-    pub sound : SoundAt s guard first len spare
-    pub moved : IfSome (lookup_entry (same_node n) v.entries)
-        (λ e. (ring_at s guard first len spare).entries ≡ put e)
-    pub free : (ring_at s guard first len spare).free ≡ v.free
-    pub link_writes : s.link_writes ≡ v.link_writes + 6
-
-  module _ {s : State K V} {guard : Option Node} {g first n : Node} {len spare : ℕ} {v : Ring K V}
-      (at : NodeAt s guard g first len spare v n) where
-    pub set_held : {s' : State K V} (w : Held K V) → s' ≡ hold n (Some w) s
-        → Leaves s' guard first len spare (ring (set_value (same_node n) v.entries w) v.free v.link_writes)
-    set_held w is =
-        leaves at.is (renew at.ring at.cut w is) (length-set_value (same_node n) v.entries w ∙ at.is_len)
-        at.is_spare
-
-    pub renewed : {s' : State K V} (change : Held K V → Held K V) →
-        s' ≡ hold n (option_map change (s.held n)) s
-        → Renewed s s' guard first len spare v n change
-    renewed {s'} change is =
-        let l = set_held (change at.cut.value) (is ∙ ap (λ o. hold n (option_map change o) s) at.here.holds)
-        in
-        record {
-          sound = l.sound;
-          entries = if_some
-              (λ h. (ring_at s' guard first len spare).entries ≡ set_value (same_node n) v.entries (change h))
-              (cut-looked at.cut) l.entries;
-          free = l.free;
-          link_writes = l.link_writes;
-        }
-
-    -- ---- a node of the ring leaves it
-    pub taken_out : {s₁ : State K V} → s₁ ≡ detached n s
-        → IsRing s₁ (n ∷ []) g first (ring (remove_entry (same_node n) v.entries) v.free (v.link_writes + 2))
-    taken_out is = detach_node at.ring at.cut is
-
-    -- it is spare then
-    pub removed : {s₁ s₂ s₃ : State K V} → s₁ ≡ detached n s → s₂ ≡ hold n None s₁ →
-        s₃ ≡ store_next n first s₂
-        → Leaves s₃ guard n (len - 1) (spare + 1)
-        (ring (remove_entry (same_node n) v.entries) (n ∷ v.free) (v.link_writes + 2 + 1))
-    removed {s₁} is₁ is₂ is₃ =
-        leaves at.is (spared (holds_now None (taken_out is₁) is₂) (held_now s₁ is₂) is₃)
-        (omega (arith, length-removed v.entries at.cut, at.is_len)) (omega (arith, at.is_spare))
-
-    -- or it goes in elsewhere
-    pub moved : {s₁ s₂ : State K V} {p q : Node} {put : Node × Held K V → Entries K V}
-        {gap : Gap (remove_entry (same_node n) v.entries) put} → Ends gap g p q → s₁ ≡ detached n s
-        → s₂ ≡ attached n p q s₁
-        → Moved s₂ guard first len spare v n put
-    moved {s₂ = s₂} {put = put} {gap = gap} ends is₁ is₂ =
-        let w = v.link_writes in let six : w + 2 + 4 ≡ w + 6 = omega arith in
-        let len' = length-gap (remove_entry (same_node n) v.entries) gap (n, at.cut.value) in
-        let l = leaves at.is (attach (taken_out is₁) ends (held_out at.here is₁) is₂)
-        (omega (arith, len', length-removed v.entries at.cut, at.is_len)) at.is_spare in record {
-          sound = l.sound;
-          moved = if_some (λ e. (ring_at s₂ guard first len spare).entries ≡ put e) (cut-entry at.cut)
-              l.entries;
-          free = l.free;
-          link_writes = l.link_writes ∙ six;
-        }
-
-  -- ---- a new entry
-  -- the node n holds it, and is beside the ring
+  -- ---- an entry goes in
+  -- the node n holds it, and is beside the ring, which has len entries once it is in
   pub record Ready (s : State K V) (n g first : Node) (h : Held K V) (len spare : ℕ) (v : Ring K V) : Type 0
     where
       pub ring : IsRing s (n ∷ []) g first v
       pub holds : s.held n ≡ Some h
-      pub is_len : length v.entries ≡ len
+      pub is_len : length v.entries + 1 ≡ len
       pub is_spare : length v.free ≡ spare
 
+  -- it goes in between p and q, and es are the entries then
+  pub record Into (s : State K V) (n g first p q : Node) (len spare : ℕ) (v : Ring K V) (es : Entries K V) :
+      Type 0 where
+    pub fits : AreThere s n p q
+    pub leaves : {s' : State K V} {guard : Option Node} → guard ≡ Some g → s' ≡ attached n p q s
+        → Leaves s' guard first len spare (ring es v.free (v.link_writes + 4))
+
+  module _ {s : State K V} {n g first : Node} {h : Held K V} {len spare : ℕ} {v : Ring K V}
+      (r : Ready s n g first h len spare v) where
+    into : {p q : Node} {put : Node × Held K V → Entries K V} (gap : Gap v.entries put)
+        → Linked s (last_or g (keys_of gap.before)) (head_or g (keys_of gap.after))
+        → p ≡ last_or g (keys_of gap.before) → q ≡ head_or g (keys_of gap.after)
+        → Into s n g first p q len spare v (put (n, h))
+    into gap l is_p is_q = record {
+      fits = record {
+        node = r.ring.there.0;
+        prev = ap s.has is_p ∙ l.has_prev;
+        next = ap s.has is_q ∙ l.has_next;
+      };
+      leaves = λ {s'} is_guard is.
+          let w = v.link_writes in
+          let r' = subst (λ es. IsRing s (n ∷ []) g first (ring es v.free w)) gap.is r.ring in
+          leaves is_guard
+          (subst (λ es. IsRing s' [] g first (ring es v.free (w + 4))) (sym (gap.puts (n, h)))
+          (attach gap.before gap.after r' r.holds is_p is_q is)) (length-gap v.entries gap (n, h) ∙ r.is_len)
+          r.is_spare;
+    }
+
+    module _ (place : Option Node) (is_place : IsPlace v.entries place) {p : Node}
+        (is_p : p ≡ unwrap_or place g) where
+      pub into_before : Into s n g first (s.prev p) p len spare v (put_before place (n, h) v.entries)
+      into_before =
+          let at = before_place v.entries g place is_place in let is = is_p ∙ at.node in
+          let l = linked r.ring at.gap.before at.gap.after at.gap.is in
+          into at.gap l (ap s.prev is ∙ l.back) is
+
+      pub into_after : Into s n g first p (s.next p) len spare v (put_after place (n, h) v.entries)
+      into_after =
+          let at = after_place v.entries g place is_place in let is = is_p ∙ at.node in
+          let l = linked r.ring at.gap.before at.gap.after at.gap.is in
+          into at.gap l is (ap s.next is ∙ l.on)
+
+  -- ---- a node of the ring
+  module _ {s : State K V} {guard : Option Node} {g first n : Node} {len spare : ℕ} {v : Ring K V}
+      (at : NodeAt s guard g first len spare v n) where
+    abbrev rest : Entries K V
+    rest = remove_entry (same_node n) v.entries
+
+    cut_open : IsRing s [] g first
+        (ring (at.cut.before ++ (n, at.cut.value) ∷ at.cut.after) v.free v.link_writes)
+    cut_open = subst (λ es. IsRing s [] g first (ring es v.free v.link_writes)) at.cut.is at.whole.ring
+
+    -- it holds something else
+    pub set_held : {s' : State K V} (w : Held K V) → s' ≡ hold n (Some w) s
+        → Leaves s' guard first len spare (ring (set_value (same_node n) v.entries w) v.free v.link_writes)
+    set_held {s'} w is =
+        leaves at.is
+        (subst (λ es. IsRing s' [] g first (ring es v.free v.link_writes)) (sym (cut-renewed at.cut w))
+        (renew n at.cut.value at.cut.before at.cut.after cut_open w is))
+        (length-set_value (same_node n) v.entries w ∙ at.whole.is_len) at.whole.is_spare
+
+    pub renewed : {s' : State K V} (change : Held K V → Held K V)
+        → s' ≡ hold n (option_map change (s.held n)) s
+        → Leaves s' guard first len spare
+        (ring (set_value (same_node n) v.entries (change at.cut.value)) v.free v.link_writes)
+    renewed change is =
+        set_held (change at.cut.value) (is ∙ ap (λ o. hold n (option_map change o) s) at.here.holds)
+
+    -- its entry is taken and put in again, with another number
+    pub renumbered : {s₁ s₂ : State K V} {pair : K × V} (i : ℕ) → s₁ ≡ hold n None s
+        → option_map pair_of (s.held n) ≡ Some pair → s₂ ≡ hold n (Some (held i pair.0 pair.1)) s₁
+        → Leaves s₂ guard first len spare
+        (ring (set_value (same_node n) v.entries (with_number at.cut.value i)) v.free v.link_writes)
+    renumbered i is₁ was is₂ =
+        let e = same_some (ap (option_map pair_of) (sym at.here.holds) ∙ was) in
+        set_held (with_number at.cut.value i)
+        (held_anew _ _ _ s is₁ is₂ ∙ (λ j. hold n (Some (held i (sym e j).0 (sym e j).1)) s))
+
+    -- it leaves the ring
+    pub taken_out : {s₁ : State K V} → s₁ ≡ detached n s
+        → IsRing s₁ (n ∷ []) g first (ring rest v.free (v.link_writes + 2))
+    taken_out {s₁} is =
+        subst (λ es. IsRing s₁ (n ∷ []) g first (ring es v.free (v.link_writes + 2)))
+        (sym (cut-removed at.cut)) (detach at.cut.value at.cut.before at.cut.after cut_open is)
+
+    -- it is spare then
+    pub removed : {s₁ s₂ s₃ : State K V} → s₁ ≡ detached n s → s₂ ≡ hold n None s₁ →
+        s₃ ≡ store_next n first s₂
+        → Leaves s₃ guard n (len - 1) (spare + 1) (ring rest (n ∷ v.free) (v.link_writes + 2 + 1))
+    removed {s₁} is₁ is₂ is₃ =
+        leaves at.is (spared (holds_now (taken_out is₁) None is₂) (held_now s₁ is₂) is₃)
+        (omega (arith, length-removed v.entries at.cut, at.whole.is_len)) (omega (arith, at.whole.is_spare))
+
+    -- or it goes in elsewhere
+    pub ready_moved : {s₁ : State K V} → s₁ ≡ detached n s
+        → Ready s₁ n g first at.cut.value len spare (ring rest v.free (v.link_writes + 2))
+    ready_moved is = record {
+      ring = taken_out is;
+      holds = held_out at.here is;
+      is_len = length-removed v.entries at.cut ∙ at.whole.is_len;
+      is_spare = at.whole.is_spare;
+    }
+
+  -- ---- a new entry
   -- the first spare node
-  pub ready_spare : {s s' : State K V} {g first first' : Node} {len spare : ℕ} {v : Ring K V} (h : Held K V)
-      → Opened s g first len spare v → 0 < spare → first' ≡ s.next first → s' ≡ hold first (Some h) s
-      → Ready s' first g first' h len (spare - 1) (ring v.entries (drop 1 v.free) v.link_writes)
-  ready_spare {s} {s'} {g} {first} {v = v} h o some is_first is =
-      let t = take_spare o.ring (omega (arith, some, o.is_spare)) in
-      let v' = ring v.entries (drop 1 v.free) v.link_writes in record {
-        ring = subst (λ m. IsRing s' (first ∷ []) g m v') (sym is_first) (holds_now (Some h) t.ring is);
-        holds = held_now s is;
-        is_len = o.is_len;
+  pub spare_of : {s : State K V} {g first : Node} {len spare : ℕ} {v : Ring K V}
+      → Opened s g first len spare v → 0 < spare → Taken s g first v
+  spare_of {s} {g} {first} {v = v} o some =
+      take_spare s g first v.entries v.free v.link_writes o.ring (omega (arith, some, o.is_spare))
+
+  pub ready_spare : {n : Inside K V} {s' : State K V} {g first' : Node} {h : Held K V} {v : Ring K V}
+      → IsSound n → ring_of n ≡ v → n.guard ≡ Some g → 0 < n.spare
+      → first' ≡ (state_of n.pool).next n.first_spare → s' ≡ hold n.first_spare (Some h) (state_of n.pool)
+      → Ready s' n.first_spare g first' h (n.len + 1) (n.spare - 1)
+      (ring v.entries (drop 1 v.free) v.link_writes)
+  ready_spare {n} {s'} {g} {h = h} {v} sound view is_guard some is_first is =
+      let o = opened sound view is_guard in let v' = ring v.entries (drop 1 v.free) v.link_writes in record {
+        ring = subst (λ m. IsRing s' (n.first_spare ∷ []) g m v') (sym is_first)
+            (holds_now (spare_of o some).ring (Some h) is);
+        holds = held_now (state_of n.pool) is;
+        is_len = omega (arith, o.is_len);
         is_spare = omega (arith, length-drop 1 v.free, o.is_spare);
       }
 
@@ -120,14 +158,8 @@ module _ {K V : Type 0} where
       → Opened s' g n.first_spare n.len n.spare v) [
         | None ↦ λ none m.
             let h = subst (λ o. SoundAt (state_of n.pool) o n.first_spare n.len n.spare) none sound.at in
-            let e = empty sound view none in
-            let writes = ap (λ (r : Ring K V). r.link_writes) view in
-            subst (Opened s' g n.first_spare n.len n.spare) (sym e) (record {
-              ring = record {
-                shape = shape_made n.first_spare h.2 m;
-                full = tt;
-                writes = m.adds.link_writes ∙ writes;
-              };
+            subst (Opened s' g n.first_spare n.len n.spare) (sym (empty sound view none)) (record {
+              ring = guarded n.first_spare h.2 (ap (λ (r : Ring K V). r.link_writes) view) m;
               is_len = sym h.0;
               is_spare = sym h.1;
             })
@@ -136,35 +168,36 @@ module _ {K V : Type 0} where
             (λ i. (sym m.1 i, sym m.0 i)) (opened sound view some)
       ]) refl is
 
-  -- a new node
-  pub ready_new : {s s₁ s₂ : State K V} {n g first : Node} {len spare : ℕ} {v : Ring K V} (h : Held K V)
-      → Opened s g first len spare v → Adds n None s s₁ → len + spare + 1 < 2 ^ 63 → s₂ ≡ hold n (Some h) s₁
-      → Ready s₂ n g first h len spare v
-  ready_new {s₁ = s₁} h o a few is = record {
-    ring = holds_now (Some h) (added o.ring a (omega (arith, few, o.is_len, o.is_spare))) is;
-    holds = held_now s₁ is;
-    is_len = o.is_len;
-    is_spare = o.is_spare;
-  }
+  -- and stays, if nothing else comes in
+  pub guard_stays : {n : Inside K V} {p p' : Pool K V} {g : Node} {v : Ring K V} → IsSound n → ring_of n ≡ v
+      → GuardIs (state_of n.pool) (state_of p) n.guard g → p' ≡ p
+      → Leaves (state_of p') (Some g) n.first_spare n.len n.spare v
+  guard_stays {n} {g = g} {v} sound view is_guard same =
+      let o = guarded_now sound view is_guard in
+      subst (λ (x : Pool K V). Leaves (state_of x) (Some g) n.first_spare n.len n.spare v) (sym same)
+      (leaves refl o.ring o.is_len o.is_spare)
 
-  pub pushed : {s s' : State K V} {guard : Option Node} {n g first p q : Node} {h : Held K V} {len spare : ℕ}
-      {v : Ring K V} {put : Node × Held K V → Entries K V} {gap : Gap v.entries put}
-      → Ready s n g first h len spare v → Ends gap g p q → guard ≡ Some g → s' ≡ attached n p q s
-      → Leaves s' guard first (len + 1) spare (ring (put (n, h)) v.free (v.link_writes + 4))
-  pushed {n = n} {h = h} {v = v} {gap = gap} r ends is_guard is =
-      leaves is_guard (attach r.ring ends r.holds is)
-      (omega (arith, length-gap v.entries gap (n, h), r.is_len)) r.is_spare
+  -- a new node
+  pub ready_new : {n : Inside K V} {s s₁ s₂ : State K V} {m g : Node} {h : Held K V} {v : Ring K V}
+      → IsSound n → ring_of n ≡ v → GuardIs (state_of n.pool) s n.guard g → v.free ≡ [] → n.len + 1 < 2 ^ 63
+      → Adds m s s₁ → s₂ ≡ hold m (Some h) s₁ → Ready s₂ m g n.first_spare h (n.len + 1) n.spare v
+  ready_new {s₁ = s₁} {h = h} sound view is_guard none few a is =
+      let o = guarded_now sound view is_guard in record {
+        ring = holds_now (added o.ring a (omega (arith, few, o.is_len, ap length none))) (Some h) is;
+        holds = held_now s₁ is;
+        is_len = omega (arith, o.is_len);
+        is_spare = o.is_spare;
+      }
 
   -- ---- nodes are given back
   pub spare_gone : {s s' : State K V} {guard : Option Node} {g first first' : Node} {len spare : ℕ}
-      {v : Ring K V}
-      → guard ≡ Some g → Opened s g first len spare v → 0 < length v.free → first' ≡ s.next first →
-      Drops first s s'
+      {v : Ring K V} → guard ≡ Some g → Opened s g first len spare v → 0 < spare → first' ≡ s.next first
+      → Drops first s s'
       → Leaves s' guard first' len (spare - 1) (ring v.entries (drop 1 v.free) v.link_writes)
   spare_gone {s} {s'} {guard} {g} {len = len} {spare = spare} {v = v} is o some is_first drops =
       let v' = ring v.entries (drop 1 v.free) v.link_writes in
       subst (λ m. Leaves s' guard m len (spare - 1) v') (sym is_first)
-      (leaves is (dropped (take_spare o.ring some).ring drops) o.is_len
+      (leaves is (dropped (spare_of o some).ring drops) o.is_len
       (omega (arith, length-drop 1 v.free, o.is_spare)))
 
   -- the last node of the ring
@@ -198,8 +231,9 @@ module _ {K V : Type 0} where
     pub last_bare : {s₁ s₂ : State K V} → s₁ ≡ detached n s → s₂ ≡ hold n None s₁
         → IsRing s₂ (n ∷ []) g first (ring last.before v.free (v.link_writes + 2))
     last_bare {s₁} {s₂} is₁ is₂ =
+        let r = subst (λ es. IsRing s [] g first (ring es v.free v.link_writes)) last.is o.ring in
         subst (λ es. IsRing s₂ (n ∷ []) g first (ring es v.free (v.link_writes + 2))) (append-nil last.before)
-        (holds_now None (detach o.ring last.value last.before [] last.is is₁) is₂)
+        (holds_now (detach last.value last.before [] r is₁) None is₂)
 
     pub last_gone : {guard : Option Node} {s₁ s₂ s₃ : State K V} → guard ≡ Some g → s₁ ≡ detached n s
         → s₂ ≡ hold n None s₁ → Drops n s₂ s₃
@@ -217,8 +251,8 @@ module _ {K V : Type 0} where
   guard_gone {v = v} o no_entries no_free drops =
       omega (
         arith,
-        o.ring.shape.size,
+        o.ring.size,
         drops.size,
-        ap (λ es. length (keys_of es)) no_entries,
+        ap length no_entries,
         ap length no_free,
       )

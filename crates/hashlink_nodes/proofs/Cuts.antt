@@ -1,12 +1,15 @@
 -- A node of a list of entries, and a place in it: what comes before, what comes after, and what the words of
 -- the contracts say there.
-use Rattle.hashlink_nodes.proofs.Names.{◌≡◌, Bool, true, false, cond, List, [], ◌∷◌, ◌++◌, Option, None, Some}
-use Rattle.hashlink_nodes.proofs.Names.{refl, sym, ap, ◌∙◌, is_some, slice_get, unwrap_or, lookup}
+use Rattle.hashlink_nodes.proofs.Names.{alter, ◌≡◌, Bool, true, false, cond, List, [], ◌∷◌, ◌++◌, Option}
+use Rattle.hashlink_nodes.proofs.Names.{None, Some, refl, sym, ap, ◌∙◌, is_some, slice_get, unwrap_or, lookup}
 use Rattle.hashlink_nodes.proofs.Names.{lookup_entry, remove_entry, set_value, keys_of, append_assoc}
 use Rattle.hashlink_nodes.proofs.Names.{append-nil, Node, same_node, eq-same_node, same_node-refl, put_before}
 use Rattle.hashlink_nodes.proofs.Names.{put_before_node, put_after, put_after_node, IsPlace, Holds}
 use Rattle.hashlink_nodes.proofs.Names.{node_after, node_before, last_node, next_place, prev_place}
 use Rattle.hashlink_nodes.proofs.Paths.{head_or, last_or, IsOff}
+
+pub same_some : {X : Type 0} {x y : X} → Some x ≡ Some y → x ≡ y
+same_some e = cc
 
 module _ {X : Type 0} where
   -- a node that the list has, with the entries before and after it
@@ -60,6 +63,16 @@ module _ {X : Type 0} where
     renewed w [] off = rw (same_node-refl n)
     renewed w (e ∷ xs) off = rw off.0 (ap (λ l. e ∷ l) (renewed w xs off.1))
 
+    changed : (f : X → X) (xs : List (Node × X)) → IsOff n (keys_of xs)
+        → alter (same_node n) f (xs ++ (n, x) ∷ ys) ≡ xs ++ (n, f x) ∷ ys
+    changed f [] off = rw (same_node-refl n)
+    changed f (e ∷ xs) off = rw off.0 (ap (λ l. e ∷ l) (changed f xs off.1))
+
+    pub others_found : (m : Node) → same_node m n ≡ false → (xs : List (Node × X))
+        → lookup (same_node m) (xs ++ ys) ≡ lookup (same_node m) (xs ++ (n, x) ∷ ys)
+    others_found m off [] = rw off
+    others_found m off (e ∷ xs) = ap (λ o. cond (same_node m e.0) (Some e.1) o) (others_found m off xs)
+
     put_in_before : (y : Node × X) (xs : List (Node × X)) → IsOff n (keys_of xs)
         → put_before_node n y (xs ++ (n, x) ∷ ys) ≡ xs ++ y ∷ (n, x) ∷ ys
     put_in_before y [] off = rw (same_node-refl n)
@@ -93,6 +106,14 @@ module _ {X : Type 0} where
 
     pub cut-renewed : (w : X) → set_value (same_node n) es w ≡ c.before ++ (n, w) ∷ c.after
     cut-renewed w = ap (λ l. set_value (same_node n) l w) c.is ∙ renewed n c.value c.after w c.before c.off
+
+    pub cut-altered : (f : X → X) → alter (same_node n) f es ≡ c.before ++ (n, f c.value) ∷ c.after
+    cut-altered f = ap (alter (same_node n) f) c.is ∙ changed n c.value c.after f c.before c.off
+
+  -- where a look-up found x
+  pub cut_at : (es : List (Node × X)) (n : Node) (x : X) → lookup (same_node n) es ≡ Some x
+      → (c : Cut es n) × (c.value ≡ x)
+  cut_at es n x e = let c = cut es n (ap is_some e) in (c, same_some (sym (cut-looked c) ∙ e))
 
   pub last-pushed : (a : Node) (xs : List (Node × X)) (e : Node × X) →
       last_or a (keys_of (xs ++ e ∷ [])) ≡ e.0

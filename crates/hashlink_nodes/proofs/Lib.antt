@@ -8,10 +8,8 @@ pub mod Calls
 pub mod Cuts
 pub mod Rings
 pub mod Lending
-pub mod LooseSteps
+pub mod VacantSteps
 pub mod Neighbours
 pub mod Opening
 pub mod Paths
-pub mod Shapes
 pub mod StateLemmas
-pub mod Walks

@@ -3,42 +3,38 @@ pub use Rattle.hashlink_nodes.specs.ArenaLends.{altered}
 pub use Rattle.hashlink_nodes.specs.Kept.{Kept, alter, entry_in, kept, number_word, with_entry, with_links}
 pub use Rattle.hashlink_nodes.specs.Kept.{with_pair}
 pub use Rattle.hashlink_nodes.specs.Node.{eq-same_node, same_node, same_node-refl, same_node_equiv}
-pub use Rattle.hashlink_nodes.specs.NodesLends.{with_value_at}
 pub use Rattle.hashlink_nodes.specs.Ownership.{Links, block_lent, block_owns, block_room, block_type}
-pub use Rattle.hashlink_nodes.specs.Ownership.{blocks_lent, blocks_own, deed_owns, free_right, is_small}
-pub use Rattle.hashlink_nodes.specs.Ownership.{links_of, links_offset, loose_owns, number_of, number_offset}
-pub use Rattle.hashlink_nodes.specs.Ownership.{pair_lent, pair_offset, pair_owns, pair_room}
+pub use Rattle.hashlink_nodes.specs.Ownership.{blocks_lent, blocks_own, deed_owns, is_small, links_of}
+pub use Rattle.hashlink_nodes.specs.Ownership.{links_offset, number_of, number_offset, pair_lent}
+pub use Rattle.hashlink_nodes.specs.Ownership.{pair_of as pair_place, pair_offset, pair_owns, pair_room}
 pub use Rattle.hashlink_nodes.specs.Pool.{state_of}
-pub use Rattle.hashlink_nodes.specs.PoolLends.{kept_with, pool_with}
+pub use Rattle.hashlink_nodes.specs.PoolLends.{pool_with}
 pub use Rattle.hashlink_nodes.specs.Ring.{Held, Holds, IsPlace, Ring, held, last_node, next_place, node_after}
 pub use Rattle.hashlink_nodes.specs.Ring.{node_before, pair_of, prev_place, put_after, put_after_node}
 pub use Rattle.hashlink_nodes.specs.Ring.{put_before, put_before_node, ring, with_key, with_number}
 pub use Rattle.hashlink_nodes.specs.Ring.{with_value}
-pub use Rattle.hashlink_nodes.specs.Shape.{IsChain, IsLinked, IsRing, IsShaped, IsSound, SoundAt, entry_of}
-pub use Rattle.hashlink_nodes.specs.Shape.{ring_at, ring_of}
+pub use Rattle.hashlink_nodes.specs.Shape.{IsChain, IsLinked, IsRing, IsSound, SoundAt, entry_of, ring_at}
+pub use Rattle.hashlink_nodes.specs.Shape.{ring_of}
 unfoldable pub use Rattle.hashlink_nodes.specs.Shape.{entries_of, walk}
-pub use Rattle.hashlink_nodes.specs.State.{Adds, Blocks, Drops, GuardIs, MakesGuard, State, held_in, next_in}
-pub use Rattle.hashlink_nodes.specs.State.{prev_in, set_at, state}
+pub use Rattle.hashlink_nodes.specs.State.{Adds, AreThere, Blocks, Differs, Drops, GuardIs, MakesGuard, State}
+pub use Rattle.hashlink_nodes.specs.State.{held_in, next_in, prev_in, set_at, state}
 unfoldable pub use Rattle.hashlink_nodes.specs.State.{attached, detached, hold, store_next, store_prev}
+pub use Rattle.hashlink_nodes.specs.contracts.arena.Arena.{the_row as arena_row}
 pub use Rattle.hashlink_nodes.specs.declared.arena.Arena.{Arena}
 pub use Rattle.hashlink_nodes.specs.declared.link_writes.LinkWrites.{LinkWrites}
 pub use Rattle.hashlink_nodes.specs.declared.node.Node.{Node}
 pub use Rattle.hashlink_nodes.specs.declared.nodes.Nodes.TheInside.{Inside}
-pub use Rattle.hashlink_nodes.specs.declared.pool.Pool.{Pool}
 pub use Rattle.hashlink_nodes.specs.declared.pool.links.Link.{Link}
-pub use Rattle.std.proofs.Common.{Bool, IsSome, List, None, Option, Some, [], ap, arith, cond, false, inl}
-pub use Rattle.std.proofs.Common.{inr, length, refl, subst, suc, sym, true, zero, ℕ, ◌++◌, ◌+◌, ◌-◌, ◌<◌, ◌^◌}
-pub use Rattle.std.proofs.Common.{◌∙◌, ◌∷◌, ◌≡◌, ◌⊎◌}
-pub use Rattle.std.proofs.RcSteps.{Good, first_Good, some_Good, word}
-pub use Rattle.std.proofs.ResultValues.{and_tt, err_of, ok_of}
-pub use Rattle.std.proofs.alloc.Calls.{Al, Answer-typed, Answered, Gives, Gives-Gives, Gives-goes, Lent}
-pub use Rattle.std.proofs.alloc.Calls.{Takes, Takes-gives, Takes-goes, answers, at_gives, at_takes}
-pub use Rattle.std.proofs.alloc.Calls.{handle_tells, lends, lends_field, seen, takes_back}
-pub use Rattle.std.proofs.alloc.Shapes.{arm_body, head}
+pub use Rattle.std.proofs.Common.{Bool, Bor, IsSome, List, MutBor, None, Option, Some, [], ap, arith, cond}
+pub use Rattle.std.proofs.Common.{false, length, refl, subst, suc, sym, true, zero, ℕ, ◌++◌, ◌+◌, ◌-◌, ◌<◌}
+pub use Rattle.std.proofs.Common.{◌^◌, ◌∙◌, ◌∷◌, ◌≡◌}
+pub use Rattle.std.proofs.RcSteps.{Good, word, word-Good, word_had, word_made}
+pub use Rattle.std.proofs.ResultValues.{and_tt}
+pub use Rattle.std.proofs.alloc.Calls.{Al, Goes-blank, handle_tells}
+pub use Rattle.std.proofs.alloc.Shapes.{after}
 pub use Rattle.std.proofs.lemmas.List.{append-nil, append_assoc, length-append, length-drop, map-append}
 pub use Rattle.std.proofs.lemmas.List.{nil_from_length}
-pub use Rattle.std.proofs.lemmas.List.Sorted.{IsPermutation-middle, IsPermutation-sym}
-pub use Rattle.std.proofs.lemmas.Map.{keys-set_value, length-set_value, lookup-set_value}
+pub use Rattle.std.proofs.lemmas.Map.{length-set_value, lookup-set_value}
 pub use Rattle.std.proofs.lemmas.Map.Entries.{length-keys_of}
 pub use Rattle.std.proofs.lemmas.Map.Keys.{IsDistinct-IsPermutation, IsDistinct-cons, IsDistinct-head}
 pub use Rattle.std.proofs.lemmas.Map.Keys.{IsDistinct-tail}
@@ -48,56 +44,58 @@ pub use Rattle.std.specs.List.{AllByRecursion}
 unfoldable pub use Rattle.std.specs.List.{IsDistinct}
 pub use Rattle.std.specs.Map.{keys_of, lookup, lookup_entry, remove_entry, set_value}
 pub use Rattle.std.specs.Option.{option_map, option_map_or}
-pub use Rattle.std.specs.Prelude.{Err, IfSome, IsNone, Ok, OnOk, is_some, slice_get, unwrap_or}
-pub use Rattle.std.specs.declared.alloc.Allocator.{Ghosts}
-pub use base.Fml.{Fml, Incl, Incl-trans, Lft, Share, fat, flft, froom, fsep, ftrue, fwand}
+pub use Rattle.std.specs.Prelude.{IfSome, IsNone, OnOk, is_some, slice_get, unwrap_or}
+pub use Rattle.std.specs.contracts.impls.GlobalAllocator.TheImpl.{ghosts}
+pub use base.Fml.{Fml, GName, Incl, Incl-trans, Lft, fat, flft, froom, fsep, ftrue, fwand}
 pub use base.Fraction.{full_share}
 pub use base.Logic.{SProp, apply∗, emp, ent, ex_i, fst∗, guard_i, id⊢, never, never_e, sep, snd∗, via, wand}
-pub use borrow.Table.OneValue.{part_out}
-pub use contract.BorrowLft.{meet_⊑_left, ⊑_static}
+pub use borrow.Table.OneValue.{part_in, part_out}
+pub use contract.BorrowLft.{meet_⊑_left, ⊑_static, ◌⊑◌}
 pub use contract.Monad.{fact, fact_i, fact_use}
 pub use contract.Running.{Running, tables}
-pub use denote.Builtin.{One, usize}
-pub use denote.Laws.{Is, Typed, shows}
-pub use denote.Memory.{lone}
+pub use denote.Builtin.{One, RefOf, usize}
+pub use denote.Exit.{no, yes}
+pub use denote.Follow.{Part, follows, lends_Part}
+pub use denote.Memory.{cell_at, lone, mem, part_at, pointee}
 unfoldable pub use denote.Memory.{part_of}
-pub use denote.Param.{layout, param}
-pub use denote.Param.Laws.{Laws}
+pub use denote.Opens.{hide, unhide}
+pub use denote.Param.{layout, layouts, param}
+pub use denote.Param.Laws.{Laws, param_laws}
 pub use denote.Param.Shared.{Sharable, copy_shared}
+pub use denote.Plain.{uint_in, uint_out}
 pub use denote.RattleType.{RattleType, RowLaws, Valss, owns}
 pub use denote.RawPtr.{Ptr, RawPtr, block_ptr, in_a_block, lies_at, null_ptr, ptr_val, room_for, ◌+ₚ◌}
-pub use denote.Shadow.{makes_shadow}
+pub use denote.Ref.{MutRef}
 pub use denote.Shares.{Shares-less}
 pub use denote.Sharing.{ShrLaws, beside, said}
 pub use denote.SharingLaws.{beside_shr_laws, nothing_shr_laws, said_shr_laws}
-pub use denote.Signature.{Signature, Slot, plain, types_at}
-pub use denote.Steps.{closes, nothing, opens, peeks}
+pub use denote.Signature.{Signature, Slot, mut_ref_to, plain, types_at}
+pub use denote.Steps.{closes, heard, nothing, opens}
 pub use denote.Struct.Field.{usize-field}
 pub use denote.Struct.Laws.{field_copy, usize-copy}
 pub use denote.Struct.Lending.{Lends, Lends-both, Lends-first, Lends-lies, Lends-nothing, Lends-said, lent_at}
 pub use denote.Struct.Lending.{lent_at_shr_laws, of_Lends}
 pub use denote.Struct.Owning.{shape}
-pub use denote.Struct.Struct.{Shape, Struct, within}
-pub use denote.Triple.Call.{calls_at, calls_at_last}
+pub use denote.Struct.Struct.{Struct, within}
 pub use denote.Triple.Clauses.{Clauses, Ended, at_exit, closing}
 pub use denote.Triple.Spec.{Meets}
-pub use denote.Triple.Walked.{Goes-ref, Stays, stay_ref, walk_of}
+pub use denote.Triple.Walked.{Goes-dropped, Goes-ref, Goes-spent_ref, Stays, stay_dropped, stay_ref, walk_of}
 pub use lib.Dec.{T, lit<}
 pub use mathlib.Core.Bool.{◌&&◌}
-pub use mir.Syntax.{Body, Callee, Fn, Ty, Tys, dnil, impl, int_big, tcons, tnil, ty_int, ty_ptr, ty_struct}
-pub use mir.Syntax.{ty_unit, w64}
-pub use mir.Val.{Fits, Val, Vals, WT, has_ty, of_list, vcons, vint, vnil, vptr, vstruct, vunit}
-pub use prog.Memory.{up}
+pub use mir.MapTy.{inst_fn}
+pub use mir.Raw.{raw as bare}
+pub use mir.Syntax.{Callee, Fn, Ty, Tys, a_type, dnil, imm, impl, int_big, mut, named, tcons, tnil, ty_int}
+pub use mir.Syntax.{ty_struct, w64}
+pub use mir.Val.{Fits, Val, WT, has_ty, of_list, vcons, vint, vnil, vptr, vstruct, vunit}
 pub use prog.Model.{Model, rooms_at}
-pub use prog.Wp.{Closed, Env, Wp, WpFn, after_seq, at_return}
+pub use prog.Wp.{Closed, Env, WpFn}
 pub use seplogic.Ra.Ura.{Ura}
-pub use types.ByLocal.{alloc_all, free_all, get, get_tag, lands_as, lands_last, look_at, pass_all, sets}
-pub use types.Kit.{ !, Goal, Item, Seq, Step, assume, by, done, drop, feq_i, feq_l, fjoin, fjoin3, flt_i}
-pub use types.Kit.{flt_l, fpack, fpick, fsplit, fsplit3, group, join, keep, mean, move, now, pick, prop, qed}
-pub use types.Kit.{raw, rewrite, some, split, split3, step, suffices, upd, use0, use1, use2, use3, ‵, ◌$◌}
-pub use types.Kit.{◌∵◌, ◌⊛◌}
+pub use types.ByLocal.{alloc_all, env, free_all, get, get_in, is, look_at, pass_all, sets, sets_last, through}
+pub use types.Kit.{ !, Goal, Item, Seq, Step, assume, at_ret, await, by, done, drop, feq_i, feq_l, fjoin}
+pub use types.Kit.{fjoin3, flt_i, flt_l, fpack, fpick, fsplit, fsplit3, group, join, keep, later, mean, move}
+pub use types.Kit.{now, pick, prop, qed, raw, rewrite, some, split, split3, step, suffices, upd, use0, use1}
+pub use types.Kit.{use2, ‵, ◌$◌, ◌∵◌, ◌⊛◌}
 pub use types.Logic.{Logic, sem}
-pub use types.Match.{in_variant, live, vrt}
-pub use types.Part.{agg}
-pub use types.Run.{Opd, and_then, enter, lit, load, look, no_more, of_opd, returns, switches_on, unit_lit}
-pub use types.Run.{well_typed}
+pub use types.Part.{agg, sub, whole}
+pub use types.Run.{Opd, addr, and_then, assigns, assigns_last, blocks, enter, exec, first, fld, init, load}
+pub use types.Run.{look, no_more, of_opd, returns, stop, store, unit_lit, well_typed}

@@ -1,21 +1,15 @@
 -- How a ring is opened, what is known of it then, and how it is closed.
-use Rattle.hashlink_nodes.proofs.Names.{◌≡◌, ℕ, ◌+◌, ◌^◌, ◌<◌, List, [], ◌∷◌, ◌++◌, length, Option, Some}
-use Rattle.hashlink_nodes.proofs.Names.{None, refl, sym, ap, ◌∙◌, subst, arith, is_some, IfSome}
-use Rattle.hashlink_nodes.proofs.Names.{AllByRecursion, IsDistinct, keys_of, lookup, remove_entry}
-use Rattle.hashlink_nodes.proofs.Names.{length-append, length-keys_of, IsDistinct-tail, Node, Inside}
-use Rattle.hashlink_nodes.proofs.Names.{same_node, state_of, Ring, ring, Holds, IsRing, IsSound, SoundAt}
-use Rattle.hashlink_nodes.proofs.Names.{ring_at, ring_of, walk, entry_of, entries_of, State}
-use Rattle.std.specs.Prelude.{IsSome}
-use Rattle.hashlink_nodes.specs.declared.held.Held.{Held}
+use Rattle.hashlink_nodes.proofs.Names
+use Names.{◌≡◌, ℕ, ◌+◌, ◌^◌, ◌<◌, List, [], ◌∷◌, ◌++◌, length, Option, Some, None, refl, sym, ap, ◌∙◌, subst}
+use Names.{arith, is_some, IfSome, AllByRecursion, IsDistinct, keys_of, lookup, remove_entry, length-append}
+use Names.{length-keys_of, IsDistinct-tail, Node, Inside, same_node, state_of, Ring, ring, Holds, IsRing}
+use Names.{IsSound, SoundAt, ring_at, ring_of, walk, entry_of, entries_of, State, IsSome, Held}
 use Rattle.hashlink_nodes.proofs.Paths.{length-walk, walk-linked, walk-chain}
 use Rattle.hashlink_nodes.proofs.Cuts.{Cut, Gap, cut, cut-looked, cut-removed}
 use Rattle.hashlink_nodes.proofs.Rings.{InRing, in_ring}
 
 pub if_some : {X : Type 0} {o : Option X} {x : X} (P : X → Type 0) → o ≡ Some x → P x → IfSome o P
 if_some P e p = subst (λ o. IfSome o P) (sym e) p
-
-pub same_some : {X : Type 0} {x y : X} → Some x ≡ Some y → x ≡ y
-same_some e = cc
 
 pub is_there : {X : Type 0} {o : Option X} {x : X} → o ≡ Some x → IsSome o
 is_there e = ap is_some e
@@ -72,10 +66,10 @@ module _ {K V : Type 0} where
       let is_length : length (keys_of v.entries) ≡ len = length-keys_of v.entries ∙ is_len in
       let entries : entries_of s.held (walk s.next (s.next g) len) ≡ v.entries
       = ap (λ k. entries_of s.held (walk s.next (s.next g) k)) (sym is_length)
-      ∙ ap (entries_of s.held) (walk-linked s.next s.prev g (keys_of v.entries) g r.shape.links)
+      ∙ ap (entries_of s.held) (walk-linked s.next s.prev g (keys_of v.entries) g r.links)
       ∙ entries-held s.held v.entries r.full in
       let free : walk s.next first spare ≡ v.free
-      = ap (walk s.next first) (sym is_spare) ∙ walk-chain s.next first v.free r.shape.chain in
+      = ap (walk s.next first) (sym is_spare) ∙ walk-chain s.next first v.free r.chain in
       let view : ring_at s (Some g) first len spare ≡ v
       = λ i. record { entries = entries i; free = free i; link_writes = r.writes i } in
       subst (λ o. Leaves s o first len spare v) (sym is) (record {
@@ -85,7 +79,7 @@ module _ {K V : Type 0} where
         free = free;
         link_writes = r.writes;
         apart = subst (λ (x : Ring K V). IsDistinct same_node (keys_of x.entries ++ x.free)) (sym view)
-            (IsDistinct-tail same_node g (keys_of v.entries ++ v.free) r.shape.apart);
+            (IsDistinct-tail same_node g (keys_of v.entries ++ v.free) r.apart);
       })
 
   -- ---- a ring is opened
@@ -104,9 +98,7 @@ module _ {K V : Type 0} where
   pub record NodeAt (s : State K V) (guard : Option Node) (g first : Node) (len spare : ℕ) (v : Ring K V)
       (n : Node) : Type 0 where
     pub is : guard ≡ Some g
-    pub ring : IsRing s [] g first v
-    pub is_len : length v.entries ≡ len
-    pub is_spare : length v.free ≡ spare
+    pub whole : Opened s g first len spare v
     pub cut : Cut v.entries n
     pub here : InRing s n cut.value
     pub shows : lookup (same_node n) v.entries ≡ s.held n
@@ -155,8 +147,8 @@ module _ {K V : Type 0} where
       | Some g ↦ λ is. let o = opened is in record {
         is_len = o.is_len;
         is_spare = o.is_spare;
-        small = omega (arith, o.ring.shape.few, length-keys_of v.entries, o.is_len, o.is_spare);
-        differ = IsDistinct-tail same_node g (keys_of v.entries ++ v.free) o.ring.shape.apart;
+        small = omega (arith, o.ring.few, o.is_len, o.is_spare);
+        differ = IsDistinct-tail same_node g (keys_of v.entries ++ v.free) o.ring.apart;
       }
     ]) refl
 
@@ -167,9 +159,7 @@ module _ {K V : Type 0} where
         let here = in_ring o.ring c.before m c.value c.after c.is in
         record {
           is = is;
-          ring = o.ring;
-          is_len = o.is_len;
-          is_spare = o.is_spare;
+          whole = o;
           cut = c;
           here = here;
           shows = cut-looked c ∙ sym here.holds;

@@ -1,9 +1,9 @@
 -- Paths along links, and what stays of them where one link changes.
-use Rattle.hashlink_nodes.proofs.Names.{true, ◌≡◌, ℕ, zero, suc, false, cond, List, [], ◌∷◌, ◌++◌, length}
-use Rattle.hashlink_nodes.proofs.Names.{refl, sym, ap, ◌∙◌, subst, IsPermutation-middle, IsPermutation-sym}
-use Rattle.hashlink_nodes.proofs.Names.{IsDistinct-head, IsDistinct-tail, IsDistinct-cons}
-use Rattle.hashlink_nodes.proofs.Names.{IsDistinct-IsPermutation, AllByRecursion, IsDistinct, Node, same_node}
-use Rattle.hashlink_nodes.proofs.Names.{same_node_equiv, same_node-refl, set_at, IsLinked, IsChain, walk}
+use Rattle.hashlink_nodes.proofs.Names
+use Names.{true, ◌≡◌, ℕ, zero, suc, false, cond, List, [], ◌∷◌, ◌++◌, length, refl, sym, ap, ◌∙◌, subst}
+use Names.{IsDistinct-head, IsDistinct-tail, IsDistinct-cons, IsDistinct-IsPermutation, AllByRecursion}
+use Names.{IsDistinct, Node, same_node, same_node_equiv, same_node-refl, set_at, IsLinked, IsChain, walk}
+use Rattle.std.proofs.lemmas.List.Sorted.{IsPermutation-middle, IsPermutation-sym}
 
 -- the first of the nodes, or b
 abbrev pub head_or : Node → List Node → Node

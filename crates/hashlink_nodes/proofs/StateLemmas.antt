@@ -1,61 +1,29 @@
 -- What the state of the blocks is after one of them changed, came or went.
-use Rattle.hashlink_nodes.proofs.Names.{◌≡◌, ℕ, ◌+◌, Bool, true, false, cond, List, [], ◌∷◌, length, Option}
-use Rattle.hashlink_nodes.proofs.Names.{None, Some, refl, sym, subst, ap, ◌∙◌, arith, IsNone, is_some, lookup}
-use Rattle.hashlink_nodes.proofs.Names.{set_value, remove_entry, lookup-set_value, length-set_value}
-use Rattle.hashlink_nodes.proofs.Names.{same_node, same_node_equiv, eq-same_node, State, Blocks, state}
-use Rattle.hashlink_nodes.proofs.Names.{set_at, next_in, prev_in, held_in, store_next, store_prev, hold, Adds}
-use Rattle.hashlink_nodes.proofs.Names.{MakesGuard, Drops, Node, Link, Kept, kept, alter, entry_in}
-use Rattle.hashlink_nodes.proofs.Names.{with_links, with_pair, Pool, state_of, kept_with, pool_with, held}
-use Rattle.hashlink_nodes.proofs.Names.{pair_of, option_map}
+use Rattle.hashlink_nodes.proofs.Names
+use Names.{◌≡◌, ℕ, ◌+◌, Bool, true, false, cond, List, ◌∷◌, length, Option, None, Some, refl, sym, subst, ap}
+use Names.{◌∙◌, arith, IsNone, is_some, lookup, set_value, remove_entry, lookup-set_value, length-set_value}
+use Names.{same_node, same_node-refl, Differs, same_node_equiv, eq-same_node, State, Blocks, state, set_at}
+use Names.{next_in, prev_in, held_in, store_next, store_prev, hold, Adds, MakesGuard, Drops, Node, Link, Kept}
+use Names.{kept, alter, entry_in, with_links, with_pair, held, pair_of, option_map, Held}
 use Rattle.hashlink_nodes.proofs.ArenaBlocks.{found_entry}
-use Rattle.hashlink_nodes.proofs.Cuts.{cut}
+use Rattle.hashlink_nodes.proofs.Cuts.{cut, cut_at, cut-altered, cut-renewed, cut-removed, others_found}
 use Rattle.hashlink_nodes.proofs.Opening.{length-removed}
 use Rattle.hashlink_nodes.proofs.Paths.{set_at_here, set_at_other}
-use Rattle.hashlink_nodes.specs.declared.held.Held.{Held}
 use Rattle.hashlink_nodes.specs.declared.pool.links.Links.{Links}
 
-module _ {X : Type 0} where
-  lookup_set : (n m : Node) (bs : List (Node × X)) (b w : X) → lookup (same_node n) bs ≡ Some b
-      → lookup (same_node m) (set_value (same_node n) bs w)
-      ≡ cond (same_node m n) (Some w) (lookup (same_node m) bs)
-  lookup_set n m bs b w e =
-      let there : is_some (lookup (same_node n) bs) ≡ true = ap is_some e in
-      lookup-set_value same_node_equiv (same_node n) (λ x y h. same_node_equiv.congr n x y h) m w bs there
-      ∙ ap (λ y. cond y (Some w) (lookup (same_node m) bs)) (same_node_equiv.symm n m)
+module _ {X Y : Type 0} (f : Option X → Y) where
+  picked : (y : Bool) (w : X) (o : Option X) → f (cond y (Some w) o) ≡ cond y (f (Some w)) (f o)
+  picked true w o = refl
+  picked false w o = refl
 
-  pub lookup_removed : (n m : Node) (bs : List (Node × X)) → same_node m n ≡ false
-      → lookup (same_node m) (remove_entry (same_node n) bs) ≡ lookup (same_node m) bs
-  lookup_removed n m [] h = refl
-  lookup_removed n m (b ∷ bs) h =
-      (elim (same_node n b.0) as
-      (λ (y : Bool). same_node n b.0 ≡ y
-      → lookup (same_node m) (cond y bs (b ∷ remove_entry (same_node n) bs))
-      ≡ cond (same_node m b.0) (Some b.1) (lookup (same_node m) bs)) [
-        | true ↦ λ same. let here : same_node m b.0
-            ≡ false = ap (λ k. same_node m k) (sym (eq-same_node n b.0 same))
-            ∙ h in sym (ap (λ y. cond y (Some b.1) (lookup (same_node m) bs)) here)
-        | false ↦ λ _. ap (λ o. cond (same_node m b.0) (Some b.1) o) (lookup_removed n m bs h)
-      ]) refl
-
-  -- what is read of a node whose block comes first
-  seen_first : {Y : Type 0} (f : Node → Option X → Y) (n m : Node) (w : X) (o : Option X)
-      → f m (cond (same_node m n) (Some w) o) ≡ cond (same_node m n) (f n (Some w)) (f m o)
-  seen_first f n m w o =
-      (elim (same_node m n) as
-      (λ (y : Bool). same_node m n ≡ y → f m (cond y (Some w) o) ≡ cond y (f n (Some w)) (f m o)) [
-        | true ↦ λ same. ap (λ k. f k (Some w)) (eq-same_node m n same)
-        | false ↦ λ _. refl
-      ]) refl
-
-  -- what is read of each node
-  abbrev reads : {Y : Type 0} → (Node → Option X → Y) → List (Node × X) → Node → Y
-  reads f bs m = f m (lookup (same_node m) bs)
-
-  module _ {Y : Type 0} (f : Node → Option X → Y) (n : Node) (bs : List (Node × X)) (b w : X)
-      (e : lookup (same_node n) bs ≡ Some b) where
-    -- after a write at n
-    seen_at : reads f (set_value (same_node n) bs w) ≡ set_at (reads f bs) n (f n (Some w))
-    seen_at = λ i m. (ap (f m) (lookup_set n m bs b w e) ∙ seen_first f n m w (lookup (same_node m) bs)) i
+  -- what is read of each node after a write at n
+  seen_at : (n : Node) (bs : List (Node × X)) (w : X) → is_some (lookup (same_node n) bs) ≡ true
+      → (λ m. f (lookup (same_node m) (set_value (same_node n) bs w)))
+      ≡ set_at (λ m. f (lookup (same_node m) bs)) n (f (Some w))
+  seen_at n bs w there = λ i m.
+      (ap f (lookup-set_value same_node_equiv (same_node n) (same_node_equiv.congr n) m w bs there)
+      ∙ ap (λ y. f (cond y (Some w) (lookup (same_node m) bs))) (same_node_equiv.symm n m)
+      ∙ picked (same_node m n) w (lookup (same_node m) bs)) i
 
 -- f, but at n what it is there
 set_same : {X : Type 0} (f : Node → X) (n : Node) (x : X) → x ≡ f n → set_at f n x ≡ f
@@ -63,19 +31,6 @@ set_same f n x is = λ i m. (elim (same_node m n) as (λ (y : Bool). same_node m
   | true ↦ λ same. is ∙ ap f (sym (eq-same_node m n same))
   | false ↦ λ _. refl
 ]) refl i
-
-pub alter_is : {K X : Type 0} (test : K → Bool) (f : X → X) (es : List (K × X)) (b : X)
-    → lookup test es ≡ Some b
-    → alter test f es ≡ set_value test es (f b)
-alter_is test f [] b e = absurd (cc e)
-alter_is test f (x ∷ es) b e =
-    (elim (test x.0) as
-    (λ (y : Bool). cond y (Some x.1) (lookup test es) ≡ Some b
-    → cond y ((x.0, f x.1) ∷ es) (x ∷ alter test f es)
-    ≡ cond y ((x.0, f b) ∷ es) (x ∷ set_value test es (f b))) [
-      | true ↦ λ k. let same : x.1 ≡ b = cc in ap (λ v. (x.0, f v) ∷ es) same
-      | false ↦ λ k. ap (λ l. x ∷ l) (alter_is test f es b k)
-    ]) e
 
 -- what is mapped to y
 pub mapped : {X Y : Type 0} (f : X → Y) (o : Option X) {y : Y} → option_map f o ≡ Some y
@@ -107,23 +62,14 @@ pair_at {K} {V} bs n p e =
 
 module _ {K V : Type 0} (bs : Blocks K V) (count count' : ℕ) (n : Node) (k : Kept (K × V))
     (e : lookup (same_node n) bs ≡ Some k) where
-  abbrev Next_of : Node → Option (Kept (K × V)) → Node
-  Next_of = next_in
-
-  abbrev Prev_of : Node → Option (Kept (K × V)) → Node
-  Prev_of = prev_in
-
-  abbrev Held_of : Node → Option (Kept (K × V)) → Option (Held K V)
-  Held_of m = held_in
-
-  abbrev Has : Node → Option (Kept (K × V)) → Bool
-  Has m = is_some
-
   abbrev changed : (Kept (K × V) → Kept (K × V)) → Blocks K V
   changed f = alter (same_node n) f bs
 
   is_set : (f : Kept (K × V) → Kept (K × V)) → changed f ≡ set_value (same_node n) bs (f k)
-  is_set f = alter_is (same_node n) f bs k e
+  is_set f =
+      let c = cut_at bs n k e in
+      cut-altered c.0 f ∙ sym (cut-renewed c.0 (f c.0.value))
+      ∙ ap (λ x. set_value (same_node n) bs (f x)) c.1
 
   abbrev S : State K V
   S = state bs count
@@ -138,10 +84,10 @@ module _ {K V : Type 0} (bs : Blocks K V) (count count' : ℕ) (n : Node) (k : K
     link_writes = count';
   }
   changed_state f = ap (λ x. state x count') (is_set f) ∙ (λ i. record {
-    next = seen_at Next_of n bs k (f k) e i;
-    prev = seen_at Prev_of n bs k (f k) e i;
-    held = seen_at Held_of n bs k (f k) e i;
-    has = (seen_at Has n bs k (f k) e ∙ set_same S.has n true (ap is_some (sym e))) i;
+    next = seen_at next_in n bs (f k) (ap is_some e) i;
+    prev = seen_at prev_in n bs (f k) (ap is_some e) i;
+    held = seen_at held_in n bs (f k) (ap is_some e) i;
+    has = (seen_at is_some n bs (f k) (ap is_some e) ∙ set_same S.has n true (ap is_some (sym e))) i;
     size = length-set_value (same_node n) bs (f k) i;
     link_writes = count';
   })
@@ -150,10 +96,10 @@ module _ {K V : Type 0} (bs : Blocks K V) (count count' : ℕ) (n : Node) (k : K
   same_held = set_same S.held n (held_in (Some k)) (ap held_in (sym e))
 
   same_next : (to : Node) → to ≡ k.links.next.to → set_at S.next n to ≡ S.next
-  same_next to is = set_same S.next n to (is ∙ ap (next_in n) (sym e))
+  same_next to is = set_same S.next n to (is ∙ ap next_in (sym e))
 
   same_prev : (to : Node) → to ≡ k.links.prev.to → set_at S.prev n to ≡ S.prev
-  same_prev to is = set_same S.prev n to (is ∙ ap (prev_in n) (sym e))
+  same_prev to is = set_same S.prev n to (is ∙ ap prev_in (sym e))
 
   module _ (l : Links) (is_l : k.links ≡ l) (to : Node) (link : Link) (is_new : link ≡ record { to = to })
       (raised : count' ≡ count + 1) where
@@ -190,7 +136,7 @@ module _ {K V : Type 0} (bs : Blocks K V) (count count' : ℕ) (n : Node) (k : K
 
   -- both links of n, which is new, lead to n itself
   pub looped : (s : State K V) (next prev : Link) → next ≡ record { to = n } → prev ≡ record { to = n }
-      → count' ≡ count → Adds n None s (state bs count)
+      → count' ≡ count → Adds n s (state bs count)
       → MakesGuard n s (state (changed (with_links (record { next = next; prev = prev }))) count')
   looped s next prev is_next is_prev is_count a =
       let is : state (changed (with_links (record { next = next; prev = prev }))) count' ≡ record S {
@@ -204,11 +150,15 @@ module _ {K V : Type 0} (bs : Blocks K V) (count count' : ℕ) (n : Node) (k : K
       }) in
       subst (MakesGuard n s) (sym is) (record {
         adds = record {
+          differs = record {
+            next = λ m h. set_at_other S.next n m n h ∙ a.differs.next m h;
+            prev = λ m h. set_at_other S.prev n m n h ∙ a.differs.prev m h;
+            held = a.differs.held;
+            has = a.differs.has;
+          };
           absent = a.absent;
-          next = λ m h. set_at_other S.next n m n h ∙ a.next m h;
-          prev = λ m h. set_at_other S.prev n m n h ∙ a.prev m h;
-          held = a.held;
-          has = a.has;
+          there = a.there;
+          bare = a.bare;
           size = a.size;
           link_writes = a.link_writes;
         };
@@ -217,42 +167,40 @@ module _ {K V : Type 0} (bs : Blocks K V) (count count' : ℕ) (n : Node) (k : K
       })
 
 module _ {K V : Type 0} where
+  differs : (bs bs' : Blocks K V) {count count' : ℕ} {n : Node}
+      → ((m : Node) → same_node m n ≡ false → lookup (same_node m) bs' ≡ lookup (same_node m) bs)
+      → Differs n (state bs count) (state bs' count')
+  differs bs bs' at = record {
+    next = λ m k. ap next_in (at m k);
+    prev = λ m k. ap prev_in (at m k);
+    held = λ m k. ap held_in (at m k);
+    has = λ m k. ap is_some (at m k);
+  }
+
   -- a block came in
-  pub added : (bs bs' : Blocks K V) (count : ℕ) (n : Node) (b : Kept (K × V))
-      (h : Option (Held K V))
-      → bs' ≡ (n, b) ∷ bs → IsNone (lookup (same_node n) bs) → held_in (Some b) ≡ h
-      → Adds n h (state bs count) (state bs' count)
-  added bs bs' count n b h is apart held =
-      let at : (m : Node) → lookup (same_node m) bs' ≡ cond (same_node m n) (Some b) (lookup (same_node m) bs)
-      = λ m. ap (lookup (same_node m)) is in
-      let off : (m : Node) → same_node m n ≡ false → lookup (same_node m) bs' ≡ lookup (same_node m) bs
-      = λ m k. at m ∙ ap (λ y. cond y (Some b) (lookup (same_node m) bs)) k in
-      record {
+  pub added : (bs : Blocks K V) (count : ℕ) (n : Node) (l : Links) {bs' : Blocks K V}
+      → bs' ≡ (n, kept l None) ∷ bs → IsNone (lookup (same_node n) bs)
+      → Adds n (state bs count) (state bs' count)
+  added bs count n l is apart =
+      let b = kept {T = K × V} l None in
+      let found = λ (m : Node) (y : Bool). cond y (Some b) (lookup (same_node m) bs) in
+      subst (λ x. Adds n (state bs count) (state x count)) (sym is) (record {
+        differs = differs bs ((n, b) ∷ bs) (λ m k. ap (found m) k);
         absent = apart;
-        next = λ m k. ap (next_in m) (off m k);
-        prev = λ m k. ap (prev_in m) (off m k);
-        held = λ i m.
-            (ap held_in (at m) ∙ seen_first (λ (k : Node). held_in) n m b (lookup (same_node m) bs)
-            ∙ ap (λ x. cond (same_node m n) x ((state bs count).held m)) held)
-            i;
-        has = λ i m.
-            (ap is_some (at m) ∙ seen_first (λ (k : Node). is_some) n m b (lookup (same_node m) bs)) i;
-        size = ap length is ∙ omega arith;
+        there = ap (λ y. is_some (found n y)) (same_node-refl n);
+        bare = ap (λ y. held_in (found n y)) (same_node-refl n);
+        size = omega arith;
         link_writes = refl;
-      }
+      })
 
   pub dropped : (bs bs' : Blocks K V) (count : ℕ) (n : Node) → is_some (lookup (same_node n) bs) ≡ true
       → bs' ≡ remove_entry (same_node n) bs
       → Drops n (state bs count) (state bs' count)
   dropped bs bs' count n there is =
-      let at : (m : Node) → same_node m n ≡ false → lookup (same_node m) bs' ≡ lookup (same_node m) bs
-      = λ m h. ap (lookup (same_node m)) is ∙ lookup_removed n m bs h in
-      record {
-        next = λ m h. ap (next_in m) (at m h);
-        prev = λ m h. ap (prev_in m) (at m h);
-        held = λ m h. ap held_in (at m h);
-        has = λ m h. ap is_some (at m h);
-        size = ap (λ (cs : Blocks K V). length cs + 1) is ∙ length-removed bs (cut bs n there);
+      let c = cut bs n there in record {
+        differs = differs bs bs' (λ m k. ap (lookup (same_node m)) (is ∙ cut-removed c)
+            ∙ others_found n c.value c.after m k c.before ∙ ap (lookup (same_node m)) (sym c.is));
+        size = ap (λ (cs : Blocks K V). length cs + 1) is ∙ length-removed bs c;
         link_writes = refl;
       }
 
@@ -268,42 +216,18 @@ module _ {K V : Type 0} where
   prev_has n to s is m h = ap (λ (t : State K V). t.has m) is ∙ h
 
 -- a node that holds a pair holds another
-module _ {K V : Type 0} (bs : Blocks K V) (count : ℕ) (n : Node) (p : K × V) (at : PairAt bs n p) where
-  pub pair_anew : (w : K × V) (h : Held K V → Held K V) → h (held at.number p.0 p.1) ≡ held at.number w.0 w.1
-      → state (alter (same_node n) (with_pair w) bs) count
-      ≡ hold n (option_map h (held_in (lookup (same_node n) bs))) (state bs count)
-  pair_anew w h is_h =
-      held_anew bs count count n at.block at.looked (with_pair w) refl
-      (option_map h (held_in (lookup (same_node n) bs)))
-      (ap (λ (x : Option (ℕ × (K × V))). held_in (Some (with_pair w (kept at.block.links x)))) at.entry
-      ∙ ap (λ (x : Held K V). Some x) (sym is_h) ∙ sym (ap (option_map h) at.held))
+pub pair_anew : {K V : Type 0} (bs : Blocks K V) (count : ℕ) (n : Node) (p : K × V) (at : PairAt bs n p)
+    (w : K × V) (h : Held K V → Held K V) → h (held at.number p.0 p.1) ≡ held at.number w.0 w.1
+    → state (alter (same_node n) (with_pair w) bs) count
+    ≡ hold n (option_map h (held_in (lookup (same_node n) bs))) (state bs count)
+pair_anew bs count n p at w h is_h =
+    held_anew bs count count n at.block at.looked (with_pair w) refl
+    (option_map h (held_in (lookup (same_node n) bs)))
+    (ap (λ x. held_in (Some (with_pair w (kept at.block.links x)))) at.entry
+    ∙ ap Some (sym is_h) ∙ sym (ap (option_map h) at.held))
 
-  pub value_lent : (w : V)
-      → alter (same_node n) (with_pair (p.0, w)) bs ≡ alter (same_node n) (kept_with w) bs
-  value_lent w =
-      alter_is (same_node n) (with_pair (p.0, w)) bs at.block at.looked
-      ∙ ap (λ (x : Option (ℕ × (K × V))). set_value (same_node n) bs
-      (kept at.block.links (option_map (λ (e : ℕ × (K × V)). (e.0, (p.0, w))) x))) at.entry
-      ∙ sym (ap (λ (x : Option (ℕ × (K × V))). set_value (same_node n) bs (kept_with w
-      (kept at.block.links x)))
-      at.entry)
-      ∙ sym (alter_is (same_node n) (kept_with w) bs at.block at.looked)
-
--- the blocks with another value at a node that holds one
-pub value_anew : {K V : Type 0} (c : Pool K V) (n : Node) (w : V) (p : K × V)
-    (at : PairAt c.arena.blocks n p)
-    → state_of (pool_with c n w) ≡ hold n (Some (held at.number p.0 w)) (state_of c)
-value_anew {K} {V} c n w p at =
-    held_anew c.arena.blocks c.writes.count c.writes.count n at.block at.looked (kept_with w) refl
-    (Some (held at.number p.0 w))
-    (ap (λ (x : Option (ℕ × (K × V))). held_in (Some (kept_with w (kept at.block.links x)))) at.entry)
-
--- a node that holds something has a pair
-pub block_found : {K V : Type 0} (c : Pool K V) (n : Node) (h : Held K V) → (state_of c).held n ≡ Some h
-    → (at : PairAt c.arena.blocks n (pair_of h)) × (held at.number h.key h.value ≡ h)
-block_found {K} {V} c n h e =
-    let x = mapped (λ (e : ℕ × (K × V)). held e.0 e.1.0 e.1.1)
-    (entry_in (lookup (same_node n) c.arena.blocks)) e in
-    let pair = ap (option_map (λ (e : ℕ × (K × V)). e.1)) x.1 ∙ (λ i. Some (pair_of (x.2 i))) in
-    let at = pair_at c.arena.blocks n (pair_of h) pair in
-    let same : Some (held at.number h.key h.value) ≡ Some h = sym at.held ∙ e in (at, cc)
+-- the pair of what a node holds
+pub paired : {K V : Type 0} (o : Option (ℕ × (K × V)))
+    → option_map (λ (e : ℕ × (K × V)). e.1) o ≡ option_map pair_of (option_map (λ e. held e.0 e.1.0 e.1.1) o)
+paired None = refl
+paired (Some e) = refl

@@ -67,11 +67,8 @@ module _ (R : RattleType) where
       (fsep (room_for (raw (lone usize.mir)) (number_of p)) (room_for (raw (lone Links.mir)) (links_of p)))
 
   -- the right to free a block, and that the three make it
-  abbrev pub deed_owns : (Ty → Ptr → Fml) → Ptr → Fml
-  deed_owns token p = fsep (token block_type p) (fwand (block_room p) (room_for block_type p))
-
-  abbrev pub loose_owns : (Ty → Ptr → Fml) → Ptr → Fml
-  loose_owns token p = fsep (block_room p) (deed_owns token p)
+  abbrev pub deed_owns : Ptr → Fml
+  deed_owns p = fsep (free_right block_type p) (fwand (block_room p) (room_for block_type p))
 
   -- the pair, or room for one
   abbrev pub pair_owns : Ptr → Option (ℕ × R.Denot) → Fml
@@ -87,7 +84,7 @@ module _ (R : RattleType) where
   block_owns p k =
       fsep (pair_owns p k.entry) (fsep (fsep (is_small k.entry) (lies_at usize full_share (number_of p)
       (number_word k.entry)))
-      (fsep (lies_at Links full_share (links_of p) k.links) (deed_owns free_right p)))
+      (fsep (lies_at Links full_share (links_of p) k.links) (deed_owns p)))
 
   abbrev pub blocks_own : List (Node × Kept R.Denot) → Fml
   blocks_own [] = ftrue

@@ -37,21 +37,16 @@ module _ {K V : Type 0} where
   entries_of held (n ∷ ns) = entry_of n (held n) (entries_of held ns)
 
   -- the ring goes from the guard along the nodes and back to it, and the spare ones are chained; beside these
-  -- only the nodes `out` have a block
-  pub record IsShaped (s : State K V) (out : List Node) (guard first : Node)
-      (nodes free : List Node) : Type 0 where
-    pub links : IsLinked s.next s.prev guard nodes guard
-    pub chain : IsChain s.next first free
-    pub apart : IsDistinct same_node (out ++ guard ∷ (nodes ++ free))
-    pub bare : AllByRecursion (λ n. s.held n ≡ None) (guard ∷ free)
-    pub there : AllByRecursion (λ n. s.has n ≡ true) (out ++ guard ∷ (nodes ++ free))
-    pub size : s.size ≡ length out + length nodes + length free + 1
-    pub few : length out + length nodes + length free < 2 ^ 63
-
-  -- it is what a contract sees as v
+  -- only the nodes `out` have a block. It is what a contract sees as v
   pub record IsRing (s : State K V) (out : List Node) (guard first : Node) (v : Ring K V) : Type 0 where
-    pub shape : IsShaped s out guard first (keys_of v.entries) v.free
+    pub links : IsLinked s.next s.prev guard (keys_of v.entries) guard
+    pub chain : IsChain s.next first v.free
+    pub apart : IsDistinct same_node (out ++ guard ∷ (keys_of v.entries ++ v.free))
     pub full : AllByRecursion (λ e. s.held e.0 ≡ Some e.1) v.entries
+    pub bare : AllByRecursion (λ n. s.held n ≡ None) (guard ∷ v.free)
+    pub there : AllByRecursion (λ n. s.has n ≡ true) (out ++ guard ∷ (keys_of v.entries ++ v.free))
+    pub size : s.size ≡ length out + length v.entries + length v.free + 1
+    pub few : length out + length v.entries + length v.free < 2 ^ 63
     pub writes : s.link_writes ≡ v.link_writes
 
   -- the nodes in use, and the spare ones

@@ -1,6 +1,7 @@
 -- What the blocks of a ring say, read at any node: its links and what it holds.
 use Rattle.std.specs.Prelude.{ℕ, ◌+◌, ◌≡◌, Bool, true, false, cond, List, length, Option, None, Some, is_some}
 use Rattle.std.specs.Map.{lookup}
+use denote.RawPtr.{null_ptr}
 use Rattle.hashlink_nodes.specs.Node.{same_node}
 use Rattle.hashlink_nodes.specs.declared.node.Node.{Node}
 use Rattle.hashlink_nodes.specs.declared.held.Held.{Held}
@@ -26,22 +27,22 @@ abbrev pub Blocks : Type 0 → Type 0 → Type 0
 Blocks K V = List (Node × Kept (K × V))
 
 module _ {K V : Type 0} where
-  -- a node without a block reads as one that links to itself and holds nothing
-  abbrev pub next_in : Node → Option (Kept (K × V)) → Node
-  next_in n None = n
-  next_in n (Some b) = b.links.next.to
+  -- a node without a block reads as one that links nowhere and holds nothing
+  abbrev pub next_in : Option (Kept (K × V)) → Node
+  next_in None = record { at = null_ptr }
+  next_in (Some b) = b.links.next.to
 
-  abbrev pub prev_in : Node → Option (Kept (K × V)) → Node
-  prev_in n None = n
-  prev_in n (Some b) = b.links.prev.to
+  abbrev pub prev_in : Option (Kept (K × V)) → Node
+  prev_in None = record { at = null_ptr }
+  prev_in (Some b) = b.links.prev.to
 
   abbrev pub held_in : Option (Kept (K × V)) → Option (Held K V)
   held_in b = option_map (λ e. held e.0 e.1.0 e.1.1) (entry_in b)
 
   abbrev pub state : Blocks K V → ℕ → State K V
   state bs writes = record {
-    next = λ n. next_in n (lookup (same_node n) bs);
-    prev = λ n. prev_in n (lookup (same_node n) bs);
+    next = λ n. next_in (lookup (same_node n) bs);
+    prev = λ n. prev_in (lookup (same_node n) bs);
     held = λ n. held_in (lookup (same_node n) bs);
     has = λ n. is_some (lookup (same_node n) bs);
     size = length bs;
@@ -59,21 +60,33 @@ module _ {K V : Type 0} where
   unfoldable pub hold : Node → Option (Held K V) → State K V → State K V
   hold n h s = record s { held = set_at s.held n h }
 
-  -- n is new and holds h, its links lead anywhere, and no other node changed
-  pub record Adds (n : Node) (h : Option (Held K V)) (old new : State K V) : Type 0 where
-    pub absent : old.has n ≡ false
+  -- new is as old but at n
+  pub record Differs (n : Node) (old new : State K V) : Type 0 where
     pub next : (m : Node) → same_node m n ≡ false → new.next m ≡ old.next m
     pub prev : (m : Node) → same_node m n ≡ false → new.prev m ≡ old.prev m
-    pub held : new.held ≡ set_at old.held n h
-    pub has : new.has ≡ set_at old.has n true
+    pub held : (m : Node) → same_node m n ≡ false → new.held m ≡ old.held m
+    pub has : (m : Node) → same_node m n ≡ false → new.has m ≡ old.has m
+
+  -- n is new and holds nothing, its links lead anywhere, and no other node changed
+  pub record Adds (n : Node) (old new : State K V) : Type 0 where
+    pub differs : Differs n old new
+    pub absent : old.has n ≡ false
+    pub there : new.has n ≡ true
+    pub bare : new.held n ≡ None
     pub size : new.size ≡ old.size + 1
     pub link_writes : new.link_writes ≡ old.link_writes
 
   -- g is new: it links to itself, and holds nothing
   pub record MakesGuard (g : Node) (old new : State K V) : Type 0 where
-    pub adds : Adds g None old new
+    pub adds : Adds g old new
     pub next : new.next g ≡ g
     pub prev : new.prev g ≡ g
+
+  -- n, p and q have blocks
+  pub record AreThere (s : State K V) (n p q : Node) : Type 0 where
+    pub node : s.has n ≡ true
+    pub prev : s.has p ≡ true
+    pub next : s.has q ≡ true
 
   -- the neighbours of n link past it
   unfoldable pub detached : Node → State K V → State K V
@@ -85,10 +98,7 @@ module _ {K V : Type 0} where
 
   -- n has no block any more, and no other node changed
   pub record Drops (n : Node) (old new : State K V) : Type 0 where
-    pub next : (m : Node) → same_node m n ≡ false → new.next m ≡ old.next m
-    pub prev : (m : Node) → same_node m n ≡ false → new.prev m ≡ old.prev m
-    pub held : (m : Node) → same_node m n ≡ false → new.held m ≡ old.held m
-    pub has : (m : Node) → same_node m n ≡ false → new.has m ≡ old.has m
+    pub differs : Differs n old new
     pub size : new.size + 1 ≡ old.size
     pub link_writes : new.link_writes ≡ old.link_writes
 

@@ -1,4 +1,4 @@
-//! The owner of the nodes' blocks. All code that follows a pointer is in this file and in `arena/loose.rt`.
+//! The owner of the nodes' blocks. All code that follows a pointer is in this file.
 ghost use Rattle.std.specs.Prelude.{◌≡◌, ◌^◌, ◌<◌, List, [], ◌∷◌, None, Some, IsSome, IsNone, IfSome};
 ghost use Rattle.std.specs.Option.{option_map};
 ghost use Rattle.std.specs.Map.{lookup, remove_entry};
@@ -8,14 +8,12 @@ ghost use Rattle.hashlink_nodes.specs.declared.node.Node.{Node};
 ghost use Rattle.hashlink_nodes.specs.Kept.{Kept, kept, alter, entry_in, number_word, with_entry};
 ghost use Rattle.hashlink_nodes.specs.Ownership.{blocks_own, blocks_lent};
 
-mod loose;
-
-pub(crate) use self::loose::Loose;
 use crate::node::Node;
 use crate::pool::Links;
 use std::alloc::Global;
 use std::marker::{Model, PhantomData};
 use std::mem::size_of;
+use std_alloc::room::Vacant;
 
 /// What lies in a node's block. The pair is there where the node holds an entry: no block says so but by its
 /// number, which is `NO_ENTRY` where there is none.
@@ -57,26 +55,26 @@ impl<T> Arena<T> {
     }
 
     /// Takes the block over, without a pair, and returns its node.
-    pub(crate) fn keep(&mut self, loose: Loose<T, Global>, links: Links) -> Node
+    pub(crate) fn keep(&mut self, vacant: Vacant<Block<T>, Global>, links: Links) -> Node
         ensures kept { self.new.blocks ≡ (result, kept links None) ∷ self.old.blocks }
         ensures apart { IsNone (lookup (same_node result) self.old.blocks) }
     {
-        let Loose { at, alloc: _ } = loose;
+        let Vacant { ptr, alloc: _ } = vacant;
         unsafe {
-            (&raw mut (*at).number).write(NO_ENTRY);
-            (&raw mut (*at).links).write(links);
+            (&raw mut (*ptr).number).write(NO_ENTRY);
+            (&raw mut (*ptr).links).write(links);
         }
-        Node { at: at as *mut u8 }
+        Node { at: ptr as *mut u8 }
     }
 
     /// Returns the node's block, which has no pair, to the caller.
-    pub(crate) fn give_back(&mut self, node: Node, alloc: Global) -> Loose<T, Global>
+    pub(crate) fn give_back(&mut self, node: Node, alloc: Global) -> Vacant<Block<T>, Global>
         requires there { IsSome (lookup (same_node node) self.old.blocks) }
         requires bare { entry_in (lookup (same_node node) self.old.blocks) ≡ None }
         ensures { self.new.blocks ≡ remove_entry (same_node node) self.old.blocks }
     {
-        Loose {
-            at: node.at as *mut Block<T>,
+        Vacant {
+            ptr: node.at as *mut Block<T>,
             alloc,
         }
     }

@@ -93,9 +93,7 @@ impl<K, V> Nodes<K, V> {
         let node = self.first_spare;
         let first_spare = self.pool.next(node);
         self.pool.fill(node, number, key, value);
-        let next = place.unwrap_or(guard);
-        let prev = self.pool.prev(next);
-        self.pool.attach(node, prev, next);
+        self.pool.attach_before(node, place.unwrap_or(guard));
         self.first_spare = first_spare;
         self.spare -= 1;
         self.len += 1;
@@ -133,9 +131,7 @@ impl<K, V> Nodes<K, V> {
         match self.pool.make(self.alloc) {
             Ok(node) => {
                 self.pool.fill(node, number, key, value);
-                let next = place.unwrap_or(guard);
-                let prev = self.pool.prev(next);
-                self.pool.attach(node, prev, next);
+                self.pool.attach_before(node, place.unwrap_or(guard));
                 self.len += 1;
                 Ok(node)
             }

@@ -1,9 +1,7 @@
 //! The blocks of a ring, by their nodes: safe code over the arena.
 ghost use Rattle.std.specs.Prelude.{◌≡◌, ◌^◌, ◌<◌, true, false, [], IfOk, OnErr, None, Some, IsSome};
 ghost use Rattle.std.specs.Prelude.{is_some};
-ghost use Rattle.hashlink_nodes.specs.State.{state, hold, detached, attached};
-ghost use Rattle.hashlink_nodes.specs.State.{Drops};
-ghost use Rattle.hashlink_nodes.specs.State.{GuardIs};
+ghost use Rattle.hashlink_nodes.specs.State.{state, hold, detached, attached, AreThere, Drops, GuardIs};
 ghost use Rattle.std.specs.Option.{option_map};
 ghost use Rattle.std.specs.Borrow.{sem};
 ghost use Rattle.hashlink_nodes.specs.Ring.{held, pair_of, with_key};
@@ -87,7 +85,7 @@ impl<K, V> Pool<K, V> {
     #[inline]
     pub(crate) fn entry_mut(&mut self, node: Node) -> (&K, &mut V)
         requires { IsSome ((state_of self.old).held node) }
-        ensures* lends { sem 𝓛 (LendsPoolValue K.row V.row self.entry node result.1) }
+        ensures* lends { sem 𝓛 (LendsPoolValue K.row V.row self.entry node result) }
         ensures pair { option_map pair_of ((state_of self.old).held node) ≡ Some
             (result.0.now, result.1.now) }
     {
@@ -129,9 +127,8 @@ impl<K, V> Pool<K, V> {
     /// Links the neighbours of the node past it.
     #[inline]
     pub(crate) fn detach(&mut self, node: Node)
-        requires node { (state_of self.old).has node ≡ true }
-        requires next { (state_of self.old).has ((state_of self.old).next node) ≡ true }
-        requires prev { (state_of self.old).has ((state_of self.old).prev node) ≡ true }
+        requires { AreThere (state_of self.old) node ((state_of self.old).prev node)
+            ((state_of self.old).next node) }
         ensures { state_of self.new ≡ detached node (state_of self.old) }
     {
         let next = self.next(node);
@@ -140,12 +137,31 @@ impl<K, V> Pool<K, V> {
         self.store_prev(next, prev);
     }
 
-    /// Links the node in between two others.
+    /// Links the node in before another one.
     #[inline]
-    pub(crate) fn attach(&mut self, node: Node, prev: Node, next: Node)
-        requires node { (state_of self.old).has node ≡ true }
-        requires prev { (state_of self.old).has prev ≡ true }
-        requires next { (state_of self.old).has next ≡ true }
+    pub(crate) fn attach_before(&mut self, node: Node, next: Node)
+        requires { AreThere (state_of self.old) node ((state_of self.old).prev next) next }
+        ensures { state_of self.new
+            ≡ attached node ((state_of self.old).prev next) next (state_of self.old) }
+    {
+        let prev = self.prev(next);
+        self.attach(node, prev, next);
+    }
+
+    /// Links the node in after another one.
+    #[inline]
+    pub(crate) fn attach_after(&mut self, node: Node, prev: Node)
+        requires { AreThere (state_of self.old) node prev ((state_of self.old).next prev) }
+        ensures { state_of self.new
+            ≡ attached node prev ((state_of self.old).next prev) (state_of self.old) }
+    {
+        let next = self.next(prev);
+        self.attach(node, prev, next);
+    }
+
+    #[inline]
+    fn attach(&mut self, node: Node, prev: Node, next: Node)
+        requires { AreThere (state_of self.old) node prev next }
         ensures { state_of self.new ≡ attached node prev next (state_of self.old) }
     {
         self.store_next(node, next);

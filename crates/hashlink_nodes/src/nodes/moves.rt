@@ -18,9 +18,7 @@ impl<K, V> Nodes<K, V> {
     {
         let guard = self.guard.unwrap();
         self.pool.detach(node);
-        let next = place.unwrap_or(guard);
-        let prev = self.pool.prev(next);
-        self.pool.attach(node, prev, next);
+        self.pool.attach_before(node, place.unwrap_or(guard));
     }
 
     /// Moves the node's entry directly after another place. It stores six links.
@@ -33,8 +31,6 @@ impl<K, V> Nodes<K, V> {
     {
         let guard = self.guard.unwrap();
         self.pool.detach(node);
-        let before = place.unwrap_or(guard);
-        let after = self.pool.next(before);
-        self.pool.attach(node, before, after);
+        self.pool.attach_after(node, place.unwrap_or(guard));
     }
 }

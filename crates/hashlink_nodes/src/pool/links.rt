@@ -1,13 +1,13 @@
 //! The links of the blocks. All code that makes a link or stores one is in this file.
-ghost use Rattle.std.specs.Prelude.{◌≡◌, ◌+◌, false, true, IfOk, None, OnErr};
+ghost use Rattle.std.specs.Prelude.{◌≡◌, ◌+◌, false, true, IfOk, OnErr};
 ghost use Rattle.hashlink_nodes.specs.Pool.{state_of};
 ghost use Rattle.hashlink_nodes.specs.State.{store_next, store_prev, Adds, MakesGuard};
 
 use super::Pool;
-use crate::arena::Loose;
 use crate::link_writes::LinkWrites;
 use crate::node::Node;
 use std::alloc::{AllocError, Global};
+use std_alloc::room::Vacant;
 
 /// The links of a node's block.
 pub(crate) struct Links {
@@ -90,11 +90,11 @@ impl<K, V> Pool<K, V> {
 
     /// Allocates a node that holds nothing. Its links lead nowhere until they are stored.
     pub(crate) fn make(&mut self, alloc: Global) -> Result<Node, AllocError>
-        ensures made { IfOk result (λ n. Adds n None (state_of self.old) (state_of self.new)) }
+        ensures made { IfOk result (λ n. Adds n (state_of self.old) (state_of self.new)) }
         ensures refused { OnErr result (self.new ≡ self.old) }
     {
-        match Loose::allocate(alloc) {
-            Ok(loose) => Ok(self.arena.keep(loose, Links::nowhere())),
+        match Vacant::take(alloc) {
+            Ok(vacant) => Ok(self.arena.keep(vacant, Links::nowhere())),
             Err(_) => Err(AllocError),
         }
     }

@@ -1,59 +1,40 @@
 -- `fill` writes a pair and its number into the room of a block.
-use Rattle.hashlink_nodes.proofs.Walks.{◌≡◌, ℕ, ◌+◌, ◌∙◌, ◌^◌, ◌<◌, List, [], ◌∷◌, ◌++◌, refl, sym, ap}
-use Rattle.hashlink_nodes.proofs.Walks.{Option, Some, None, IsSome, lookup, remove_entry, full_share, Ty}
-use Rattle.hashlink_nodes.proofs.Walks.{a_type, ty_int, w64, inst_fn, Val, vint, vptr, vunit, SProp, never}
-use Rattle.hashlink_nodes.proofs.Walks.{id⊢, ftrue, fat, froom, flft, fsep, WpFn, ‵, raw, ◌⊛◌, at_ret, ◌$◌}
-use Rattle.hashlink_nodes.proofs.Walks.{◌∵◌, !, qed, by, move, keep, drop, split, split3, group, fsplit}
-use Rattle.hashlink_nodes.proofs.Walks.{fsplit3, fjoin, fjoin3, rewrite, use1, use2, feq_i, feq_l, stop, fld}
-use Rattle.hashlink_nodes.proofs.Walks.{of_opd, addr, store, init, assigns, assigns_last, first, blocks, exec}
-use Rattle.hashlink_nodes.proofs.Walks.{returns, enter, alloc_all, pass_all, free_all, look_at, get, get_in}
-use Rattle.hashlink_nodes.proofs.Walks.{through, sets, is, env, sub, whole, fact, ◌⊑◌, tables, part_in, usize}
-use Rattle.hashlink_nodes.proofs.Walks.{no, yes, lone, part_at, uint_in, uint_out, RattleType, owns, Ptr}
-use Rattle.hashlink_nodes.proofs.Walks.{ptr_val, in_a_block, lies_at, types_at, plain, param, layouts}
-use Rattle.hashlink_nodes.proofs.Walks.{param_laws, nothing, heard, opens, closes, Stays, stay_dropped}
-use Rattle.hashlink_nodes.proofs.Walks.{stay_ref, walk_of, Goes-dropped, Goes-ref, after, word, word-Good}
-use Rattle.hashlink_nodes.proofs.Walks.{proved_at, leaves}
-use Rattle.hashlink_nodes.proofs.Names.{flt_l, unit_lit, same_node, alter, entry_in, number_word, with_entry}
-use Rattle.hashlink_nodes.proofs.Names.{Links, blocks_own, block_owns, pair_owns, pair_room, pair_offset}
-use Rattle.hashlink_nodes.proofs.Names.{is_small, number_of, number_offset, links_of, deed_owns, free_right}
-use Rattle.hashlink_nodes.proofs.Names.{Arena}
-use Rattle.hashlink_nodes.specs.contracts.arena.Arena.{the_row}
-use Rattle.hashlink_nodes.proofs.ArenaSteps.{Nd, word_had, told, args_are, states}
+use Rattle.hashlink_nodes.proofs.Names
+use Names.{word_had, handle_tells, ◌≡◌, ℕ, ◌+◌, ◌∙◌, ◌^◌, ◌<◌, List, [], ◌∷◌, ◌++◌, refl, sym, ap, Option}
+use Names.{Some, None, IsSome, lookup, remove_entry, full_share, Ty, a_type, ty_int, w64, inst_fn, Val, vint}
+use Names.{vptr, vunit, SProp, never, id⊢, ftrue, fat, froom, flft, fsep, WpFn, ‵, raw, ◌⊛◌, at_ret, ◌$◌, ◌∵◌}
+use Names.{ !, qed, by, move, keep, drop, split, split3, group, fsplit, fsplit3, fjoin, fjoin3, rewrite, use1}
+use Names.{use2, feq_i, feq_l, stop, fld, of_opd, addr, store, init, assigns, assigns_last, first, blocks}
+use Names.{exec, returns, enter, alloc_all, pass_all, free_all, look_at, get, get_in, through, sets, is, env}
+use Names.{sub, whole, fact, ◌⊑◌, tables, part_in, usize, no, yes, lone, part_at, uint_in, uint_out}
+use Names.{RattleType, owns, Ptr, ptr_val, in_a_block, lies_at, types_at, plain, param, layouts, param_laws}
+use Names.{nothing, heard, opens, closes, Stays, stay_dropped, stay_ref, walk_of, Goes-dropped, Goes-ref}
+use Names.{after, word, word-Good, proved_at, leaves, flt_l, unit_lit, same_node, alter, entry_in}
+use Names.{number_word, with_entry, Links, blocks_own, block_owns, pair_owns, pair_room, pair_offset}
+use Names.{is_small, number_of, number_offset, links_of, deed_owns, Arena, arena_row}
+use Rattle.hashlink_nodes.proofs.ArenaSteps.{fits_word, Nd, no_box, as_handle, args_are, states}
 use Rattle.hashlink_nodes.proofs.ArenaBlocks.{found, blocks_cut, blocks_glue, small_shown}
-use Rattle.hashlink_nodes.specs.contracts.arena.Arena.fill.{ended, clauses}
-use Rattle.hashlink_nodes.specs.contracts.arena.Arena.fill.Key.{name as #self}
+use Rattle.hashlink_nodes.specs.contracts.arena.Arena.fill as F
 use Rattle.hashlink_nodes.proofs.arena.Arena.fill.Statement.{statement}
 use Rattle.hashlink_nodes.proofs.arena.Arena.fill.Code as code
 
 pub fill_spec : {M : Type 1} → statement M
 fill_spec 𝓤 𝓛 𝓜 𝓡 wired T L =
-    let H = 𝓛.H in
-    let 𝓣 = tables 𝓤 H 𝓜 𝓡 𝓡.env in
-    let R : RattleType = param 0 T in let En = ended T in let c = clauses T 𝓛 𝓜.mem 𝓡.returns in
+    let H = 𝓛.H in let 𝓣 = tables 𝓤 H 𝓜 𝓡 𝓡.env in
+    let R : RattleType = param 0 T in let En = F.ended T in let c = F.clauses T 𝓛 𝓜.mem 𝓡.returns in
     let inst = layouts (a_type ∷ []) (T, tt) in
-    let fn = inst_fn inst code.function in let Ar : RattleType = the_row R in
+    let fn = inst_fn inst code.function in let Ar : RattleType = arena_row R in
     let hs : Stays En.signature.params En.kept
     = (
       stay_ref (0 ∷ []) tt (plain (λ _. Ar)),
-      (
-        stay_dropped (plain (λ _. Nd)) yes,
-        (stay_dropped (plain (λ _. usize)) yes, (stay_dropped (plain (λ _. R)) no, tt)),
-      ),
-    )
-    in
-    proved_at 𝓛 En hs c 𝓜 𝓡 (
-      Goes-ref 𝓛 2 0 tt (plain (λ _. Ar)),
-      (
-        Goes-dropped 𝓛 2 (plain (λ _. Nd)) yes (λ κs x f. refl),
-        (
-          Goes-dropped 𝓛 2 (plain (λ _. usize)) yes (λ κs x f. refl),
-          (Goes-dropped 𝓛 2 (plain (λ _. R)) no (λ κs x f. refl), tt),
-        ),
-      ),
-    )
-    (#self inst) fn (code.unfolded 𝓤 H 𝓜 𝓡 wired (T, tt)) (λ z are.
-    let κs = z.0.0 in
-    let qs = z.0.1 in
+      (stay_dropped _ yes, (stay_dropped _ yes, (stay_dropped _ no, tt))),
+    ) in
+    let node_goes = Goes-dropped 𝓛 2 (plain (λ _. Nd)) yes (λ κs x f. refl) in
+    let number_goes = Goes-dropped 𝓛 2 (plain (λ _. usize)) yes (λ κs x f. refl) in
+    let pair_goes = Goes-dropped 𝓛 2 (plain (λ _. R)) no (λ κs x f. refl) in
+    proved_at 𝓛 En hs c 𝓜 𝓡 (Goes-ref 𝓛 2 0 tt (plain (λ _. Ar)), (node_goes, (number_goes, (pair_goes, tt))))
+    (F.Key.name inst) fn (code.unfolded 𝓤 H 𝓜 𝓡 wired (T, tt)) (λ z are.
+    let κs = z.0.0 in let qs = z.0.1 in
     let Post : Val → SProp 𝓤 = (walk_of 𝓛 En hs c).post z in
     let Run : List Val → SProp 𝓤 = λ ws. WpFn 𝓤 H 𝓣.C 𝓣.Λ fn ws Post in
     let a = z.0.3.0.now in
@@ -71,15 +52,15 @@ fill_spec 𝓤 𝓛 𝓜 𝓡 wired T L =
     let filled = with_entry (Some (number, pair)) in
     let new : Arena T.Denot = record { mark = a.mark; blocks = alter (same_node n) filled a.blocks } in
     move ! (1 ∷ []) $ fsplit ! $ fsplit3 ! $ feq_l !
-    (λ e0. move ! (2 ∷ []) $ fsplit ! $ word_had ! n.at z.0.4.1.0
+    (λ e0. move ! (2 ∷ []) $ fsplit ! $ word_had no_box [] n.at ! z.0.4.1.0
     (λ e1. fsplit ! $ fsplit ! $ feq_l ! (λ e2. flt_l ! (λ fits.
-    fsplit ! $ told R (param_laws 0 T L) ! pair z.0.4.1.1.1.0 (λ v e3 good.
+    fsplit ! $ handle_tells (as_handle R (param_laws 0 T L)) ! pair z.0.4.1.1.1.0 (λ v e3 good.
     -- [what the pair owns; nothing; obs; the borrow; the tokens]
     move ! (1 ∷ []) $ drop ! $ move ! (3 ∷ []) $ split3 ! $
     args_are ! (λ (us : List Val × List Val × List Val × List Val). Run
     (us.0 ++ (us.1 ++ (us.2 ++ (us.3 ++ []))))) (λ j. (sym e0 j, sym e1 j, sym e2 j, sym e3 j)) $
     enter ! 𝓣.C 𝓣.Λ fn (vptr rb ro ∷ word n.at ∷ vint w64 number ∷ v ∷ []) Post $ alloc_all !
-    (λ l. pass_all ! refl ((tt, tt), (word-Good [] n.at, ((tt, record { fits = fits }), (good, tt)))) $
+    (λ l. pass_all ! refl ((tt, tt), (word-Good [] n.at, ((fits_word fits), (good, tt)))) $
     let Ev = env fn.locals l in
     move ! (4 ∷ 5 ∷ 0 ∷ []) $ opens ! tt Ar {h = a} rb ro
     (λ vs. move ! (1 ∷ []) $ fsplit ! $ move ! (1 ∷ []) $
@@ -90,7 +71,7 @@ fill_spec 𝓤 𝓛 𝓜 𝓡 wired T L =
     let τ : Ty = lone R.mir in let at = o + pair_offset R in let no = o + number_offset R in
     use1 𝓛 (‵ (froom τ b at)) (𝓛.laws.raw-room τ b at) $
     rewrite ! 2 (λ (p : Ptr). ‵ (fsep (lies_at Links full_share (links_of R p) k.links)
-    (deed_owns R free_right p)))
+    (deed_owns R p)))
     e refl $
     move ! (1 ∷ []) $
     rewrite ! 0 (λ (x : Ptr × Option (ℕ × T.Denot)). ‵ (fsep (is_small R x.1)
@@ -103,11 +84,7 @@ fill_spec 𝓤 𝓛 𝓜 𝓡 wired T L =
     sets ! (is ! (of_opd ! (get_in ! (fld ! refl (stop !)) (sub ! 0 refl (whole !)))) (ap ptr_val e)) refl
     (tt, tt) $
     first ! $ blocks ! $ sets ! (addr ! (through ! refl (fld ! refl (stop !)))) refl (tt, tt) $
-    assigns ! (of_opd ! (get ! refl)) (through ! refl (stop !)) (store ! 0 refl (
-      tt,
-      record
-          { fits = fits },
-    )) $
+    assigns ! (of_opd ! (get ! refl)) (through ! refl (stop !)) (store ! 0 refl (fits_word fits)) $
     sets ! (addr ! (through ! refl (fld ! refl (stop !)))) refl (tt, tt) $
     sets ! (of_opd ! (get ! refl)) refl good $
     assigns_last ! (of_opd ! (get ! refl)) (through ! refl (stop !)) (init ! 1 refl good) $

@@ -1,56 +1,36 @@
 -- `give_back` takes a block out of those that the arena owns.
-use Rattle.hashlink_nodes.proofs.Walks.{◌≡◌, ℕ, ◌+◌, ◌∙◌, ◌^◌, List, [], ◌∷◌, ◌++◌, refl, sym, ap, Option}
-use Rattle.hashlink_nodes.proofs.Walks.{None, IsSome, lookup, remove_entry, full_share, Ty, a_type, ty_int}
-use Rattle.hashlink_nodes.proofs.Walks.{w64, bare, inst_fn, Val, vint, vptr, SProp, never, id⊢, ftrue, fat}
-use Rattle.hashlink_nodes.proofs.Walks.{froom, flft, fsep, WpFn, ‵, raw, ◌⊛◌, some, ◌$◌, ◌∵◌, !, qed, by}
-use Rattle.hashlink_nodes.proofs.Walks.{move, keep, drop, split, split3, group, fsplit, fsplit3, fjoin}
-use Rattle.hashlink_nodes.proofs.Walks.{fjoin3, pick, rewrite, use1, feq_i, feq_l, stop, fld, of_opd}
-use Rattle.hashlink_nodes.proofs.Walks.{and_then, no_more, returns, enter, alloc_all, pass_all, free_all}
-use Rattle.hashlink_nodes.proofs.Walks.{look_at, get, get_in, sets, is, sub, whole, agg, fact, ◌⊑◌, tables}
-use Rattle.hashlink_nodes.proofs.Walks.{part_out, usize, yes, lone, uint_out, RattleType, owns, Ptr}
-use Rattle.hashlink_nodes.proofs.Walks.{block_ptr, ptr_val, in_a_block, lies_at, types_at, plain, param}
-use Rattle.hashlink_nodes.proofs.Walks.{layouts, nothing, heard, opens, closes, Stays, stay_dropped, stay_ref}
-use Rattle.hashlink_nodes.proofs.Walks.{walk_of, Goes-dropped, Goes-ref, word, word-Good, proved_at, leaves}
-use Rattle.hashlink_nodes.proofs.Walks.{ghosts, handle_tells}
-use Rattle.hashlink_nodes.proofs.Names.{same_node, entry_in, number_word, Links, blocks_own, block_owns}
-use Rattle.hashlink_nodes.proofs.Names.{pair_owns, pair_room, is_small, number_of, number_offset, links_of}
-use Rattle.hashlink_nodes.proofs.Names.{links_offset, deed_owns, free_right, Arena}
-use Rattle.hashlink_nodes.specs.contracts.arena.Arena.{the_row}
-use Rattle.hashlink_nodes.proofs.ArenaSteps.{Nd, word_had, args_are, states}
+use Rattle.hashlink_nodes.proofs.Names
+use Names.{word_had, handle_tells, ◌≡◌, ℕ, ◌+◌, ◌∙◌, ◌^◌, List, [], ◌∷◌, ◌++◌, refl, sym, ap, Option, None}
+use Names.{IsSome, lookup, remove_entry, full_share, Ty, a_type, ty_int, w64, bare, inst_fn, Val, vint, vptr}
+use Names.{SProp, never, id⊢, ftrue, fat, froom, flft, fsep, WpFn, ‵, raw, ◌⊛◌, some, ◌$◌, ◌∵◌, !, qed, by}
+use Names.{move, keep, drop, split, split3, group, fsplit, fsplit3, fjoin, fjoin3, pick, rewrite, use1, feq_i}
+use Names.{feq_l, stop, fld, of_opd, and_then, no_more, returns, enter, alloc_all, pass_all, free_all}
+use Names.{look_at, get, get_in, sets, is, sub, whole, agg, fact, ◌⊑◌, tables, part_out, usize, yes, lone}
+use Names.{uint_out, RattleType, owns, Ptr, block_ptr, ptr_val, in_a_block, lies_at, types_at, plain, param}
+use Names.{layouts, nothing, heard, opens, closes, Stays, stay_dropped, stay_ref, walk_of, Goes-dropped}
+use Names.{Goes-ref, word, word-Good, proved_at, leaves, same_node, entry_in, number_word, Links, blocks_own}
+use Names.{block_owns, pair_owns, pair_room, is_small, number_of, number_offset, links_of, links_offset}
+use Names.{deed_owns, Arena, arena_row}
+use Rattle.hashlink_nodes.proofs.ArenaSteps.{Nd, no_box, args_are, states, Heap, heap_handle}
 use Rattle.hashlink_nodes.proofs.ArenaBlocks.{found, blocks_cut}
-use Rattle.std.specs.contracts.alloc.Global as heap
-use Rattle.std.proofs.alloc.Global.TheLaws as heap_laws
-use Rattle.hashlink_nodes.proofs.LooseSteps.{both, Lo, al, loose_good, loose_in}
-use Rattle.hashlink_nodes.specs.contracts.arena.Arena.give_back.{ended, clauses}
-use Rattle.hashlink_nodes.specs.contracts.arena.Arena.give_back.Key.{name as #self}
+use Rattle.hashlink_nodes.proofs.VacantSteps.{both, Vacant, vacant_good, vacant_in}
+use Rattle.hashlink_nodes.specs.contracts.arena.Arena.give_back as F
 use Rattle.hashlink_nodes.proofs.arena.Arena.give_back.Statement.{statement}
 use Rattle.hashlink_nodes.proofs.arena.Arena.give_back.Code as code
 
 pub give_back_spec : {M : Type 1} → statement M
 give_back_spec 𝓤 𝓛 𝓜 𝓡 wired T L =
-    let H = 𝓛.H in
-    let 𝓣 = tables 𝓤 H 𝓜 𝓡 𝓡.env in
-    let R : RattleType = param 0 T in let En = ended T in let c = clauses T 𝓛 𝓜.mem 𝓡.returns in
+    let H = 𝓛.H in let 𝓣 = tables 𝓤 H 𝓜 𝓡 𝓡.env in
+    let R : RattleType = param 0 T in let En = F.ended T in let c = F.clauses T 𝓛 𝓜.mem 𝓡.returns in
     let inst = layouts (a_type ∷ []) (T, tt) in
-    let fn = inst_fn inst code.function in let Ar : RattleType = the_row R in
-    let Z : RattleType = heap.the_row in let LZ = heap_laws.the_row_laws in let Lr : RattleType =
-    Lo R Z LZ ghosts in
+    let fn = inst_fn inst code.function in let Ar : RattleType = arena_row R in
     let hs : Stays En.signature.params En.kept
-    = (
-      stay_ref (0 ∷ []) tt (plain (λ _. Ar)),
-      (stay_dropped (plain (λ _. Nd)) yes, (stay_dropped (plain (λ _. Z)) yes, tt)),
-    )
-    in
-    proved_at 𝓛 En hs c 𝓜 𝓡 (
-      Goes-ref 𝓛 2 0 tt (plain (λ _. Ar)),
-      (
-        Goes-dropped 𝓛 2 (plain (λ _. Nd)) yes (λ κs x f. refl),
-        (Goes-dropped 𝓛 2 (plain (λ _. Z)) yes (λ κs x f. refl), tt),
-      ),
-    )
-    (#self inst) fn (code.unfolded 𝓤 H 𝓜 𝓡 wired (T, tt)) (λ z are.
-    let κs = z.0.0 in
-    let qs = z.0.1 in
+    = (stay_ref (0 ∷ []) tt (plain (λ _. Ar)), (stay_dropped _ yes, (stay_dropped _ yes, tt))) in
+    let node_goes = Goes-dropped 𝓛 2 (plain (λ _. Nd)) yes (λ κs x f. refl) in
+    let heap_goes = Goes-dropped 𝓛 2 (plain (λ _. Heap)) yes (λ κs x f. refl) in
+    proved_at 𝓛 En hs c 𝓜 𝓡 (Goes-ref 𝓛 2 0 tt (plain (λ _. Ar)), (node_goes, (heap_goes, tt)))
+    (F.Key.name inst) fn (code.unfolded 𝓤 H 𝓜 𝓡 wired (T, tt)) (λ z are.
+    let κs = z.0.0 in let qs = z.0.1 in
     let Post : Val → SProp 𝓤 = (walk_of 𝓛 En hs c).post z in
     let Run : List Val → SProp 𝓤 = λ ws. WpFn 𝓤 H 𝓣.C 𝓣.Λ fn ws Post in
     let a = z.0.3.0.now in
@@ -67,8 +47,8 @@ give_back_spec 𝓤 𝓛 𝓜 𝓡 wired T L =
     let is_e : k.entry ≡ None = ap entry_in (sym is_k) ∙ lacks in
     let new : Arena T.Denot = record { mark = a.mark; blocks = remove_entry (same_node n) a.blocks } in
     move ! (1 ∷ []) $ fsplit ! $ fsplit3 ! $ feq_l !
-    (λ e0. move ! (2 ∷ []) $ fsplit ! $ word_had ! n.at z.0.4.1.0
-    (λ e1. fsplit ! $ handle_tells (al R Z LZ ghosts) ! alloc z.0.4.1.1.0 (λ h e2 fits.
+    (λ e0. move ! (2 ∷ []) $ fsplit ! $ word_had no_box [] n.at ! z.0.4.1.0
+    (λ e1. fsplit ! $ handle_tells heap_handle ! alloc z.0.4.1.1.0 (λ h e2 fits.
     -- [the handle; nothing; obs; the borrow; the tokens]
     move ! (1 ∷ []) $ drop ! $ move ! (3 ∷ []) $ split3 ! $
     args_are ! (λ (us : List Val × List Val × List Val). Run (us.0 ++ (us.1 ++ (us.2 ++ []))))
@@ -82,7 +62,7 @@ give_back_spec 𝓤 𝓛 𝓜 𝓡 wired T L =
     rewrite ! 0 (λ x. ‵ (pair_owns R n.at x)) is_e refl $
     in_a_block ! n.at (pair_room R) (id⊢ 𝓤 (never 𝓤)) (λ b o e.
     let τ : Ty = lone Links.mir in let at = o + links_offset R in let no = o + number_offset R in
-    let out : Lr.Denot = record { at = block_ptr b o; alloc = alloc } in
+    let out : (Vacant T).Denot = record { ptr = block_ptr b o; alloc = alloc } in
     move ! (1 ∷ []) $
     rewrite ! 0 (λ (x : Ptr × Option (ℕ × T.Denot)). ‵ (fsep (is_small R x.1)
     (lies_at usize full_share (number_of R x.0) (number_word x.1)))) (λ i. (e i, is_e i)) refl $
@@ -91,24 +71,25 @@ give_back_spec 𝓤 𝓛 𝓜 𝓡 wired T L =
     use1 𝓛 (‵ (froom (ty_int w64) b no)) (𝓛.laws.at_room (ty_int w64) b no (vint w64 (2 ^ 48))) $
     move ! (2 ∷ []) $
     rewrite ! 0 (λ (p : Ptr). ‵ (fsep (lies_at Links full_share (links_of R p) k.links)
-    (deed_owns R free_right p)))
+    (deed_owns R p)))
     e refl $ fsplit ! $
     use1 𝓛 (some (λ (v : Val). ‵ (fat full_share τ b at v) ⊛ ‵ (Links.own_val k.links (v ∷ []))))
     (part_out 𝓛 Links refl full_share k.links b at) $ pick ! (λ v. split ! $ move ! (1 ∷ []) $ drop ! $
     use1 𝓛 (‵ (froom τ b at)) (𝓛.laws.at_room τ b at v) $
     use1 𝓛 (‵ (froom (bare τ) b at)) (𝓛.laws.room-raw τ b at) $
     -- [room for the links; the deed; room for the number, for the pair]
-    move ! (3 ∷ 2 ∷ 0 ∷ []) $ fjoin3 ! $ fjoin ! $
-    -- [the block; the others; the mark; its cell; the open borrow; obs; auth; a token; nothing; the handle]
+    move ! (3 ∷ 2 ∷ 0 ∷ []) $ fjoin3 ! $
+    -- [the room; the deed; the others; the mark; its cell; the open borrow; obs; auth; a token; nothing; the
+    -- handle]
     sets ! (is ! (of_opd ! (get_in ! (fld ! refl (stop !)) (sub ! 0 refl (whole !)))) (ap ptr_val e)) refl
     (tt, tt) $
     sets ! (agg ! (and_then ! (get ! refl) (and_then ! (get ! refl) (no_more !)))) refl
-    (loose_good R Z LZ ghosts b o h fits) $
-    move ! (1 ∷ 2 ∷ []) $ move ! (1 ∷ 0 ∷ []) $ fjoin ! $ move ! (2 ∷ 0 ∷ 3 ∷ 4 ∷ 5 ∷ []) $
+    (vacant_good b o h fits) $
+    move ! (3 ∷ 2 ∷ []) $ fjoin ! $ move ! (3 ∷ 0 ∷ 4 ∷ 5 ∷ 6 ∷ []) $
     closes ! tt Ar new vs rb
     ro $
-    -- [obs; the borrow; its token; the block; a token; nothing; the handle]
-    move ! (3 ∷ 6 ∷ []) $ loose_in R Z LZ ghosts ! b o h alloc $
+    -- [obs; the borrow; its token; the room; the deed; a token; nothing; the handle]
+    move ! (3 ∷ 4 ∷ 7 ∷ []) $ vacant_in T ! b o h alloc $
     states ! {φ = new.blocks ≡ remove_entry (same_node n) a.blocks} refl $ move ! (1 ∷ 0 ∷ []) $
     move ! (4 ∷ 5 ∷ 6 ∷ []) $ group ! 3 $
     nothing ! $ nothing ! $ fjoin ! $ nothing ! $ fjoin ! $ move ! (4 ∷ 5 ∷ []) $ feq_i ! (List Val) z.0.4.0

@@ -1,26 +1,20 @@
 -- `links` shows what the arena lends of the links of one block.
-use Rattle.hashlink_nodes.proofs.Walks.{[], ◌∷◌, refl, ap, IsSome, lookup, a_type, inst_fn, vptr, emp, id⊢, ‵}
-use Rattle.hashlink_nodes.proofs.Walks.{raw, at_ret, ◌$◌, ◌∵◌, !, qed, move, keep, split, join, fsplit3, use1}
-use Rattle.hashlink_nodes.proofs.Walks.{done, stop, fld, of_opd, addr, first, blocks, exec, returns, enter}
-use Rattle.hashlink_nodes.proofs.Walks.{alloc_all, pass_all, free_all, look_at, get, get_in, through, sets}
-use Rattle.hashlink_nodes.proofs.Walks.{sets_last, env, is, ptr_val, await, pick, heard, later, sub, whole}
-use Rattle.hashlink_nodes.proofs.Walks.{fact_i, tables, RattleType, param, layouts, after, word, word-Good}
-use Rattle.hashlink_nodes.proofs.Walks.{option_map}
-use Rattle.hashlink_nodes.proofs.Names.{Kept, Links, block_lent, blocks_lent, links_offset, same_node}
+use Rattle.hashlink_nodes.proofs.Names.{[], ◌∷◌, refl, ap, IsSome, lookup, a_type, emp, id⊢, ‵, ◌$◌, ◌∵◌, ! }
+use Rattle.hashlink_nodes.proofs.Names.{qed, move, keep, join, fsplit3, use1, done, fact_i, RattleType, param}
+use Rattle.hashlink_nodes.proofs.Names.{layouts, option_map, Kept, Links, block_lent, blocks_lent}
+use Rattle.hashlink_nodes.proofs.Names.{links_offset, same_node, imm}
 use Rattle.hashlink_nodes.proofs.ArenaBlocks.{found, block_seen}
 use Rattle.hashlink_nodes.proofs.ArenaSteps.{states}
-use Rattle.hashlink_nodes.proofs.ArenaLends.{Address, shared}
-use Rattle.hashlink_nodes.specs.contracts.arena.Arena.links.{clauses}
-use Rattle.hashlink_nodes.specs.contracts.arena.Arena.links.Key.{name as #self}
+use Rattle.hashlink_nodes.proofs.ArenaLends.{shared}
+use Rattle.hashlink_nodes.specs.contracts.arena.Arena.links as F
 use Rattle.hashlink_nodes.proofs.arena.Arena.links.Statement.{statement}
 use Rattle.hashlink_nodes.proofs.arena.Arena.links.Code as code
 
 pub links_spec : {M : Type 1} → statement M
 links_spec 𝓤 𝓛 𝓜 𝓡 wired T L =
-    let 𝓣 = tables 𝓤 𝓛.H 𝓜 𝓡 𝓡.env in let R : RattleType = param 0 T in
-    let inst = layouts (a_type ∷ []) (T, tt) in let fn = inst_fn inst code.function in
-    shared 𝓤 𝓛 𝓜 𝓡 T Links tt (links_offset R) (#self inst) fn (code.unfolded 𝓤 𝓛.H 𝓜 𝓡 wired (T, tt))
-    (clauses T 𝓛 𝓜.mem 𝓡.returns)
+    let R : RattleType = param 0 T in let inst = layouts (a_type ∷ []) (T, tt) in
+    shared 𝓤 𝓛 𝓜 𝓡 T Links tt (links_offset R) (F.Key.name inst) imm 2 (code.unfolded 𝓤 𝓛.H 𝓜 𝓡 wired (T, tt))
+    (F.clauses T 𝓛 𝓜.mem 𝓡.returns) refl
     (record {
       Asked = λ a n. IsSome (lookup (same_node n) a.blocks);
       Seen = λ a n held. Unit {0};
@@ -34,13 +28,3 @@ links_spec 𝓤 𝓛 𝓜 𝓡 wired T L =
       says = λ z held seen at. fact_i 𝓤 _ (emp 𝓤)
           (ap (option_map (λ (x : Kept T.Denot). x.links)) (found _ held).1);
     })
-    (λ Post rb ro p Q ran. qed 𝓛 (raw Q ∷ []) ∵ enter ! 𝓣.C 𝓣.Λ fn (vptr rb ro ∷ word p ∷ []) Post $
-    alloc_all !
-    (λ l. pass_all ! refl ((tt, tt), (word-Good [] p, tt)) $ let Ev = env fn.locals l in
-    use1 𝓛 (later (Address 𝓤 𝓛 𝓜 𝓡 T Links tt (links_offset R) (#self inst) fn p Post)) ran $ await ! tt $
-    pick ! (λ x. split ! $ heard ! _ (λ e. first ! $ blocks ! $
-    sets ! (is ! (of_opd ! (get_in ! (fld ! refl (stop !)) (sub ! 0 refl (whole !)))) (ap ptr_val e)) refl
-    (tt, tt) $
-    sets_last ! (addr ! (through ! refl (fld ! refl (stop !)))) refl (tt, tt) $
-    exec ! 𝓣.C 𝓣.Λ Ev (after 1 fn.body) (at_ret Ev Post) $ sets ! (of_opd ! (get ! refl)) refl (tt, tt) $
-    returns ! (look_at ! 0 refl) $ free_all ! refl $ keep ! (0 ∷ []) $ done !))))

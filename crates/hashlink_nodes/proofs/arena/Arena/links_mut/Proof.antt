@@ -1,30 +1,21 @@
 -- `links_mut` lends the links of one block, and the arena follows them.
-use Rattle.hashlink_nodes.proofs.Walks.{◌∙◌, [], ◌∷◌, refl, sym, ap, Some, IsSome, lookup, full_share, a_type}
-use Rattle.hashlink_nodes.proofs.Walks.{inst_fn, vptr, id⊢, fsep, ‵, raw, at_ret, ◌$◌, ◌∵◌, !, qed, move}
-use Rattle.hashlink_nodes.proofs.Walks.{keep, split, join, fsplit, fsplit3, fjoin, fjoin3, done, stop, fld}
-use Rattle.hashlink_nodes.proofs.Walks.{of_opd, addr, first, blocks, exec, returns, enter, alloc_all}
-use Rattle.hashlink_nodes.proofs.Walks.{pass_all, free_all, look_at, get, get_in, through, sets, sets_last}
-use Rattle.hashlink_nodes.proofs.Walks.{env, is, ptr_val, await, pick, heard, later, use1, sub, whole, tables}
-use Rattle.hashlink_nodes.proofs.Walks.{follows, RattleType, lies_at, param, layouts, after, word, word-Good}
-use Rattle.hashlink_nodes.proofs.Walks.{option_map, usize}
-use Rattle.hashlink_nodes.proofs.Names.{block_owns, pair_owns, is_small, deed_owns, free_right, number_of}
-use Rattle.hashlink_nodes.proofs.Names.{links_of, links_offset, Links, altered, Kept, with_links, number_word}
-use Rattle.hashlink_nodes.proofs.Names.{same_node}
+use Rattle.hashlink_nodes.proofs.Names
+use Names.{◌∙◌, [], ◌∷◌, refl, sym, ap, Some, IsSome, lookup, full_share, a_type, id⊢, fsep, ‵, ◌$◌, ◌∵◌, ! }
+use Names.{qed, move, join, fsplit, fsplit3, fjoin, fjoin3, done, follows, RattleType, lies_at, param}
+use Names.{layouts, option_map, usize, block_owns, pair_owns, is_small, deed_owns, number_of, links_of}
+use Names.{links_offset, Links, altered, Kept, with_links, number_word, same_node, mut, arena_row}
 use Rattle.hashlink_nodes.proofs.ArenaBlocks.{found}
 use Rattle.hashlink_nodes.proofs.ArenaSteps.{states}
-use Rattle.hashlink_nodes.proofs.ArenaLends.{Address, lent}
-use Rattle.hashlink_nodes.specs.contracts.arena.Arena.{the_row}
-use Rattle.hashlink_nodes.specs.contracts.arena.Arena.links_mut.{clauses}
-use Rattle.hashlink_nodes.specs.contracts.arena.Arena.links_mut.Key.{name as #self}
+use Rattle.hashlink_nodes.proofs.ArenaLends.{lent}
+use Rattle.hashlink_nodes.specs.contracts.arena.Arena.links_mut as F
 use Rattle.hashlink_nodes.proofs.arena.Arena.links_mut.Statement.{statement}
 use Rattle.hashlink_nodes.proofs.arena.Arena.links_mut.Code as code
 
 pub links_mut_spec : {M : Type 1} → statement M
 links_mut_spec 𝓤 𝓛 𝓜 𝓡 wired T L =
-    let 𝓣 = tables 𝓤 𝓛.H 𝓜 𝓡 𝓡.env in let R : RattleType = param 0 T in
-    let inst = layouts (a_type ∷ []) (T, tt) in let fn = inst_fn inst code.function in
-    lent 𝓤 𝓛 𝓜 𝓡 T Links tt (links_offset R) (#self inst) fn (code.unfolded 𝓤 𝓛.H 𝓜 𝓡 wired (T, tt))
-    (clauses T 𝓛 𝓜.mem 𝓡.returns)
+    let R : RattleType = param 0 T in let inst = layouts (a_type ∷ []) (T, tt) in
+    lent 𝓤 𝓛 𝓜 𝓡 T Links tt (links_offset R) (F.Key.name inst) mut 2 (code.unfolded 𝓤 𝓛.H 𝓜 𝓡 wired (T, tt))
+    (F.clauses T 𝓛 𝓜.mem 𝓡.returns) refl
     (record {
       change = with_links;
       Asked = λ a n. IsSome (lookup (same_node n) a.blocks);
@@ -35,29 +26,19 @@ links_mut_spec 𝓤 𝓛 𝓜 𝓡 wired T L =
           (lies_at usize full_share (number_of R n.at) (number_word k.entry)) in
           record {
             part = k.links;
-            rest = λ p. fsep (deed_owns R free_right p) (fsep (pair_owns R p k.entry)
+            rest = λ p. fsep (deed_owns R p) (fsep (pair_owns R p k.entry)
                 (fsep (is_small R k.entry) (lies_at usize full_share (number_of R p) (number_word k.entry))));
             out = qed 𝓛 (‵ (block_owns R n.at k) ∷ []) ∵ fsplit3 ! $ move ! (2 ∷ []) $ fsplit ! $
                 move ! (2 ∷ 3 ∷ []) $ fjoin ! $ move ! (2 ∷ 0 ∷ []) $ fjoin ! $ move ! (1 ∷ 0 ∷ []) $ join !
                 $ done !;
             back = λ w. qed 𝓛 (‵ (lies_at Links full_share (links_of R n.at) w) ∷ ‵
-                (fsep (deed_owns R free_right n.at)
+                (fsep (deed_owns R n.at)
                 (fsep (pair_owns R n.at k.entry) number)) ∷ []) ∵
                 move ! (1 ∷ []) $ fsplit3 ! $ move ! (3 ∷ 0 ∷ []) $ fjoin ! $ move ! (1 ∷ 2 ∷ 0 ∷ []) $
                 fjoin3 ! $ done !;
           };
-      says = λ z asked r is. qed 𝓛 (‵ (follows (the_row R) Links z.0.3.0.ghost_name r.ghost_name
+      says = λ z asked r is. qed 𝓛 (‵ (follows (arena_row R) Links z.0.3.0.ghost_name r.ghost_name
           (λ w. altered z.0.3.0.now z.0.3.1.0 (with_links w))) ∷ []) ∵
           states ! (ap (option_map (λ (x : Kept T.Denot). x.links)) (found _ asked).1 ∙ ap Some (sym is)) $
           move ! (1 ∷ 0 ∷ []) $ join ! $ done !;
     })
-    (λ Post rb ro p Q ran. qed 𝓛 (raw Q ∷ []) ∵ enter ! 𝓣.C 𝓣.Λ fn (vptr rb ro ∷ word p ∷ []) Post $
-    alloc_all !
-    (λ l. pass_all ! refl ((tt, tt), (word-Good [] p, tt)) $ let Ev = env fn.locals l in
-    use1 𝓛 (later (Address 𝓤 𝓛 𝓜 𝓡 T Links tt (links_offset R) (#self inst) fn p Post)) ran $ await ! tt $
-    pick ! (λ x. split ! $ heard ! _ (λ e. first ! $ blocks ! $
-    sets ! (is ! (of_opd ! (get_in ! (fld ! refl (stop !)) (sub ! 0 refl (whole !)))) (ap ptr_val e)) refl
-    (tt, tt) $
-    sets_last ! (addr ! (through ! refl (fld ! refl (stop !)))) refl (tt, tt) $
-    exec ! 𝓣.C 𝓣.Λ Ev (after 1 fn.body) (at_ret Ev Post) $ sets ! (of_opd ! (get ! refl)) refl (tt, tt) $
-    returns ! (look_at ! 0 refl) $ free_all ! refl $ keep ! (0 ∷ []) $ done !))))

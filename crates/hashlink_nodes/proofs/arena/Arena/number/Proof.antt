@@ -1,27 +1,20 @@
 -- `number` shows what the arena lends of the number of one block.
-use Rattle.hashlink_nodes.proofs.Walks.{◌^◌, ◌<◌, sym, subst, usize, [], ◌∷◌, refl, ap, IsSome, lookup}
-use Rattle.hashlink_nodes.proofs.Walks.{a_type, inst_fn, vptr, id⊢, ‵, raw, at_ret, ◌$◌, ◌∵◌, !, qed, move}
-use Rattle.hashlink_nodes.proofs.Walks.{keep, split, join, fsplit, fsplit3, use1, done, stop, fld, of_opd}
-use Rattle.hashlink_nodes.proofs.Walks.{addr, first, blocks, exec, returns, enter, alloc_all, pass_all}
-use Rattle.hashlink_nodes.proofs.Walks.{free_all, look_at, get, get_in, through, sets, sets_last, env, is}
-use Rattle.hashlink_nodes.proofs.Walks.{ptr_val, await, pick, heard, later, sub, whole, tables, RattleType}
-use Rattle.hashlink_nodes.proofs.Walks.{param, layouts, after, word, word-Good, option_map}
-use Rattle.hashlink_nodes.proofs.Names.{Kept, entry_in, number_word, IfSome, block_lent, blocks_lent}
-use Rattle.hashlink_nodes.proofs.Names.{number_offset, same_node}
+use Rattle.hashlink_nodes.proofs.Names
+use Names.{◌^◌, ◌<◌, sym, subst, usize, [], ◌∷◌, refl, ap, IsSome, lookup, a_type, id⊢, ‵, ◌$◌, ◌∵◌, !, qed}
+use Names.{move, keep, join, fsplit, fsplit3, use1, done, RattleType, param, layouts, option_map, Kept}
+use Names.{entry_in, number_word, IfSome, block_lent, blocks_lent, number_offset, same_node, imm}
 use Rattle.hashlink_nodes.proofs.ArenaBlocks.{found, block_seen, small_seen}
 use Rattle.hashlink_nodes.proofs.ArenaSteps.{states}
-use Rattle.hashlink_nodes.proofs.ArenaLends.{Address, shared}
-use Rattle.hashlink_nodes.specs.contracts.arena.Arena.number.{clauses}
-use Rattle.hashlink_nodes.specs.contracts.arena.Arena.number.Key.{name as #self}
+use Rattle.hashlink_nodes.proofs.ArenaLends.{shared}
+use Rattle.hashlink_nodes.specs.contracts.arena.Arena.number as F
 use Rattle.hashlink_nodes.proofs.arena.Arena.number.Statement.{statement}
 use Rattle.hashlink_nodes.proofs.arena.Arena.number.Code as code
 
 pub number_spec : {M : Type 1} → statement M
 number_spec 𝓤 𝓛 𝓜 𝓡 wired T L =
-    let 𝓣 = tables 𝓤 𝓛.H 𝓜 𝓡 𝓡.env in let R : RattleType = param 0 T in
-    let inst = layouts (a_type ∷ []) (T, tt) in let fn = inst_fn inst code.function in
-    shared 𝓤 𝓛 𝓜 𝓡 T usize tt (number_offset R) (#self inst) fn (code.unfolded 𝓤 𝓛.H 𝓜 𝓡 wired (T, tt))
-    (clauses T 𝓛 𝓜.mem 𝓡.returns)
+    let R : RattleType = param 0 T in let inst = layouts (a_type ∷ []) (T, tt) in
+    shared 𝓤 𝓛 𝓜 𝓡 T usize tt (number_offset R) (F.Key.name inst) imm 1
+    (code.unfolded 𝓤 𝓛.H 𝓜 𝓡 wired (T, tt)) (F.clauses T 𝓛 𝓜.mem 𝓡.returns) refl
     (record {
       Asked = λ a n. IsSome (lookup (same_node n) a.blocks);
       Seen = λ a n held. IfSome (found _ held).0.entry (λ x. x.0 < 2 ^ 48);
@@ -37,13 +30,3 @@ number_spec 𝓤 𝓛 𝓜 𝓡 wired T L =
           states ! (subst (λ o. IfSome (entry_in o) (λ x. x.0 < 2 ^ 48)) (sym k.1) small) $
           states ! (ap (option_map (λ (x : Kept T.Denot). number_word x.entry)) k.1) $ join ! $ done !;
     })
-    (λ Post rb ro p Q ran. qed 𝓛 (raw Q ∷ []) ∵ enter ! 𝓣.C 𝓣.Λ fn (vptr rb ro ∷ word p ∷ []) Post $
-    alloc_all !
-    (λ l. pass_all ! refl ((tt, tt), (word-Good [] p, tt)) $ let Ev = env fn.locals l in
-    use1 𝓛 (later (Address 𝓤 𝓛 𝓜 𝓡 T usize tt (number_offset R) (#self inst) fn p Post)) ran $ await ! tt $
-    pick ! (λ x. split ! $ heard ! _ (λ e. first ! $ blocks ! $
-    sets ! (is ! (of_opd ! (get_in ! (fld ! refl (stop !)) (sub ! 0 refl (whole !)))) (ap ptr_val e)) refl
-    (tt, tt) $
-    sets_last ! (addr ! (through ! refl (fld ! refl (stop !)))) refl (tt, tt) $
-    exec ! 𝓣.C 𝓣.Λ Ev (after 1 fn.body) (at_ret Ev Post) $ sets ! (of_opd ! (get ! refl)) refl (tt, tt) $
-    returns ! (look_at ! 0 refl) $ free_all ! refl $ keep ! (0 ∷ []) $ done !))))

@@ -1,27 +1,20 @@
 -- `pair` shows what the arena lends of the pair of one block.
-use Rattle.hashlink_nodes.proofs.Walks.{ℕ, Option, ◌∙◌, rewrite, [], ◌∷◌, refl, ap, IsSome, lookup, a_type}
-use Rattle.hashlink_nodes.proofs.Walks.{inst_fn, vptr, emp, id⊢, ‵, raw, at_ret, ◌$◌, ◌∵◌, !, qed, move, keep}
-use Rattle.hashlink_nodes.proofs.Walks.{split, join, fsplit, use1, done, stop, fld, of_opd, addr, first}
-use Rattle.hashlink_nodes.proofs.Walks.{blocks, exec, returns, enter, alloc_all, pass_all, free_all, look_at}
-use Rattle.hashlink_nodes.proofs.Walks.{get, get_in, through, sets, sets_last, env, is, ptr_val, await, pick}
-use Rattle.hashlink_nodes.proofs.Walks.{heard, later, sub, whole, fact_i, tables, RattleType, param, layouts}
-use Rattle.hashlink_nodes.proofs.Walks.{after, word, word-Good, option_map}
-use Rattle.hashlink_nodes.proofs.Names.{Kept, entry_in, block_lent, blocks_lent, pair_lent, pair_offset}
-use Rattle.hashlink_nodes.proofs.Names.{same_node}
+use Rattle.hashlink_nodes.proofs.Names.{ℕ, Option, ◌∙◌, rewrite, [], ◌∷◌, refl, ap, IsSome, lookup, a_type}
+use Rattle.hashlink_nodes.proofs.Names.{emp, id⊢, ‵, ◌$◌, ◌∵◌, !, qed, move, keep, join, fsplit, use1, done}
+use Rattle.hashlink_nodes.proofs.Names.{fact_i, RattleType, param, layouts, option_map, Kept, entry_in}
+use Rattle.hashlink_nodes.proofs.Names.{block_lent, blocks_lent, pair_lent, pair_offset, same_node, imm}
 use Rattle.hashlink_nodes.proofs.ArenaBlocks.{found_entry, block_seen}
 use Rattle.hashlink_nodes.proofs.ArenaSteps.{states}
-use Rattle.hashlink_nodes.proofs.ArenaLends.{Address, shared}
-use Rattle.hashlink_nodes.specs.contracts.arena.Arena.pair.{clauses}
-use Rattle.hashlink_nodes.specs.contracts.arena.Arena.pair.Key.{name as #self}
+use Rattle.hashlink_nodes.proofs.ArenaLends.{shared}
+use Rattle.hashlink_nodes.specs.contracts.arena.Arena.pair as F
 use Rattle.hashlink_nodes.proofs.arena.Arena.pair.Statement.{statement}
 use Rattle.hashlink_nodes.proofs.arena.Arena.pair.Code as code
 
 pub pair_spec : {M : Type 1} → statement M
 pair_spec 𝓤 𝓛 𝓜 𝓡 wired T L =
-    let 𝓣 = tables 𝓤 𝓛.H 𝓜 𝓡 𝓡.env in let R : RattleType = param 0 T in
-    let inst = layouts (a_type ∷ []) (T, tt) in let fn = inst_fn inst code.function in
-    shared 𝓤 𝓛 𝓜 𝓡 T R tt (pair_offset R) (#self inst) fn (code.unfolded 𝓤 𝓛.H 𝓜 𝓡 wired (T, tt))
-    (clauses T 𝓛 𝓜.mem 𝓡.returns)
+    let R : RattleType = param 0 T in let inst = layouts (a_type ∷ []) (T, tt) in
+    shared 𝓤 𝓛 𝓜 𝓡 T R tt (pair_offset R) (F.Key.name inst) imm 0 (code.unfolded 𝓤 𝓛.H 𝓜 𝓡 wired (T, tt))
+    (F.clauses T 𝓛 𝓜.mem 𝓡.returns) refl
     (record {
       Asked = λ a n. IsSome (entry_in (lookup (same_node n) a.blocks));
       Seen = λ a n held. Unit {0};
@@ -37,13 +30,3 @@ pair_spec 𝓤 𝓛 𝓜 𝓡 wired T L =
           (ap (λ (o : Option (Kept T.Denot)). option_map (λ (x : ℕ × T.Denot). x.1) (entry_in o)) k.2
           ∙ ap (option_map (λ (x : ℕ × T.Denot). x.1)) k.3);
     })
-    (λ Post rb ro p Q ran. qed 𝓛 (raw Q ∷ []) ∵ enter ! 𝓣.C 𝓣.Λ fn (vptr rb ro ∷ word p ∷ []) Post $
-    alloc_all !
-    (λ l. pass_all ! refl ((tt, tt), (word-Good [] p, tt)) $ let Ev = env fn.locals l in
-    use1 𝓛 (later (Address 𝓤 𝓛 𝓜 𝓡 T R tt (pair_offset R) (#self inst) fn p Post)) ran $ await ! tt $
-    pick ! (λ x. split ! $ heard ! _ (λ e. first ! $ blocks ! $
-    sets ! (is ! (of_opd ! (get_in ! (fld ! refl (stop !)) (sub ! 0 refl (whole !)))) (ap ptr_val e)) refl
-    (tt, tt) $
-    sets_last ! (addr ! (through ! refl (fld ! refl (stop !)))) refl (tt, tt) $
-    exec ! 𝓣.C 𝓣.Λ Ev (after 1 fn.body) (at_ret Ev Post) $ sets ! (of_opd ! (get ! refl)) refl (tt, tt) $
-    returns ! (look_at ! 0 refl) $ free_all ! refl $ keep ! (0 ∷ []) $ done !))))

@@ -1,31 +1,21 @@
 -- `pair_mut` lends the pair of one block, and the arena follows it.
-use Rattle.hashlink_nodes.proofs.Walks.{◌≡◌, ℕ, Option, ◌∙◌, [], ◌∷◌, refl, sym, ap, Some, IsSome, lookup}
-use Rattle.hashlink_nodes.proofs.Walks.{full_share, a_type, inst_fn, vptr, id⊢, fsep, ‵, raw, at_ret, ◌$◌}
-use Rattle.hashlink_nodes.proofs.Walks.{◌∵◌, !, qed, move, keep, split, join, fsplit, fjoin, rewrite, done}
-use Rattle.hashlink_nodes.proofs.Walks.{stop, fld, of_opd, addr, first, blocks, exec, returns, enter}
-use Rattle.hashlink_nodes.proofs.Walks.{alloc_all, pass_all, free_all, look_at, get, get_in, through, sets}
-use Rattle.hashlink_nodes.proofs.Walks.{sets_last, env, is, ptr_val, await, pick, heard, later, use1, sub}
-use Rattle.hashlink_nodes.proofs.Walks.{whole, tables, follows, RattleType, lies_at, param, layouts, after}
-use Rattle.hashlink_nodes.proofs.Walks.{word, word-Good, option_map, usize}
-use Rattle.hashlink_nodes.proofs.Names.{block_owns, is_small, deed_owns, free_right, number_of, links_of}
-use Rattle.hashlink_nodes.proofs.Names.{pair_offset, Links, altered, Kept, kept, entry_in, with_pair}
-use Rattle.hashlink_nodes.proofs.Names.{same_node}
-use Rattle.hashlink_nodes.specs.Ownership.{pair_of}
+use Rattle.hashlink_nodes.proofs.Names
+use Names.{◌≡◌, ℕ, Option, ◌∙◌, [], ◌∷◌, refl, sym, ap, Some, IsSome, lookup, full_share, a_type, id⊢, fsep}
+use Names.{‵, ◌$◌, ◌∵◌, !, qed, move, join, fsplit, fjoin, rewrite, done, follows, RattleType, lies_at, param}
+use Names.{layouts, option_map, usize, block_owns, is_small, deed_owns, number_of, links_of, pair_offset}
+use Names.{Links, altered, Kept, kept, entry_in, with_pair, same_node, pair_place, mut, arena_row}
 use Rattle.hashlink_nodes.proofs.ArenaBlocks.{found_entry}
 use Rattle.hashlink_nodes.proofs.ArenaSteps.{states}
-use Rattle.hashlink_nodes.proofs.ArenaLends.{Address, lent}
-use Rattle.hashlink_nodes.specs.contracts.arena.Arena.{the_row}
-use Rattle.hashlink_nodes.specs.contracts.arena.Arena.pair_mut.{clauses}
-use Rattle.hashlink_nodes.specs.contracts.arena.Arena.pair_mut.Key.{name as #self}
+use Rattle.hashlink_nodes.proofs.ArenaLends.{lent}
+use Rattle.hashlink_nodes.specs.contracts.arena.Arena.pair_mut as F
 use Rattle.hashlink_nodes.proofs.arena.Arena.pair_mut.Statement.{statement}
 use Rattle.hashlink_nodes.proofs.arena.Arena.pair_mut.Code as code
 
 pub pair_mut_spec : {M : Type 1} → statement M
 pair_mut_spec 𝓤 𝓛 𝓜 𝓡 wired T L =
-    let 𝓣 = tables 𝓤 𝓛.H 𝓜 𝓡 𝓡.env in let R : RattleType = param 0 T in
-    let inst = layouts (a_type ∷ []) (T, tt) in let fn = inst_fn inst code.function in
-    lent 𝓤 𝓛 𝓜 𝓡 T R tt (pair_offset R) (#self inst) fn (code.unfolded 𝓤 𝓛.H 𝓜 𝓡 wired (T, tt))
-    (clauses T 𝓛 𝓜.mem 𝓡.returns)
+    let R : RattleType = param 0 T in let inst = layouts (a_type ∷ []) (T, tt) in
+    lent 𝓤 𝓛 𝓜 𝓡 T R tt (pair_offset R) (F.Key.name inst) mut 0 (code.unfolded 𝓤 𝓛.H 𝓜 𝓡 wired (T, tt))
+    (F.clauses T 𝓛 𝓜.mem 𝓡.returns) refl
     (record {
       change = with_pair;
       Asked = λ a n. IsSome (entry_in (lookup (same_node n) a.blocks));
@@ -36,33 +26,23 @@ pair_mut_spec 𝓤 𝓛 𝓜 𝓡 wired T L =
           = λ w. ap (λ x. with_pair w (kept k.links x)) at_n.3 in
           let number = fsep (is_small R (Some e)) (lies_at usize full_share (number_of R n.at) e.0) in
           let links = fsep (lies_at Links full_share (links_of R n.at) k.links)
-          (deed_owns R free_right n.at) in
+          (deed_owns R n.at) in
           record {
             part = e.1;
             rest = λ p. fsep (fsep (is_small R (Some e)) (lies_at usize full_share (number_of R p) e.0))
-                (fsep (lies_at Links full_share (links_of R p) k.links) (deed_owns R free_right p));
+                (fsep (lies_at Links full_share (links_of R p) k.links) (deed_owns R p));
             out = qed 𝓛 (‵ (block_owns R n.at k) ∷ []) ∵
                 rewrite ! 0 (λ x. ‵ (block_owns R n.at (kept k.links x))) at_n.3 refl $ fsplit ! $ join ! $
                 done !;
-            back = λ w. qed 𝓛 (‵ (lies_at R full_share (pair_of R n.at) w) ∷ ‵ (fsep number links) ∷ []) ∵
+            back = λ w. qed 𝓛 (‵ (lies_at R full_share (pair_place R n.at) w) ∷ ‵ (fsep number links) ∷ []) ∵
                 fjoin ! $
                 rewrite ! 0 (λ x. ‵ (block_owns R n.at x)) (sym (to w)) refl $ done !;
           };
       says = λ z asked r is. let at_n = found_entry _ asked in
-          qed 𝓛 (‵ (follows (the_row R) R z.0.3.0.ghost_name r.ghost_name
+          qed 𝓛 (‵ (follows (arena_row R) R z.0.3.0.ghost_name r.ghost_name
           (λ w. altered z.0.3.0.now z.0.3.1.0 (with_pair w))) ∷ []) ∵
           states ! (ap (λ (o : Option (Kept T.Denot)). option_map (λ (x : ℕ × T.Denot). x.1) (entry_in o))
           at_n.2
           ∙ ap (option_map (λ (x : ℕ × T.Denot). x.1)) at_n.3 ∙ ap Some (sym is)) $
           move ! (1 ∷ 0 ∷ []) $ join ! $ done !;
     })
-    (λ Post rb ro p Q ran. qed 𝓛 (raw Q ∷ []) ∵ enter ! 𝓣.C 𝓣.Λ fn (vptr rb ro ∷ word p ∷ []) Post $
-    alloc_all !
-    (λ l. pass_all ! refl ((tt, tt), (word-Good [] p, tt)) $ let Ev = env fn.locals l in
-    use1 𝓛 (later (Address 𝓤 𝓛 𝓜 𝓡 T R tt (pair_offset R) (#self inst) fn p Post)) ran $ await ! tt $
-    pick ! (λ x. split ! $ heard ! _ (λ e. first ! $ blocks ! $
-    sets ! (is ! (of_opd ! (get_in ! (fld ! refl (stop !)) (sub ! 0 refl (whole !)))) (ap ptr_val e)) refl
-    (tt, tt) $
-    sets_last ! (addr ! (through ! refl (fld ! refl (stop !)))) refl (tt, tt) $
-    exec ! 𝓣.C 𝓣.Λ Ev (after 1 fn.body) (at_ret Ev Post) $ sets ! (of_opd ! (get ! refl)) refl (tt, tt) $
-    returns ! (look_at ! 0 refl) $ free_all ! refl $ keep ! (0 ∷ []) $ done !))))

@@ -1,45 +1,35 @@
 -- `take` reads the pair of a block out, and leaves room.
-use Rattle.hashlink_nodes.proofs.Walks.{◌≡◌, ℕ, ◌+◌, ◌∙◌, ◌^◌, List, [], ◌∷◌, ◌++◌, refl, sym, ap, Option}
-use Rattle.hashlink_nodes.proofs.Walks.{None, IsSome, lookup, remove_entry, option_map, full_share, lit<, Ty}
-use Rattle.hashlink_nodes.proofs.Walks.{a_type, ty_int, w64, bare, inst_fn, Val, vint, vptr, SProp, never}
-use Rattle.hashlink_nodes.proofs.Walks.{id⊢, ftrue, fat, froom, flft, fsep, WpFn, ‵, raw, ◌⊛◌, some, at_ret}
-use Rattle.hashlink_nodes.proofs.Walks.{◌$◌, ◌∵◌, !, qed, by, move, keep, drop, split, split3, join, group}
-use Rattle.hashlink_nodes.proofs.Walks.{fsplit, fsplit3, fjoin, fjoin3, pick, rewrite, use1, use2, feq_i}
-use Rattle.hashlink_nodes.proofs.Walks.{feq_l, stop, fld, of_opd, addr, store, assigns, first, blocks, exec}
-use Rattle.hashlink_nodes.proofs.Walks.{returns, enter, alloc_all, pass_all, free_all, look_at, get, get_in}
-use Rattle.hashlink_nodes.proofs.Walks.{through, sets, sets_last, is, env, sub, whole, fact, ◌⊑◌, tables}
-use Rattle.hashlink_nodes.proofs.Walks.{part_out, usize, yes, lone, part_at, uint_in, uint_out, RattleType}
-use Rattle.hashlink_nodes.proofs.Walks.{owns, Ptr, ptr_val, in_a_block, lies_at, types_at, plain, param}
-use Rattle.hashlink_nodes.proofs.Walks.{layouts, nothing, heard, opens, closes, Stays, stay_dropped, stay_ref}
-use Rattle.hashlink_nodes.proofs.Walks.{walk_of, Goes-dropped, Goes-ref, after, word, word-Good, proved_at}
-use Rattle.hashlink_nodes.proofs.Walks.{leaves}
-use Rattle.hashlink_nodes.proofs.Names.{load, look, well_typed, same_node, alter, entry_in, number_word}
-use Rattle.hashlink_nodes.proofs.Names.{with_entry, Links, blocks_own, block_owns, pair_owns, pair_offset}
-use Rattle.hashlink_nodes.proofs.Names.{is_small, number_of, number_offset, links_of, deed_owns, free_right}
-use Rattle.hashlink_nodes.proofs.Names.{Arena}
-use Rattle.hashlink_nodes.specs.Ownership.{pair_of}
-use Rattle.hashlink_nodes.specs.contracts.arena.Arena.{the_row}
-use Rattle.hashlink_nodes.proofs.ArenaSteps.{Nd, word_had, no_entry, args_are, states}
+use Rattle.hashlink_nodes.proofs.Names
+use Names.{word_had, ◌≡◌, ℕ, ◌+◌, ◌∙◌, ◌^◌, List, [], ◌∷◌, ◌++◌, refl, sym, ap, Option, None, IsSome, lookup}
+use Names.{remove_entry, option_map, full_share, lit<, Ty, a_type, ty_int, w64, bare, inst_fn, Val, vint}
+use Names.{vptr, SProp, never, id⊢, ftrue, fat, froom, flft, fsep, WpFn, ‵, raw, ◌⊛◌, some, at_ret, ◌$◌, ◌∵◌}
+use Names.{ !, qed, by, move, keep, drop, split, split3, join, group, fsplit, fsplit3, fjoin, fjoin3, pick}
+use Names.{rewrite, use1, use2, feq_i, feq_l, stop, fld, of_opd, addr, store, assigns, first, blocks, exec}
+use Names.{returns, enter, alloc_all, pass_all, free_all, look_at, get, get_in, through, sets, sets_last, is}
+use Names.{env, sub, whole, fact, ◌⊑◌, tables, part_out, usize, yes, lone, part_at, uint_in, uint_out}
+use Names.{RattleType, owns, Ptr, ptr_val, in_a_block, lies_at, types_at, plain, param, layouts, nothing}
+use Names.{heard, opens, closes, Stays, stay_dropped, stay_ref, walk_of, Goes-dropped, Goes-ref, after, word}
+use Names.{word-Good, proved_at, leaves, load, look, well_typed, same_node, alter, entry_in, number_word}
+use Names.{with_entry, Links, blocks_own, block_owns, pair_owns, pair_offset, is_small, number_of}
+use Names.{number_offset, links_of, deed_owns, Arena, pair_place, arena_row}
+use Rattle.hashlink_nodes.proofs.ArenaSteps.{fits_word, Nd, no_box, no_entry, args_are, states}
 use Rattle.hashlink_nodes.proofs.ArenaBlocks.{found_entry, blocks_cut, blocks_glue, small_shown}
-use Rattle.hashlink_nodes.specs.contracts.arena.Arena.take.{ended, clauses}
-use Rattle.hashlink_nodes.specs.contracts.arena.Arena.take.Key.{name as #self}
+use Rattle.hashlink_nodes.specs.contracts.arena.Arena.take as F
 use Rattle.hashlink_nodes.proofs.arena.Arena.take.Statement.{statement}
 use Rattle.hashlink_nodes.proofs.arena.Arena.take.Code as code
 
 pub take_spec : {M : Type 1} → statement M
 take_spec 𝓤 𝓛 𝓜 𝓡 wired T L =
-    let H = 𝓛.H in
-    let 𝓣 = tables 𝓤 H 𝓜 𝓡 𝓡.env in
-    let R : RattleType = param 0 T in let En = ended T in let c = clauses T 𝓛 𝓜.mem 𝓡.returns in
+    let H = 𝓛.H in let 𝓣 = tables 𝓤 H 𝓜 𝓡 𝓡.env in
+    let R : RattleType = param 0 T in let En = F.ended T in let c = F.clauses T 𝓛 𝓜.mem 𝓡.returns in
     let inst = layouts (a_type ∷ []) (T, tt) in
-    let fn = inst_fn inst code.function in let Ar : RattleType = the_row R in
+    let fn = inst_fn inst code.function in let Ar : RattleType = arena_row R in
     let hs : Stays En.signature.params En.kept
-    = (stay_ref (0 ∷ []) tt (plain (λ _. Ar)), (stay_dropped (plain (λ _. Nd)) yes, tt)) in
-    proved_at 𝓛 En hs c 𝓜 𝓡
-    (Goes-ref 𝓛 2 0 tt (plain (λ _. Ar)), (Goes-dropped 𝓛 2 (plain (λ _. Nd)) yes (λ κs x f. refl), tt))
-    (#self inst) fn (code.unfolded 𝓤 H 𝓜 𝓡 wired (T, tt)) (λ z are.
-    let κs = z.0.0 in
-    let qs = z.0.1 in
+    = (stay_ref (0 ∷ []) tt (plain (λ _. Ar)), (stay_dropped _ yes, tt)) in
+    let node_goes = Goes-dropped 𝓛 2 (plain (λ _. Nd)) yes (λ κs x f. refl) in
+    proved_at 𝓛 En hs c 𝓜 𝓡 (Goes-ref 𝓛 2 0 tt (plain (λ _. Ar)), (node_goes, tt))
+    (F.Key.name inst) fn (code.unfolded 𝓤 H 𝓜 𝓡 wired (T, tt)) (λ z are.
+    let κs = z.0.0 in let qs = z.0.1 in
     let Post : Val → SProp 𝓤 = (walk_of 𝓛 En hs c).post z in
     let Run : List Val → SProp 𝓤 = λ ws. WpFn 𝓤 H 𝓣.C 𝓣.Λ fn ws Post in
     let a = z.0.3.0.now in
@@ -56,7 +46,7 @@ take_spec 𝓤 𝓛 𝓜 𝓡 wired T L =
     let left = with_entry None in
     let new : Arena T.Denot = record { mark = a.mark; blocks = alter (same_node n) left a.blocks } in
     move ! (1 ∷ []) $ fsplit ! $ fsplit3 ! $ feq_l !
-    (λ e0. move ! (2 ∷ []) $ fsplit ! $ word_had ! n.at z.0.4.1.0 (λ e1. drop ! $
+    (λ e0. move ! (2 ∷ []) $ fsplit ! $ word_had no_box [] n.at ! z.0.4.1.0 (λ e1. drop ! $
     -- [obs; the borrow; the tokens]
     args_are ! (λ (ws : List Val × List Val). Run (ws.0 ++ (ws.1 ++ []))) (λ j. (sym e0 j, sym e1 j)) $
     move ! (2 ∷ []) $ split3 ! $ move ! (3 ∷ 4 ∷ 0 ∷ []) $
@@ -66,10 +56,10 @@ take_spec 𝓤 𝓛 𝓜 𝓡 wired T L =
     use1 𝓛 (‵ (block_owns R n.at k) ⊛ ‵ (blocks_own R (remove_entry (same_node n) a.blocks)))
     (blocks_cut R 𝓛 n a.blocks k is_k) $ split ! $ fsplit3 ! $
     rewrite ! 0 (λ x. ‵ (pair_owns R n.at x)) is_e refl $
-    in_a_block ! n.at (λ p. lies_at R full_share (pair_of R p) entry.1) (id⊢ 𝓤 (never 𝓤)) (λ b o e.
+    in_a_block ! n.at (λ p. lies_at R full_share (pair_place R p) entry.1) (id⊢ 𝓤 (never 𝓤)) (λ b o e.
     let τ : Ty = lone R.mir in let at = o + pair_offset R in let no = o + number_offset R in
     rewrite ! 2 (λ (p : Ptr). ‵ (fsep (lies_at Links full_share (links_of R p) k.links)
-    (deed_owns R free_right p)))
+    (deed_owns R p)))
     e refl $
     use1 𝓛 (some (λ (v : Val). ‵ (fat full_share τ b at v) ⊛ ‵ (R.own_val entry.1 (v ∷ []))))
     (part_out 𝓛 R refl full_share entry.1 b at) $ pick ! (λ v. split ! $ well_typed ! (λ good.
@@ -83,11 +73,7 @@ take_spec 𝓤 𝓛 𝓜 𝓡 wired T L =
     sets ! (is ! (of_opd ! (get_in ! (fld ! refl (stop !)) (sub ! 0 refl (whole !)))) (ap ptr_val e)) refl
     (tt, tt) $
     first ! $ blocks ! $ sets ! (addr ! (through ! refl (fld ! refl (stop !)))) refl (tt, tt) $
-    assigns ! (of_opd ! (no_entry !)) (through ! refl (stop !)) (store ! 0 refl (
-      tt,
-      record
-          { fits = lit< tt },
-    )) $
+    assigns ! (of_opd ! (no_entry !)) (through ! refl (stop !)) (store ! 0 refl (fits_word (lit< tt))) $
     sets ! (addr ! (through ! refl (fld ! refl (stop !)))) refl (tt, tt) $
     sets_last ! (of_opd ! (load ! (through ! refl (stop !)) (look ! 1 refl))) refl good $
     exec ! 𝓣.C 𝓣.Λ Ev (after 2 fn.body) (at_ret Ev Post) $ sets ! (of_opd ! (get ! refl)) refl good $

@@ -5,9 +5,7 @@ use Rattle.hashlink_nodes.proofs.Rings.{held_out, holds_now}
 use Rattle.hashlink_nodes.proofs.nodes.Nodes.detach_into_free.Goals as goal
 
 pub detach-requires : goal.detach-requires
-detach-requires g c =
-    let at = (node_in c.self.invariant c.self.view_is c.args.node c.requires).here in
-    record { node = at.has_node; next = at.has_next; prev = at.has_prev }
+detach-requires g c = (node_in c.self.invariant c.self.view_is c.args.node c.requires).here.fits
 
 pub take-pair-requires : goal.take-pair-requires
 take-pair-requires g c =
@@ -16,9 +14,8 @@ take-pair-requires g c =
 
 pub store_next-requires : goal.store_next-requires
 store_next-requires g c =
-    (holds_now None (taken_out (node_in c.self.invariant c.self.view_is c.args.node c.requires)
-    c.detach.ensures)
-    c.take-pair.ensures.is).shape.there.0
+    (holds_now (taken_out (node_in c.self.invariant c.self.view_is c.args.node c.requires) c.detach.ensures)
+    None c.take-pair.ensures.is).there.0
 
 pub overflow_sub-self : goal.overflow_sub-self
 overflow_sub-self g c = omega (arith, (node_in c.self.invariant c.self.view_is c.args.node c.requires).some)

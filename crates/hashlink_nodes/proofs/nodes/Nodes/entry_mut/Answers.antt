@@ -10,12 +10,15 @@ entry_mut-requires g c = ap is_some (node_in c.self.invariant c.self.view_is c.a
 pub invariant_of-self-lent : goal.invariant_of-self-lent
 invariant_of-self-lent g c = λ w. record {
   at =
-      (lent c.self.invariant c.self.view_is c.args.node c.requires w).sound;
+      (lent c.self.invariant c.self.view_is c.args.node c.requires _ c.entry_mut.ensures.pair w).sound;
 }
 
 pub returns : goal.returns
 returns g c = (
-  (refl, λ w. (lent c.self.invariant c.self.view_is c.args.node c.requires w).view),
+  (
+    refl,
+    λ w. (lent c.self.invariant c.self.view_is c.args.node c.requires _ c.entry_mut.ensures.pair w).view,
+  ),
   record {
     lends = tt;
     pair =

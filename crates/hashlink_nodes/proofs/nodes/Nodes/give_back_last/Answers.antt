@@ -1,7 +1,8 @@
 use Rattle.hashlink_nodes.proofs.Names.{option_map, is_some, ◌++◌, ◌∷◌, [], length, ap, sym, ◌∙◌, arith}
 use Rattle.hashlink_nodes.proofs.Names.{state_of, Ring, Held, held, pair_of}
 use Rattle.hashlink_nodes.proofs.Calls.{last, last_in, last_bare, last_gone}
-use Rattle.hashlink_nodes.proofs.Opening.{empty, opened, same_some, seal}
+use Rattle.hashlink_nodes.proofs.Cuts.{same_some}
+use Rattle.hashlink_nodes.proofs.Opening.{empty, opened, seal}
 use Rattle.hashlink_nodes.proofs.Rings.{held_now, held_out}
 use Rattle.hashlink_nodes.proofs.nodes.Nodes.give_back_last.Goals as goal
 
@@ -17,8 +18,7 @@ unreachable-requires g c =
 
 pub detach-requires : goal.detach-requires
 detach-requires g c =
-    let at = last_in (opened c.self.invariant c.self.view_is c.in-Some.is) c.requires c.prev-node.ensures in
-    record { node = at.has_node; next = at.has_next; prev = at.has_prev }
+    (last_in (opened c.self.invariant c.self.view_is c.in-Some.is) c.requires c.prev-node.ensures).fits
 
 pub number-number-requires : goal.number-number-requires
 number-number-requires g c =
@@ -37,7 +37,7 @@ give_back-requires g c =
     let r = last_bare (opened c.self.invariant c.self.view_is c.in-Some.is) c.requires c.prev-node.ensures
     c.detach.ensures
     c.take-key.ensures.is in
-    record { has = r.shape.there.0; bare = held_now (state_of c.detach.new.self) c.take-key.ensures.is }
+    record { has = r.there.0; bare = held_now (state_of c.detach.new.self) c.take-key.ensures.is }
 
 pub overflow_sub-self : goal.overflow_sub-self
 overflow_sub-self g c = omega (

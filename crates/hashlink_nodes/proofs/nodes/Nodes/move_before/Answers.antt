@@ -1,42 +1,32 @@
-use Rattle.std.proofs.Common.{refl}
-use Rattle.hashlink_nodes.proofs.Calls.{moved, taken_out}
-use Rattle.hashlink_nodes.proofs.Opening.{is_there, guard_of, node_at, node_in, seal}
-use Rattle.hashlink_nodes.proofs.Rings.{ends_before, fits}
+use Rattle.std.proofs.Common.{arith, ◌∙◌}
+use Rattle.hashlink_nodes.proofs.Calls.{into_before, ready_moved}
+use Rattle.hashlink_nodes.proofs.Cuts.{cut-entry}
+use Rattle.hashlink_nodes.proofs.Opening.{is_there, guard_of, if_some, node_at, node_in, seal}
 use Rattle.hashlink_nodes.proofs.nodes.Nodes.move_before.Goals as goal
 
 pub unwrap-guard-requires : goal.unwrap-guard-requires
 unwrap-guard-requires g c = is_there (guard_of c.self.invariant c.self.view_is c.args.node c.requires.node).1
 
 pub detach-requires : goal.detach-requires
-detach-requires g c =
-    let at = (node_in c.self.invariant c.self.view_is c.args.node c.requires.node).here in
-    record { node = at.has_node; next = at.has_next; prev = at.has_prev }
+detach-requires g c = (node_in c.self.invariant c.self.view_is c.args.node c.requires.node).here.fits
 
-pub prev-prev-requires : goal.prev-prev-requires
-prev-prev-requires g c =
+pub attach_before-requires : goal.attach_before-requires
+attach_before-requires g c =
     let at = node_at c.self.invariant c.self.view_is c.unwrap-guard.ensures c.args.node c.requires.node in
-    let r = taken_out at c.detach.ensures in
-    (fits r (ends_before r c.args.place c.requires.place c.unwrap_or-next.ensures refl)).has_next
-
-pub attach-requires : goal.attach-requires
-attach-requires g c =
-    let at = node_at c.self.invariant c.self.view_is c.unwrap-guard.ensures c.args.node c.requires.node in
-    let r = taken_out at c.detach.ensures in
-    let f = fits r (ends_before r c.args.place c.requires.place c.unwrap_or-next.ensures
-    c.prev-prev.ensures) in
-    record { node = f.has_node; prev = f.has_prev; next = f.has_next }
+    (into_before (ready_moved at c.detach.ensures) c.args.place c.requires.place c.unwrap_or.ensures).fits
 
 pub invariant_of-self : goal.invariant_of-self
 invariant_of-self g c =
     let at = node_at c.self.invariant c.self.view_is c.unwrap-guard.ensures c.args.node c.requires.node in
-    let e = ends_before (taken_out at c.detach.ensures) c.args.place c.requires.place c.unwrap_or-next.ensures
-    c.prev-prev.ensures in
-    seal (moved at e c.detach.ensures c.attach.ensures).sound
+    let i = into_before (ready_moved at c.detach.ensures) c.args.place c.requires.place c.unwrap_or.ensures in
+    seal (i.leaves at.is c.attach_before.ensures).sound
 
 pub returns : goal.returns
 returns g c =
     let at = node_at c.self.invariant c.self.view_is c.unwrap-guard.ensures c.args.node c.requires.node in
-    let e = ends_before (taken_out at c.detach.ensures) c.args.place c.requires.place c.unwrap_or-next.ensures
-    c.prev-prev.ensures in
-    let m = moved at e c.detach.ensures c.attach.ensures in
-    record { moved = m.moved; free = m.free; link_writes = m.link_writes }
+    let i = into_before (ready_moved at c.detach.ensures) c.args.place c.requires.place c.unwrap_or.ensures in
+    let l = i.leaves at.is c.attach_before.ensures in record {
+      moved = if_some _ (cut-entry at.cut) l.entries;
+      free = l.free;
+      link_writes = l.link_writes ∙ omega arith;
+    }

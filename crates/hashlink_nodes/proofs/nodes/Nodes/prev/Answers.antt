@@ -1,5 +1,5 @@
-use Rattle.hashlink_nodes.proofs.Names.{ap, ◌∙◌, refl, sym, keys_of, state_of, Ring, prev_place}
-use Rattle.hashlink_nodes.proofs.Neighbours.{prev_to, none_beside, tells}
+use Rattle.hashlink_nodes.proofs.Names.{ap, ◌∙◌, refl, sym, keys_of, then_some, Ring, prev_place}
+use Rattle.hashlink_nodes.proofs.Neighbours.{prev_to, none_beside}
 use Rattle.hashlink_nodes.proofs.Opening.{empty, known, opened}
 use Rattle.hashlink_nodes.proofs.nodes.Nodes.prev.Goals as goal
 
@@ -27,7 +27,6 @@ pub returns : goal.returns
 returns g c =
     let r = (opened c.self.invariant c.self.view_is c.in_ok-guard.was).ring in
     let t = prev_to r c.args.place c.requires c.unwrap_or.ensures c.prev-prev.ensures in record {
-      place = c.then_some.ensures ∙ tells (state_of c.self.inside.pool) t.tells c.is_full.result
-          c.is_full.ensures;
+      place = c.then_some.ensures ∙ ap (λ b. then_some b c.prev-prev.result) (sym c.is_full.ensures) ∙ t.is;
       apart = (known c.self.invariant c.self.view_is).differ;
     }

@@ -1,11 +1,8 @@
-use Rattle.hashlink_nodes.proofs.Names.{◌-◌, ◌≡◌, refl, sym, subst, ◌∙◌, arith, OnOk, nil_from_length}
+use Rattle.hashlink_nodes.proofs.Names.{◌-◌, ◌+◌, ◌≡◌, refl, sym, subst, ◌∙◌, arith, OnOk, nil_from_length}
 use Rattle.hashlink_nodes.proofs.Names.{state_of, held, ring}
 use Rattle.std.proofs.Common.{drop}
-use Rattle.hashlink_nodes.proofs.Calls.{Ready, ready_spare, pushed}
+use Rattle.hashlink_nodes.proofs.Calls.{ready_spare, spare_of, into_before}
 use Rattle.hashlink_nodes.proofs.Opening.{known, opened, seal}
-use Rattle.hashlink_nodes.proofs.Rings.{ends_before, fits, take_spare}
-use Rattle.hashlink_nodes.proofs.nodes.Nodes.push_before.Given as given
-use Rattle.hashlink_nodes.proofs.nodes.Nodes.push_before.Goals.{After-fill}
 use Rattle.hashlink_nodes.proofs.nodes.Nodes.push_before.Goals as goal
 
 -- ---- no node is spare
@@ -28,36 +25,21 @@ returns-then-self-eq0-clause-free g c =
 -- ---- the first spare node is taken
 pub next-first_spare-requires : goal.next-first_spare-requires
 next-first_spare-requires g c =
-    let o = opened c.self.invariant c.self.view_is c.unwrap-guard.ensures in
-    (take_spare o.ring (omega (arith, o.is_spare, c.if-self-eq0.false))).has_node
+    (spare_of (opened c.self.invariant c.self.view_is c.unwrap-guard.ensures)
+    (omega (arith, c.if-self-eq0.false))).has_node
 
 pub fill-requires : goal.fill-requires
 fill-requires g c =
-    let o = opened c.self.invariant c.self.view_is c.unwrap-guard.ensures in
-    let t = take_spare o.ring (omega (arith, o.is_spare, c.if-self-eq0.false)) in
+    let t = spare_of (opened c.self.invariant c.self.view_is c.unwrap-guard.ensures)
+    (omega (arith, c.if-self-eq0.false)) in
     record { has = t.has_node; bare = t.bare; small = c.requires.small }
 
--- ---- it is ready, and goes in
-ready : (g : given.Over) (c : After-fill g)
-    → Ready (state_of c.fill.new.self) c.self.inside.first_spare c.unwrap-guard.result
-    c.next-first_spare.result
-    (held c.args.number c.args.key c.args.value) c.self.inside.len (c.self.inside.spare - 1)
-    (ring c.args.self.now.entries (drop 1 c.args.self.now.free) c.args.self.now.link_writes)
-ready g c =
-    ready_spare (held c.args.number c.args.key c.args.value)
-    (opened c.self.invariant c.self.view_is c.unwrap-guard.ensures) (omega (arith, c.if-self-eq0.false))
-    c.next-first_spare.ensures c.fill.ensures
-
-pub prev-prev-requires : goal.prev-prev-requires
-prev-prev-requires g c =
-    let r = ready g (goal.at.prev-prev-requires g c).After-fill in
-    (fits r.ring (ends_before r.ring c.args.place c.requires.place c.unwrap_or-next.ensures refl)).has_next
-
-pub attach-requires : goal.attach-requires
-attach-requires g c =
-    let r = ready g (goal.at.attach-requires g c).After-fill in
-    let e = ends_before r.ring c.args.place c.requires.place c.unwrap_or-next.ensures c.prev-prev.ensures in
-    let f = fits r.ring e in record { node = f.has_node; prev = f.has_prev; next = f.has_next }
+-- ---- and goes in
+pub attach_before-requires : goal.attach_before-requires
+attach_before-requires g c =
+    (into_before (ready_spare c.self.invariant c.self.view_is c.unwrap-guard.ensures
+    (omega (arith, c.if-self-eq0.false)) c.next-first_spare.ensures c.fill.ensures) c.args.place
+    c.requires.place c.unwrap_or.ensures).fits
 
 pub overflow_add-self : goal.overflow_add-self
 overflow_add-self g c =
@@ -65,15 +47,17 @@ overflow_add-self g c =
 
 pub invariant_of-self : goal.invariant_of-self
 invariant_of-self g c =
-    let r = ready g (goal.at.invariant_of-self g c).After-fill in
-    let e = ends_before r.ring c.args.place c.requires.place c.unwrap_or-next.ensures c.prev-prev.ensures in
-    seal (pushed r e c.unwrap-guard.ensures c.attach.ensures).sound
+    let i = into_before (ready_spare c.self.invariant c.self.view_is c.unwrap-guard.ensures
+    (omega (arith, c.if-self-eq0.false)) c.next-first_spare.ensures c.fill.ensures) c.args.place
+    c.requires.place c.unwrap_or.ensures in
+    seal (i.leaves c.unwrap-guard.ensures c.attach_before.ensures).sound
 
 pub returns : goal.returns
 returns g c =
-    let r = ready g (goal.at.returns g c).After-fill in
-    let e = ends_before r.ring c.args.place c.requires.place c.unwrap_or-next.ensures c.prev-prev.ensures in
-    let l = pushed r e c.unwrap-guard.ensures c.attach.ensures in record {
+    let i = into_before (ready_spare c.self.invariant c.self.view_is c.unwrap-guard.ensures
+    (omega (arith, c.if-self-eq0.false)) c.next-first_spare.ensures c.fill.ensures) c.args.place
+    c.requires.place c.unwrap_or.ensures in
+    let l = i.leaves c.unwrap-guard.ensures c.attach_before.ensures in record {
       entries = l.entries;
       free = l.free;
       apart = l.apart;

@@ -1,54 +1,32 @@
-use Rattle.hashlink_nodes.proofs.Names.{true, None, Some, length, ap, sym, subst, refl, ◌∙◌, arith, state_of}
-use Rattle.hashlink_nodes.proofs.Names.{held, Pool}
-use Rattle.hashlink_nodes.proofs.Paths.{set_at_here}
-use Rattle.hashlink_nodes.proofs.Calls.{Ready, guarded_now, pushed, ready_new}
-use Rattle.hashlink_nodes.proofs.Opening.{Leaves, known, leaves, seal}
-use Rattle.hashlink_nodes.proofs.Rings.{ends_before, fits}
-use Rattle.hashlink_nodes.proofs.nodes.Nodes.push_new.Given as given
-use Rattle.hashlink_nodes.proofs.nodes.Nodes.push_new.Goals.{After-fill, In-Err-make}
+use Rattle.hashlink_nodes.proofs.Names.{◌+◌, Some, length, ap, sym, subst, refl, ◌∙◌, arith, state_of, held}
+use Rattle.hashlink_nodes.proofs.Calls.{guard_stays, into_before, ready_new}
+use Rattle.hashlink_nodes.proofs.Opening.{seal}
 use Rattle.hashlink_nodes.proofs.nodes.Nodes.push_new.Goals as goal
 
 pub fill-requires : goal.fill-requires
 fill-requires g c =
-    let a = c.in-Ok-make.ensures.made in let n = c.in-Ok-make.node in let s = state_of c.guard.new.self in
-    record {
-      has = ap (λ f. f n) a.has ∙ set_at_here s.has n true;
-      bare = ap (λ f. f n) a.held ∙ set_at_here s.held n None;
-      small = c.requires.small;
-    }
+    let a = c.in-Ok-make.ensures.made in record { has = a.there; bare = a.bare; small = c.requires.small }
 
--- ---- the new node is ready, and goes in
-ready : (g : given.Over) (c : After-fill g)
-    → Ready (state_of c.fill.new.self) c.in-Ok-make.node c.in-Ok.guard c.self.inside.first_spare
-    (held c.args.number c.args.key c.args.value) c.self.inside.len c.self.inside.spare c.args.self.now
-ready g c =
-    let room = (known c.self.invariant c.self.view_is).is_spare in
-    ready_new (held c.args.number c.args.key c.args.value)
-    (guarded_now c.self.invariant c.self.view_is c.in-Ok.ensures.made) c.in-Ok-make.ensures.made
-    (omega (arith, c.if-self-ge-MOST.false, ap length c.requires.none, room)) c.fill.ensures
-
-pub prev-prev-requires : goal.prev-prev-requires
-prev-prev-requires g c =
-    let r = ready g (goal.at.prev-prev-requires g c).After-fill in
-    (fits r.ring (ends_before r.ring c.args.place c.requires.place c.unwrap_or-next.ensures refl)).has_next
-
-pub attach-requires : goal.attach-requires
-attach-requires g c =
-    let r = ready g (goal.at.attach-requires g c).After-fill in
-    let e = ends_before r.ring c.args.place c.requires.place c.unwrap_or-next.ensures c.prev-prev.ensures in
-    let f = fits r.ring e in record { node = f.has_node; prev = f.has_prev; next = f.has_next }
+-- ---- the new node goes in
+pub attach_before-requires : goal.attach_before-requires
+attach_before-requires g c =
+    (into_before (ready_new c.self.invariant c.self.view_is c.in-Ok.ensures.made c.requires.none
+    (omega (arith, c.if-self-ge-MOST.false)) c.in-Ok-make.ensures.made c.fill.ensures) c.args.place
+    c.requires.place c.unwrap_or.ensures).fits
 
 pub invariant_of-self-in-Ok-make : goal.invariant_of-self-in-Ok-make
 invariant_of-self-in-Ok-make g c =
-    let r = ready g (goal.at.invariant_of-self-in-Ok-make g c).After-fill in
-    let e = ends_before r.ring c.args.place c.requires.place c.unwrap_or-next.ensures c.prev-prev.ensures in
-    seal (pushed r e refl c.attach.ensures).sound
+    let i = into_before (ready_new c.self.invariant c.self.view_is c.in-Ok.ensures.made c.requires.none
+    (omega (arith, c.if-self-ge-MOST.false)) c.in-Ok-make.ensures.made c.fill.ensures) c.args.place
+    c.requires.place c.unwrap_or.ensures in
+    seal (i.leaves refl c.attach_before.ensures).sound
 
 pub returns-in-Ok-make : goal.returns-in-Ok-make
 returns-in-Ok-make g c =
-    let r = ready g (goal.at.returns-in-Ok-make g c).After-fill in
-    let e = ends_before r.ring c.args.place c.requires.place c.unwrap_or-next.ensures c.prev-prev.ensures in
-    let l = pushed r e refl c.attach.ensures in record {
+    let i = into_before (ready_new c.self.invariant c.self.view_is c.in-Ok.ensures.made c.requires.none
+    (omega (arith, c.if-self-ge-MOST.false)) c.in-Ok-make.ensures.made c.fill.ensures) c.args.place
+    c.requires.place c.unwrap_or.ensures in
+    let l = i.leaves refl c.attach_before.ensures in record {
       entries = l.entries;
       free = l.free ∙ c.requires.none;
       apart = l.apart;
@@ -58,19 +36,11 @@ returns-in-Ok-make g c =
     }
 
 -- ---- it is refused, and the guard stays
-stays : (g : given.Over) (c : In-Err-make g)
-    → Leaves (state_of c.make.new.self) (Some c.in-Ok.guard) c.self.inside.first_spare c.self.inside.len
-    c.self.inside.spare c.args.self.now
-stays g c =
-    let o = guarded_now c.self.invariant c.self.view_is c.in-Ok.ensures.made in
-    let C : Type 0 = Pool g.row.K.Denot g.row.V.Denot in
-    subst
-    (λ (x : C). Leaves (state_of x) (Some c.in-Ok.guard) c.self.inside.first_spare c.self.inside.len
-    c.self.inside.spare c.args.self.now)
-    (sym c.in-Err-make.ensures.refused) (leaves refl o.ring o.is_len o.is_spare)
-
 pub invariant_of-self-in-Err-make : goal.invariant_of-self-in-Err-make
-invariant_of-self-in-Err-make g c = seal (stays g c).sound
+invariant_of-self-in-Err-make g c =
+    seal (guard_stays c.self.invariant c.self.view_is c.in-Ok.ensures.made
+    c.in-Err-make.ensures.refused).sound
 
 pub returns-in-Err-make-clause-refused : goal.returns-in-Err-make-clause-refused
-returns-in-Err-make-clause-refused g c = (stays g c).view
+returns-in-Err-make-clause-refused g c =
+    (guard_stays c.self.invariant c.self.view_is c.in-Ok.ensures.made c.in-Err-make.ensures.refused).view

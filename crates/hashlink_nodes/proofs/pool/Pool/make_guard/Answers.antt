@@ -1,12 +1,9 @@
-use Rattle.hashlink_nodes.proofs.Names.{refl, true, ap, ◌∙◌, state_of, lookup, Kept, same_node}
-use Rattle.hashlink_nodes.proofs.Paths.{set_at_here}
+use Rattle.hashlink_nodes.proofs.Names.{refl, state_of, lookup, Kept, same_node}
 use Rattle.hashlink_nodes.proofs.StateLemmas.{mapped, looped}
 use Rattle.hashlink_nodes.proofs.pool.Pool.make_guard.Goals as goal
 
 pub links_mut-links-requires : goal.links_mut-links-requires
-links_mut-links-requires g c =
-    ap (λ f. f c.in_ok-guard.guard) c.in_ok-guard.ensures.made.has
-    ∙ set_at_here (state_of c.args.self.now).has c.in_ok-guard.guard true
+links_mut-links-requires g c = c.in_ok-guard.ensures.made.there
 
 pub returns-clause-made : goal.returns-clause-made
 returns-clause-made g c =
