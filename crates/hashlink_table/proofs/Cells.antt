@@ -1,11 +1,11 @@
 -- What a write to the cells does to their chains.
-use Rattle.hashlink_table.proofs.Names.{◌≡◌, ◌≢◌, ℕ, zero, suc, ◌+◌, ◌<◌, ◌≤◌, inl, inr, List, [], ◌∷◌, ◌++◌}
+use Rattle.hashlink_table.proofs.Names.{◌≡◌, ◌≢◌, ℕ, zero, suc, ◌<◌, ◌≤◌, inl, inr, List, [], ◌∷◌, ◌++◌}
 use Rattle.hashlink_table.proofs.Names.{map, IsSome, length, get_or, set, refl, ap, ◌∙◌, subst, arith}
 use Rattle.hashlink_table.proofs.Names.{cases_lt, false≢true, get_or-set_same, get_or-set_other, get_or_push}
 use Rattle.hashlink_table.proofs.Names.{get_or-map, get_or_past, get_or_default, length-map, length-set}
 use Rattle.hashlink_table.proofs.Names.{length_push, map-set, map_push, map-set_same, Cell, kept_at, next_at}
 use Rattle.hashlink_table.proofs.Names.{chain_of, chain_at, bare_cell}
-use Rattle.hashlink_table.proofs.Threads.{IsOff, SameBut}
+use Rattle.hashlink_table.proofs.Threads.{SameBut}
 
 -- one element more changes no other place
 push_other : {X : Type 0} (xs : List X) (y d : X) (j : ℕ) → j ≢ length xs → get_or (xs ++ y ∷ []) j d
@@ -113,8 +113,3 @@ module _ {N : Type 0} where
     | inr past ↦ absurd (false≢true
         (subst IsSome (ap (λ (c : Cell N). c.kept) (get_or_past cells i bare_cell past)) some))
   ]
-
-  pub off_past : (chains buckets : ℕ) (cells : List (Cell N)) (i : ℕ) → chains
-      ≡ buckets + 1 → length cells ≤ i
-      → IsOff chains (chain_at buckets cells) i
-  off_past chains buckets cells i n h b low e = let q = chain_at_past buckets cells i h in omega arith

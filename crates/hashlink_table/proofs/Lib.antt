@@ -9,7 +9,6 @@ pub mod Linking
 pub mod Masks
 pub mod Moving
 pub mod Nodes
-pub mod Paths
 pub mod Sound
 pub mod Storing
 pub mod Threads

@@ -5,11 +5,10 @@ use Rattle.hashlink_table.proofs.Names.{ne_eqb, cases_eq, get_or_append_left, ge
 use Rattle.hashlink_table.proofs.Names.{length-map, length-set, length_push, map-set, set-append_left, set_at}
 use Rattle.hashlink_table.proofs.Names.{pow_pos, IsPowerOfTwo, Cell, END, next_at, chain_of, chain_at}
 use Rattle.hashlink_table.proofs.Names.{kept_at, links_of, IsThreaded, IsLinked, IsLinkedBut, bare_cell}
-use Rattle.hashlink_table.proofs.Paths.{first_among}
 use Rattle.hashlink_table.proofs.Threads.{SameBut, take_first, take_next, put_first}
 use Rattle.hashlink_table.proofs.Cells.{next_at-set, next_at-set_other, next_at-push, next_at-push_other}
 use Rattle.hashlink_table.proofs.Cells.{chain_at-set, chain_at-set_other, chain_at-push, chain_at-push_other}
-use Rattle.hashlink_table.proofs.Cells.{chain_at-set_same, off_past, within_by_chain}
+use Rattle.hashlink_table.proofs.Cells.{chain_at-set_same, chain_at_past, within_by_chain}
 
 -- a power of two is above 0
 pub positive_by_power : (n : ℕ) → IsPowerOfTwo n → 0 < n
@@ -57,9 +56,7 @@ module _ {N : Type 0} where
   start_on : (slots cells : List (Cell N)) (free b : ℕ) → IsLinked slots cells free → b ≤ length slots
       → get_or (starts slots free) b END ≢ END
       → chain_at (length slots) cells (get_or (starts slots free) b END) ≡ b
-  start_on slots cells free b t low ne =
-      let c = t b (omega (arith, low, length-starts slots free)) in
-      c.inside _ (first_among (next_at cells) _ c.path c.linked ne)
+  start_on slots cells free b t low ne = (t.started b (omega (arith, low, length-starts slots free))).on ne
 
   -- a free cell that is not the end is a cell
   pub free_on : (slots cells : List (Cell N)) (free : ℕ) → IsLinked slots cells free → free ≢ END
@@ -86,11 +83,11 @@ module _ {N : Type 0} where
   linked-push slots cells free b c d low small leads on to t =
       let m = length slots in let n = length-starts slots free in
       rw (starts-set slots free b (length cells) d low to, length-set slots b d)
-      (put_first (starts slots free) (next_at cells) (next_at (cells ++ c ∷ [])) (chain_at m cells)
-      (chain_at m (cells ++ c ∷ [])) b (length cells) t (omega (arith, low, n)) (λ e. omega (arith, small, e))
-      (off_past (length (starts slots free)) m cells (length cells) n (omega arith))
+      (put_first t (length cells) (chain_at m (cells ++ c ∷ [])) (chain_at-push_other m cells c)
+      (next_at (cells ++ c ∷ [])) b (omega (arith, low, n)) small
+      (omega (arith, n, chain_at_past m cells (length cells) (omega arith)))
       (next_at-push cells c ∙ leads ∙ sym (bucket_start slots free b low)) (next_at-push_other cells c)
-      (chain_at-push m cells c ∙ on) (chain_at-push_other m cells c))
+      (chain_at-push m cells c ∙ on))
 
   -- a cell that is on no chain joins one
   joined : (slots cells : List (Cell N)) (free i a : ℕ) (c : Cell N) → i < length cells → length cells < END
@@ -103,13 +100,11 @@ module _ {N : Type 0} where
       let mid : ℕ → ℕ = λ j. cond (eqb j i) (suc m) (chain_at m cells j) in
       let here : mid i ≡ suc m = rw (eq-eqb i i refl) refl in
       let there : SameBut i (chain_at m cells) mid = λ j ne. rw (ne_eqb j i ne) refl in
-      put_first (starts slots free) (next_at cells) (next_at (set cells i c)) mid
-      (chain_at m (set cells i c)) a i (t mid (λ b h e. omega (arith, here, e, h)) there)
-      (omega (arith, low, n))
-      (λ e. omega (arith, within, small, e)) (λ b h e. omega (arith, here, e, h, n))
+      put_first (t mid (omega (arith, here)) there) i (chain_at m (set cells i c))
+      (λ j ne. chain_at-set_other m cells i c j ne ∙ sym (there j ne)) (next_at (set cells i c)) a
+      (omega (arith, low, n)) (omega (arith, within, small)) (omega (arith, here, n))
       (next_at-set cells i c within ∙ leads) (next_at-set_other cells i c)
       (chain_at-set m cells i c within ∙ on)
-      (λ j ne. chain_at-set_other m cells i c j ne ∙ sym (there j ne))
 
   -- the first free cell is taken out
   unlinked_free : (slots cells : List (Cell N)) (free : ℕ) → free ≢ END → IsLinked slots cells free
@@ -117,9 +112,8 @@ module _ {N : Type 0} where
   unlinked_free slots cells free ne t now off same =
       let n = length-starts slots free in
       rw (← starts-free slots free (next_at cells free))
-      (take_first (starts slots free) (next_at cells) (chain_at (length slots) cells) now (length slots) free
-      t (omega (arith, n)) (free_start slots free) ne (free_on slots cells free t ne)
-      (λ b h. off b (omega (arith, h, n))) same)
+      (take_first t free now same (omega (arith, n, free_on slots cells free t ne)) (omega (arith, off, n))
+      (length slots) (omega (arith, n)) (free_start slots free) ne)
 
   -- an insert into the first free cell
   pub linked-reuse : (slots cells : List (Cell N)) (free b : ℕ) (c d : Cell N) → b < length slots
@@ -150,17 +144,18 @@ module _ {N : Type 0} where
   unlinked_first slots cells free b i d low first to ne on t now off same =
       let n = length-starts slots free in let m = length-set slots b d in
       rw (starts-set slots free b (next_at cells i) d low to)
-      (take_first (starts slots free) (next_at cells) (chain_at (length slots) cells) now b i t
-      (omega (arith, low, n)) (bucket_start slots free b low ∙ first) ne on
-      (λ b' h. off b' (omega (arith, h, n, m))) (λ j ne'. same j ne' ∙ ap (λ k. chain_at k cells j) m))
+      (take_first t i now (λ j apart. same j apart ∙ ap (λ k. chain_at k cells j) m)
+      (omega (arith, low, n, on)) (omega (arith, off, n, m)) b (omega (arith, low, n))
+      (bucket_start slots free b low ∙ first) ne)
 
   -- the cell after p is taken out
   pub unlinked_next : (slots cells : List (Cell N)) (free p i : ℕ) (c : Cell N) → p < length cells
       → next_at cells p ≡ i → c.next ≡ next_at cells i → c.kept ≡ kept_at cells p → i ≢ END
+      → chain_at (length slots) cells i < length slots
       → chain_at (length slots) cells i ≡ chain_at (length slots) cells p → IsLinked slots cells free
       → IsLinkedBut slots (set cells p c) free i
-  unlinked_next slots cells free p i c within leads cut alike ne on t now off same =
-      take_next (starts slots free) (next_at cells) (next_at (set cells p c)) (chain_at (length slots) cells)
-      now p i t leads (next_at-set cells p c within ∙ cut) (next_at-set_other cells p c) ne on
-      (λ b h. off b (omega (arith, h, length-starts slots free)))
-      (λ j ne'. same j ne' ∙ chain_at-set_same (length slots) cells p c alike j)
+  unlinked_next slots cells free p i c within leads cut alike ne on with t now off same =
+      let n = length-starts slots free in
+      take_next t i now (λ j apart. same j apart ∙ chain_at-set_same (length slots) cells p c alike j)
+      (omega (arith, on, n)) (omega (arith, off, n)) p (next_at (set cells p c)) leads
+      (next_at-set cells p c within ∙ cut) (next_at-set_other cells p c) ne with

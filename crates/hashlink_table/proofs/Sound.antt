@@ -9,7 +9,8 @@ use Rattle.hashlink_table.proofs.Names.{Contents}
 use Rattle.hashlink_table.proofs.Cells.{chain_at_within}
 use Rattle.hashlink_table.proofs.Linking.{bucket_start, free_start, length-starts}
 use Rattle.hashlink_table.proofs.Nodes.{nodes_in-full, nodes_in-bare, two_nodes}
-use Rattle.hashlink_table.proofs.Walks.{begun, walk_of, walk_goes}
+use Rattle.hashlink_table.proofs.Walks.{walk_of, walk_goes}
+use Rattle.hashlink_table.proofs.Threads.{begun}
 
 -- what a cell with a node has
 of_kept : {N : Type 0} (o : Option (Hashed N)) → is_some o ≡ true → (k : Hashed N) × (o ≡ Some k)
@@ -27,19 +28,29 @@ module _ {N : Type 0} where
   -- no bucket has a chain: no link leads anywhere, and each cell may be free
   pub linked-none : (slots : List (Cell N)) → ((b : ℕ) → next_at slots b ≡ END)
       → IsLinked {N = N} slots [] END
-  linked-none slots none b h =
+  linked-none slots none =
       let n = length-starts slots END in
+      let starts = links_of slots ++ END ∷ [] in
+      let ends : (b : ℕ) → b < length starts → get_or starts b END ≡ END
+      = λ b h. elim (cases_lt b (length slots)) as (λ _. get_or starts b END ≡ END) [
+        | inl low ↦ bucket_start slots END b low ∙ none b
+        | inr high ↦ ap (λ i. get_or starts i END) (omega (arith, high, h, n)) ∙ free_start slots END
+      ] in
       record {
-        path = [];
-        linked =
-            elim (cases_lt b (length slots)) as (λ _. get_or (links_of slots ++ END ∷ []) b END ≡ END) [
-              | inl low ↦ bucket_start slots END b low ∙ none b
-              | inr high ↦
-                  ap (λ i. get_or (links_of slots ++ END ∷ []) i END) (omega (arith, high, h, n))
-                  ∙ free_start slots END
-            ];
-        inside = λ i m. absurd m;
-        whole = λ i e. absurd (omega (arith, e, h, n));
+        rank = record {
+          of = λ i. END - i;
+          top = END + 1;
+          ends = omega arith;
+          below = λ i. omega arith;
+          apart = λ i j low high e. omega (arith, low, high, e);
+        };
+        small = λ i low. absurd (omega (arith, low, n));
+        started = λ b h. rw (ends b h) (record {
+          on = λ ne. absurd (ne refl);
+          falls = omega arith;
+          whole = λ i e. absurd (omega (arith, e, h, n));
+        });
+        linked = λ i low. absurd (omega (arith, low, n));
       }
 
   pub filled-none : (slots : List (Cell N)) → ((b : ℕ) → next_at slots b ≡ END) → IsFilled slots
@@ -50,10 +61,9 @@ module _ {N : Type 0} where
       → i < length cells
       → is_some (kept_at cells i) ≡ true
   all_taken slots cells free linked e i h =
-      let c = linked (length slots) (omega (arith, length-starts slots free)) in
       let free_chain : kept_at cells i ≡ None → ⊥ = λ none.
-      begun (next_at cells) _ c.path c.linked i
-      (c.whole i (chain_at_within (length slots) cells i h ∙ ap (chain_of (length slots)) none))
+      begun linked (length slots) i (omega (arith, length-starts slots free))
+      (chain_at_within (length slots) cells i h ∙ ap (chain_of (length slots)) none)
       (free_start slots free ∙ e) in
       elim (kept_at cells i) as (λ k. (k ≡ None → ⊥) → is_some k ≡ true) [
         | None ↦ λ no. absurd (no refl)
@@ -85,8 +95,8 @@ module _ {N : Type 0} where
       let b = first.0.hash % m in
       let low : b < m = omega (arith, s.counted, s.held, s.sizes.headed, all, both, some) in
       let on = chain_at_within m overflow 0 some ∙ ap (chain_of m) first.1 in
-      let w = walk_of slots overflow free b s.arranged.linked low in
-      let full = s.arranged.filled b low (walk_goes w.0 0 (w.1 0 on)) in
+      let linked = s.arranged.linked in
+      let full = s.arranged.filled b low (walk_goes (walk_of slots overflow free b linked low) 0 on (linked.rank.below 0)) in
       let base = b - b % 16 in
       let two = two_nodes slots base (base + 1) (omega arith) (full base (omega arith) (omega arith))
       (full (base + 1) (omega arith) (omega arith)) in

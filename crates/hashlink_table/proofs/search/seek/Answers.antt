@@ -82,8 +82,8 @@ returns-then-free-ne0-clause-none g c =
     (λ e. c.if-free-ne0.true (c.free.ensures.lanes ∙ e)) in
     let on : chain_at m cells cell ≡ b
     = chain_at_within m cells cell (within_kept cells cell _ is) ∙ ap (chain_of m) is in
-    let w = walk_of slots cells c.requires.arranged.0 b c.requires.arranged.1.linked low in
-    absurd (walk_goes w.0 cell (w.1 cell on) none))
+    let linked = c.requires.arranged.1.linked in
+    absurd (walk_goes (walk_of slots cells _ b linked low) cell on (linked.rank.below cell) none))
 
 pub returns-in-None-clause-none : goal.returns-in-None-clause-none
 returns-in-None-clause-none g c =
