@@ -1,14 +1,14 @@
 -- The slots are doubled: where each node is then, and that no bucket has a chain.
 use Rattle.hashlink_table.proofs.Names.{◌≡◌, ℕ, ◌+◌, ◌-◌, ◌*◌, ◌/◌, ◌%◌, ◌<◌, ◌≤◌, ◌⊎◌, ltb, Bool, true}
-use Rattle.hashlink_table.proofs.Names.{false, inl, cond, inr, List, [], ◌∷◌, ◌++◌, length, map, get_or}
+use Rattle.hashlink_table.proofs.Names.{false, inl, cond, inr, List, [], ◌∷◌, ◌++◌, length, map}
 use Rattle.hashlink_table.proofs.Names.{Option, None, Some, refl, sym, ap, ◌∙◌, subst, arith, IsPermutation}
-use Rattle.hashlink_table.proofs.Names.{mod-mul, cases_lt, ltb-true, ltb-false, get_or_append_left}
-use Rattle.hashlink_table.proofs.Names.{get_or-append_right, length-append, length-map, IsPermutation-refl}
+use Rattle.hashlink_table.proofs.Names.{mod-mul, cases_lt, ltb-true, ltb-false}
+use Rattle.hashlink_table.proofs.Names.{IsPermutation-refl}
 use Rattle.hashlink_table.proofs.Names.{IsPermutation-sym, IsPermutation-trans, IsPermutation-cons}
 use Rattle.hashlink_table.proofs.Names.{IsPermutation-middle, mod_below, same_Some, Hashed, Cell, END}
 use Rattle.hashlink_table.proofs.Names.{next_at, nodes_in, with_node, AreGrouped, IsArranged, IsInPlace}
-use Rattle.hashlink_table.proofs.Names.{bare_cell, doubled, high_half, high_kept, low_half, low_kept}
-use Rattle.std.proofs.Math.ListN.{get_or-map}
+use Rattle.hashlink_table.proofs.Names.{doubled, high_half, high_kept, low_half, low_kept}
+use Rattle.hashlink_table.proofs.Halves.{length-doubled, lower, read_high, read_low, upper}
 use Rattle.hashlink_table.proofs.Moving.{within_kept}
 use Rattle.hashlink_table.proofs.Nodes.{nodes_in-append}
 use Rattle.hashlink_table.proofs.Sound.{filled-none, linked-none}
@@ -82,38 +82,11 @@ module _ {N : Type 0} where
           ]
 
   module _ (cells : List (Cell N)) where
-    abbrev lower : List (Cell N)
-    lower = map (low_half (length cells)) cells
-
-    abbrev upper : List (Cell N)
-    upper = map (high_half (length cells)) cells
-
-    length-lower : length lower ≡ length cells
-    length-lower = length-map cells (low_half (length cells))
-
-    pub length-doubled : length (doubled cells) ≡ 2 * length cells
-    length-doubled =
-        omega (arith, length-append lower upper, length-lower, length-map cells (high_half (length cells)))
-
-    -- what stands in each half
-    read_low : (at : ℕ) → at < length cells
-        → get_or (doubled cells) at bare_cell ≡ low_half (length cells) (get_or cells at bare_cell)
-    read_low at low =
-        get_or_append_left lower upper bare_cell at (omega (arith, low, length-lower))
-        ∙ get_or-map (low_half (length cells)) cells at bare_cell
-
-    read_high : (at : ℕ) → length cells ≤ at
-        → get_or (doubled cells) at bare_cell
-        ≡ high_half (length cells) (get_or cells (at - length cells) bare_cell)
-    read_high at high =
-        get_or-append_right lower upper (length cells) at bare_cell length-lower high
-        ∙ get_or-map (high_half (length cells)) cells (at - length cells) bare_cell
-
     -- no bucket has a chain
     none-doubled : (b : ℕ) → next_at (doubled cells) b ≡ END
     none-doubled b = elim (cases_lt b (length cells)) as (λ _. next_at (doubled cells) b ≡ END) [
-      | inl low ↦ ap (λ (c : Cell N). c.next) (read_low b low)
-      | inr high ↦ ap (λ (c : Cell N). c.next) (read_high b high)
+      | inl low ↦ ap (λ (c : Cell N). c.next) (read_low cells b low)
+      | inr high ↦ ap (λ (c : Cell N). c.next) (read_high cells b high)
     ]
 
     -- each node is still in the group of its bucket
@@ -121,15 +94,15 @@ module _ {N : Type 0} where
     arranged-doubled whole p = record {
       linked = linked-none (doubled cells) none-doubled;
       filled = filled-none (doubled cells) none-doubled;
-      in_place = λ at k is. rw length-doubled
+      in_place = λ at k is. rw (length-doubled cells)
           (elim (cases_lt at (length cells)) as (λ _. AreGrouped (k.hash % (2 * length cells)) at) [
             | inl low ↦
-                let s = stays (length cells) _ k (sym (ap (λ (c : Cell N). c.kept) (read_low at low)) ∙ is) in
+                let s = stays (length cells) _ k (sym (ap (λ (c : Cell N). c.kept) (read_low cells at low)) ∙ is) in
                 let bucket = bucket_low k.hash (length cells) (omega (arith, low)) s.1 in
                 ap (λ b. b / 16) bucket ∙ p at k s.0
             | inr high ↦
                 let s = moves (length cells) _ k
-                (sym (ap (λ (c : Cell N). c.kept) (read_high at high)) ∙ is) in
+                (sym (ap (λ (c : Cell N). c.kept) (read_high cells at high)) ∙ is) in
                 let within = within_kept cells (at - length cells) k s.0 in
                 let bucket = bucket_high k.hash (length cells) (omega (arith, within)) s.1 in
                 omega (arith, whole, high, bucket, p (at - length cells) k s.0)
@@ -139,5 +112,5 @@ module _ {N : Type 0} where
     -- and it is the same nodes
     pub nodes_in-doubled : IsPermutation (nodes_in cells) (nodes_in (doubled cells))
     nodes_in-doubled =
-        subst (IsPermutation (nodes_in cells)) (sym (nodes_in-append lower upper))
+        subst (IsPermutation (nodes_in cells)) (sym (nodes_in-append (lower cells) (upper cells)))
         (parted-nodes (length cells) cells)

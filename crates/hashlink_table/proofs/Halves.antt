@@ -1,14 +1,13 @@
 -- Where the buckets are doubled: a cell in parts, and all cells, one after the other.
-use Rattle.hashlink_table.proofs.Names.{◌≡◌, ℕ, suc, ◌+◌, ◌-◌, ◌*◌, ◌%◌, ◌<◌, inl, Bool, true, false, cond}
-use Rattle.hashlink_table.proofs.Names.{ltb, List, [], ◌∷◌, ◌++◌, length, map, take, drop, get_or, set}
-use Rattle.hashlink_table.proofs.Names.{replicate, Some, Option, None, refl, sym, ap, ◌∙◌, arith}
-use Rattle.hashlink_table.proofs.Names.{append_assoc, IsPowerOfTwo, pow-succ', append-nil, drop_all}
-use Rattle.hashlink_table.proofs.Names.{drop_more, get_or_append_left, get_or-append_right, get_or-drop}
-use Rattle.hashlink_table.proofs.Names.{get_or-map, length-take-le, length-append, length-drop, length-map}
-use Rattle.hashlink_table.proofs.Names.{length-replicate, length-take, set-append_left, set-append_right}
-use Rattle.hashlink_table.proofs.Names.{set_at, take_all, take_more, Hashed, Cell, END, Rest, bare_cell, slot}
-use Rattle.hashlink_table.proofs.Names.{cells_in, low_kept, high_kept, low_half, high_half, doubled, parted}
-use Rattle.hashlink_table.proofs.Names.{IsStored, IsTagged, Row}
+use Rattle.hashlink_table.proofs.Names.{◌≡◌, ◌≢◌, ℕ, suc, ◌+◌, ◌-◌, ◌*◌, ◌%◌, ◌<◌, ◌≤◌, inl, inr, Bool, true}
+use Rattle.hashlink_table.proofs.Names.{false, cond, ltb, List, ◌++◌, length, map, get_or, set, Some, Option}
+use Rattle.hashlink_table.proofs.Names.{None, refl, sym, ap, ◌∙◌, arith, cases_eq, cases_lt, IsPowerOfTwo}
+use Rattle.hashlink_table.proofs.Names.{pow-succ', get_or_append_left, get_or-append_right, get_or_default}
+use Rattle.hashlink_table.proofs.Names.{get_or-set_same, get_or-set_other, length-append, length-map, length-set}
+use Rattle.hashlink_table.proofs.Names.{Hashed, Cell, END, Rest, bare_cell, slot, cells_in, low_kept, high_kept}
+use Rattle.hashlink_table.proofs.Names.{low_half, high_half, doubled, parted, IsStored, IsTagged, Row}
+use Rattle.std.proofs.Math.ListN.{get_or-map}
+use Rattle.std.proofs.lemmas.List.{same_lists}
 use Rattle.hashlink_table.proofs.Storing.{AreCells, cell_at, node_at, node_stays, rest_at, row}
 use Rattle.hashlink_table.proofs.Storing.{stored, tag_at, written}
 
@@ -83,106 +82,97 @@ module _ {N : Type 0} {ts : List ℕ} {ns : List N} {rs : List Rest} (tagged : I
       written first.0 first.1 (at + count) (half tags.1) _ _ _ _ halves.1 refl (ap (set ns (at + count)) node)
       (ap (set (set rs at r) (at + count)) rest) (ap (high_half count) cell ∙ halves.3)
 
--- the first so many of a list, and then those of another list
-abbrev pub so_far : {X : Type 0} → ℕ → List X → List X → List X
-so_far i xs ys = take i xs ++ drop i ys
-
-module _ {X : Type 0} (xs ys : List X) (long : length ys ≡ length xs) (i : ℕ) where
-  length-so_far : length (so_far i xs ys) ≡ length xs
-  length-so_far =
-      omega (arith, length-append (take i xs) (drop i ys), length-take i xs, length-drop i ys, long)
-
-  -- the next is still that of the other list
-  so_far-next : (d : X) → i < length xs → get_or (so_far i xs ys) i d ≡ get_or ys i d
-  so_far-next d low =
-      get_or-append_right (take i xs) (drop i ys) i i d (length-take-le i xs (omega arith)) (omega arith)
-      ∙ get_or-drop i ys (i - i) d ∙ ap (λ k. get_or ys k d) (omega arith)
-
-  -- and is written
-  so_far-on : (d : X) → i < length xs → set (so_far i xs ys) i (get_or xs i d) ≡ so_far (i + 1) xs ys
-  so_far-on d low =
-      ap (λ rest. set (take i xs ++ rest) i (get_or xs i d)) (drop_more ys i d (omega arith))
-      ∙ set_at (take i xs) (get_or ys i d) (drop (i + 1) ys) (get_or xs i d) i
-      (length-take-le i xs (omega arith))
-      ∙ sym (ap (λ zs. zs ++ drop (i + 1) ys) (take_more xs i d low)
-      ∙ append_assoc (take i xs) (get_or xs i d ∷ []) (drop (i + 1) ys))
-
-  so_far-all : i ≡ length xs → so_far i xs ys ≡ xs
-  so_far-all e =
-      rw (take_all i xs (omega arith), drop_all i ys (omega arith)) (append-nil xs)
-
--- the first so many cells are doubled
+-- all cells are doubled, one after the other
 module _ {N : Type 0} (cells : List (Cell N)) where
   abbrev count : ℕ
   count = length cells
 
-  abbrev lower : List (Cell N)
+  abbrev pub lower : List (Cell N)
   lower = map (low_half count) cells
 
-  abbrev upper : List (Cell N)
+  abbrev pub upper : List (Cell N)
   upper = map (high_half count) cells
 
-  lows : ℕ → List (Cell N)
-  lows at = so_far at lower cells
-
-  highs : ℕ → List (Cell N)
-  highs at = so_far at upper (replicate count bare_cell)
-
-  low_long : length cells ≡ length lower
-  low_long = sym (length-map cells (low_half count))
-
-  high_long : length (replicate count (bare_cell {N = N})) ≡ length upper
-  high_long = length-replicate count bare_cell ∙ sym (length-map cells (high_half count))
-
-  abbrev pub doubled_to : ℕ → List (Cell N)
-  doubled_to at = so_far at lower cells ++ so_far at upper (replicate count bare_cell)
-
-  -- the next cell is doubled
-  pub doubled-on : (at n : ℕ) → n ≡ count → at < count → parted (doubled_to at) at n ≡ doubled_to (at + 1)
-  unfolding lows highs
-  doubled-on at n is low =
-      let C : Type 0 = Cell N in
-      let x : C = get_or cells at bare_cell in
-      let in_low : at < length lower = omega (arith, low_long) in
-      let in_high : at < length upper = omega (arith, length-map cells (high_half count)) in
-      let long : length (lows at) ≡ count = length-so_far lower cells low_long at ∙ sym low_long in
-      let next : length (lows (at + 1)) ≡ count
-      = length-so_far lower cells low_long (at + 1) ∙ sym low_long in
-      let read : get_or (lows at ++ highs at) at bare_cell ≡ x
-      = get_or_append_left (lows at) (highs at) bare_cell at (omega arith)
-      ∙ so_far-next lower cells low_long at bare_cell in_low in
-      let low_is : set (lows at) at (low_half count x) ≡ lows (at + 1)
-      = ap (set (lows at) at) (sym (get_or-map (low_half count) cells at bare_cell bare_cell low))
-      ∙ so_far-on lower cells low_long at bare_cell in_low in
-      let high_is : set (highs at) at (high_half count x) ≡ highs (at + 1)
-      = ap (set (highs at) at) (sym (get_or-map (high_half count) cells at bare_cell bare_cell low))
-      ∙ so_far-on upper (replicate count bare_cell) high_long at bare_cell in_high in
-      ap (parted (lows at ++ highs at) at) is
-      ∙ ap (λ (y : C). set (set (lows at ++ highs at) at (low_half count y)) (at + count) (high_half count y))
-      read
-      ∙ ap (λ (ys : List C). set ys (at + count) (high_half count x))
-      (set-append_left (lows at) (highs at) at (low_half count x) (omega arith)
-      ∙ ap (λ (ys : List C). ys ++ highs at) low_is)
-      ∙ set-append_right (lows (at + 1)) (highs at) count (at + count) (high_half count x) next (omega arith)
-      ∙ ap (λ i. lows (at + 1) ++ set (highs at) i (high_half count x)) (omega arith)
-      ∙ ap (λ (ys : List C). lows (at + 1) ++ ys) high_is
-
-  pub length-doubled_to : (at : ℕ) → length (doubled_to at) ≡ count + count
-  length-doubled_to at =
+  pub length-doubled : length (doubled cells) ≡ 2 * count
+  length-doubled =
       omega (
         arith,
-        length-append (so_far at lower cells) (so_far at upper (replicate count bare_cell)),
-        length-so_far lower cells low_long at,
-        length-so_far upper (replicate count bare_cell) high_long at,
-        low_long,
+        length-append lower upper,
+        length-map cells (low_half count),
         length-map cells (high_half count),
       )
 
+  -- what stands in each half
+  pub read_low : (i : ℕ) → i < count
+      → get_or (doubled cells) i bare_cell ≡ low_half count (get_or cells i bare_cell)
+  read_low i low =
+      get_or_append_left lower upper bare_cell i (omega (arith, low, length-map cells (low_half count)))
+      ∙ get_or-map (low_half count) cells i bare_cell
+
+  pub read_high : (i : ℕ) → count ≤ i
+      → get_or (doubled cells) i bare_cell ≡ high_half count (get_or cells (i - count) bare_cell)
+  read_high i high =
+      get_or-append_right lower upper count i bare_cell (length-map cells (low_half count)) high
+      ∙ get_or-map (high_half count) cells (i - count) bare_cell
+
+  -- the first so many are doubled, and the others are not
+  pub record IsDoubledTo (at : ℕ) (v : List (Cell N)) : Type 0 where
+    pub long : length v ≡ 2 * count
+    pub low : (i : ℕ) → i < at → get_or v i bare_cell ≡ low_half count (get_or cells i bare_cell)
+    pub high : (i : ℕ) → i < at → get_or v (i + count) bare_cell ≡ high_half count (get_or cells i bare_cell)
+    pub rest : (i : ℕ) → at ≤ i → i < count → get_or v i bare_cell ≡ get_or cells i bare_cell
+
+  pub doubled-none : (more : List (Cell N)) → length more ≡ count → IsDoubledTo 0 (cells ++ more)
+  doubled-none more long = record {
+    long = omega (arith, length-append cells more, long);
+    low = λ i less. absurd (omega (arith, less));
+    high = λ i less. absurd (omega (arith, less));
+    rest = λ i _ less. get_or_append_left cells more bare_cell i less;
+  }
+
+  -- the next cell is doubled
+  pub doubled-on : (at : ℕ) (v : List (Cell N)) → at < count → IsDoubledTo at v
+      → IsDoubledTo (at + 1) (parted v at count)
+  doubled-on at v less d =
+      let x : Cell N = get_or v at bare_cell in
+      let is : x ≡ get_or cells at bare_cell = d.rest at (omega arith) less in
+      let first : List (Cell N) = set v at (low_half count x) in
+      let long = length-set v at (low_half count x) in
+      let all = length-set first (at + count) (high_half count x) in
+      let others : (i : ℕ) → i ≢ at → i ≢ at + count
+      → get_or (parted v at count) i bare_cell ≡ get_or v i bare_cell
+      = λ i low high. get_or-set_other first (at + count) i (high_half count x) bare_cell high
+      ∙ get_or-set_other v at i (low_half count x) bare_cell low in
+      record {
+        long = omega (arith, all, long, d.long);
+        low = λ i h. elim (cases_eq i at)
+            as (λ _. get_or (parted v at count) i bare_cell ≡ low_half count (get_or cells i bare_cell)) [
+              | inl e ↦ rw e (get_or-set_other first (at + count) at (high_half count x) bare_cell (omega arith)
+                  ∙ get_or-set_same v at (low_half count x) bare_cell (omega (arith, less, d.long))
+                  ∙ ap (low_half count) is)
+              | inr ne ↦ others i ne (omega arith) ∙ d.low i (omega (arith, ne, h))
+            ];
+        high = λ i h. elim (cases_eq i at)
+            as (λ _. get_or (parted v at count) (i + count) bare_cell
+            ≡ high_half count (get_or cells i bare_cell)) [
+              | inl e ↦ rw e (get_or-set_same first (at + count) (high_half count x) bare_cell
+                  (omega (arith, less, long, d.long)) ∙ ap (high_half count) is)
+              | inr ne ↦ others (i + count) (omega arith) (omega (arith, ne)) ∙ d.high i (omega (arith, ne, h))
+            ];
+        rest = λ i from to. others i (omega (arith, from)) (omega (arith, to)) ∙ d.rest i (omega (arith, from)) to;
+      }
+
   -- all cells are doubled
-  pub doubled-all : (at : ℕ) → at ≡ count → doubled_to at ≡ doubled cells
-  doubled-all at is =
-      rw (
-        so_far-all lower cells low_long at (is ∙ low_long),
-        so_far-all upper (replicate count bare_cell) high_long at
-            (is ∙ sym (length-map cells (high_half count))),
-      ) refl
+  pub doubled-all : (at : ℕ) (v : List (Cell N)) → at ≡ count → IsDoubledTo at v → v ≡ doubled cells
+  doubled-all at v is d =
+      same_lists v (doubled cells) (d.long ∙ sym length-doubled) (λ i e less.
+      get_or_default v i e bare_cell less
+      ∙ (elim (cases_lt i count) as (λ _. get_or v i bare_cell ≡ get_or (doubled cells) i bare_cell) [
+        | inl low ↦ d.low i (omega (arith, low, is)) ∙ sym (read_low i low)
+        | inr high ↦
+            let k = i - count in
+            let low : k < count = omega (arith, less, d.long) in
+            let at_k : i ≡ k + count = omega (arith, high) in
+            ap (λ j. get_or v j bare_cell) at_k ∙ d.high k (omega (arith, low, is)) ∙ sym (read_high i high)
+      ])
+      ∙ sym (get_or_default (doubled cells) i e bare_cell (omega (arith, less, d.long, length-doubled))))

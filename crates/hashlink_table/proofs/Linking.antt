@@ -56,7 +56,7 @@ module _ {N : Type 0} where
   start_on : (slots cells : List (Cell N)) (free b : ℕ) → IsLinked slots cells free → b ≤ length slots
       → get_or (starts slots free) b END ≢ END
       → chain_at (length slots) cells (get_or (starts slots free) b END) ≡ b
-  start_on slots cells free b t low ne = (t.started b (omega (arith, low, length-starts slots free))).on ne
+  start_on slots cells free b t low ne = (t b (omega (arith, low, length-starts slots free))).started.on ne
 
   -- a free cell that is not the end is a cell
   pub free_on : (slots cells : List (Cell N)) (free : ℕ) → IsLinked slots cells free → free ≢ END
@@ -83,11 +83,10 @@ module _ {N : Type 0} where
   linked-push slots cells free b c d low small leads on to t =
       let m = length slots in let n = length-starts slots free in
       rw (starts-set slots free b (length cells) d low to, length-set slots b d)
-      (put_first t (length cells) (chain_at m (cells ++ c ∷ [])) (chain_at-push_other m cells c)
-      (next_at (cells ++ c ∷ [])) b (omega (arith, low, n)) small
-      (omega (arith, n, chain_at_past m cells (length cells) (omega arith)))
+      (put_first (starts slots free) (next_at (cells ++ c ∷ [])) (chain_at m (cells ++ c ∷ [])) b (length cells) t
+      (omega (arith, low, n)) small (omega (arith, n, chain_at_past m cells (length cells) (omega arith)))
       (next_at-push cells c ∙ leads ∙ sym (bucket_start slots free b low)) (next_at-push_other cells c)
-      (chain_at-push m cells c ∙ on))
+      (chain_at-push m cells c ∙ on) (chain_at-push_other m cells c))
 
   -- a cell that is on no chain joins one
   joined : (slots cells : List (Cell N)) (free i a : ℕ) (c : Cell N) → i < length cells → length cells < END
@@ -100,11 +99,11 @@ module _ {N : Type 0} where
       let mid : ℕ → ℕ = λ j. cond (eqb j i) (suc m) (chain_at m cells j) in
       let here : mid i ≡ suc m = rw (eq-eqb i i refl) refl in
       let there : SameBut i (chain_at m cells) mid = λ j ne. rw (ne_eqb j i ne) refl in
-      put_first (t mid (omega (arith, here)) there) i (chain_at m (set cells i c))
-      (λ j ne. chain_at-set_other m cells i c j ne ∙ sym (there j ne)) (next_at (set cells i c)) a
+      put_first (starts slots free) (next_at (set cells i c)) (chain_at m (set cells i c)) a i (t mid (omega (arith, here)) there)
       (omega (arith, low, n)) (omega (arith, within, small)) (omega (arith, here, n))
       (next_at-set cells i c within ∙ leads) (next_at-set_other cells i c)
       (chain_at-set m cells i c within ∙ on)
+      (λ j ne. chain_at-set_other m cells i c j ne ∙ sym (there j ne))
 
   -- the first free cell is taken out
   unlinked_free : (slots cells : List (Cell N)) (free : ℕ) → free ≢ END → IsLinked slots cells free
@@ -112,8 +111,8 @@ module _ {N : Type 0} where
   unlinked_free slots cells free ne t now off same =
       let n = length-starts slots free in
       rw (← starts-free slots free (next_at cells free))
-      (take_first t free now same (omega (arith, n, free_on slots cells free t ne)) (omega (arith, off, n))
-      (length slots) (omega (arith, n)) (free_start slots free) ne)
+      (take_first (starts slots free) now (length slots) free t (omega (arith, n)) (free_start slots free)
+      (free_on slots cells free t ne) (omega (arith, off, n)) same)
 
   -- an insert into the first free cell
   pub linked-reuse : (slots cells : List (Cell N)) (free b : ℕ) (c d : Cell N) → b < length slots
@@ -138,24 +137,22 @@ module _ {N : Type 0} where
 
   -- the first cell of a bucket's chain is taken out
   pub unlinked_first : (slots cells : List (Cell N)) (free b i : ℕ) (d : Cell N) → b < length slots
-      → next_at slots b ≡ i → d.next ≡ next_at cells i → i ≢ END → chain_at (length slots) cells i ≡ b
+      → next_at slots b ≡ i → d.next ≡ next_at cells i → chain_at (length slots) cells i ≡ b
       → IsLinked slots cells free
       → IsLinkedBut (set slots b d) cells free i
-  unlinked_first slots cells free b i d low first to ne on t now off same =
+  unlinked_first slots cells free b i d low first to on t now off same =
       let n = length-starts slots free in let m = length-set slots b d in
       rw (starts-set slots free b (next_at cells i) d low to)
-      (take_first t i now (λ j apart. same j apart ∙ ap (λ k. chain_at k cells j) m)
-      (omega (arith, low, n, on)) (omega (arith, off, n, m)) b (omega (arith, low, n))
-      (bucket_start slots free b low ∙ first) ne)
+      (take_first (starts slots free) now b i t (omega (arith, low, n)) (bucket_start slots free b low ∙ first) on
+      (omega (arith, off, n, m)) (λ j apart. same j apart ∙ ap (λ k. chain_at k cells j) m))
 
   -- the cell after p is taken out
   pub unlinked_next : (slots cells : List (Cell N)) (free p i : ℕ) (c : Cell N) → p < length cells
-      → next_at cells p ≡ i → c.next ≡ next_at cells i → c.kept ≡ kept_at cells p → i ≢ END
-      → chain_at (length slots) cells i < length slots
+      → next_at cells p ≡ i → c.next ≡ next_at cells i → c.kept ≡ kept_at cells p
       → chain_at (length slots) cells i ≡ chain_at (length slots) cells p → IsLinked slots cells free
       → IsLinkedBut slots (set cells p c) free i
-  unlinked_next slots cells free p i c within leads cut alike ne on with t now off same =
+  unlinked_next slots cells free p i c within leads cut alike on t now off same =
       let n = length-starts slots free in
-      take_next t i now (λ j apart. same j apart ∙ chain_at-set_same (length slots) cells p c alike j)
-      (omega (arith, on, n)) (omega (arith, off, n)) p (next_at (set cells p c)) leads
-      (next_at-set cells p c within ∙ cut) (next_at-set_other cells p c) ne with
+      take_next (starts slots free) (next_at (set cells p c)) now p i t leads (next_at-set cells p c within ∙ cut)
+      (next_at-set_other cells p c) on (omega (arith, off, n))
+      (λ j apart. same j apart ∙ chain_at-set_same (length slots) cells p c alike j)

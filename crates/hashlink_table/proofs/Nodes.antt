@@ -101,30 +101,6 @@ module _ {N : Type 0} where
       elim x.kept as (λ k. is_some k ≡ true → length (with_node k (nodes_in xs)) ≡ suc (length xs))
       [ None ↦ λ e. absurd (cc e) | Some k ↦ λ e. ap suc rest ] (all zero (omega arith))
 
-  -- a cell with a node is a node, and two such cells are two
-  some_node : (cells : List (Cell N)) (i : ℕ) → is_some (kept_at cells i) ≡ true → 0 < length (nodes_in cells)
-  some_node [] i e = absurd (cc e)
-  some_node (x ∷ xs) zero e =
-      elim x.kept as (λ k. is_some k ≡ true → 0 < length (with_node k (nodes_in xs)))
-      [ None ↦ λ e. absurd (cc e) | Some k ↦ λ e. omega arith ] e
-  some_node (x ∷ xs) (suc i) e =
-      let rest = some_node xs i e in
-      elim x.kept as (λ k. 0 < length (with_node k (nodes_in xs))) [ None ↦ rest | Some k ↦ omega arith ]
-
-  pub two_nodes : (cells : List (Cell N)) (i j : ℕ) → i < j → is_some (kept_at cells i) ≡ true
-      → is_some (kept_at cells j) ≡ true
-      → 1 < length (nodes_in cells)
-  two_nodes [] i j h e f = absurd (cc e)
-  two_nodes (x ∷ xs) i zero h e f = absurd (omega arith)
-  two_nodes (x ∷ xs) zero (suc j) h e f =
-      let rest = some_node xs j f in
-      elim x.kept as (λ k. is_some k ≡ true → 1 < length (with_node k (nodes_in xs)))
-      [ None ↦ λ e. absurd (cc e) | Some k ↦ λ e. omega (arith, rest) ] e
-  two_nodes (x ∷ xs) (suc i) (suc j) h e f =
-      let rest = two_nodes xs i j (omega arith) e f in
-      elim x.kept as (λ k. 1 < length (with_node k (nodes_in xs)))
-      [ None ↦ rest | Some k ↦ omega (arith, rest) ]
-
   -- a node in a cell is one of them
   pub contains-at : (cells : List (Cell N)) (i : ℕ) (k : Hashed N) → kept_at cells i ≡ Some k
       → Contains (nodes_in cells) k

@@ -4,12 +4,12 @@ use Rattle.hashlink_table.proofs.Names.{inr, Bool, true, false, List, length, ge
 use Rattle.hashlink_table.proofs.Names.{ap, ◌∙◌, subst, arith, cases_eq, cases_lt, true≢false, eq-eqb, ne_eqb}
 use Rattle.hashlink_table.proofs.Names.{get_or-set_other, get_or_past, get_or_read, sum_by-set}
 use Rattle.hashlink_table.proofs.Names.{count_by-le-length, Cell, END, kept_at, next_at, chain_of, chain_at}
-use Rattle.hashlink_table.proofs.Names.{IsLink, IsLinked, IsThreaded, bare_cell}
+use Rattle.hashlink_table.proofs.Names.{IsChain, IsLink, IsLinked, bare_cell}
 use Rattle.hashlink_table.proofs.Names.{[], ◌∷◌, ◌++◌, links_of}
 use Rattle.hashlink_table.proofs.Chaining.{on_within, on_some}
 use Rattle.hashlink_table.proofs.Linking.{bucket_start, length-starts}
 use Rattle.hashlink_table.proofs.Cells.{within_by_chain, chain_at_within}
-use Rattle.hashlink_table.proofs.Threads.{lower}
+use Rattle.hashlink_table.proofs.Threads.{lower, passed}
 
 -- how many links lead from a cell to the end, if no more than so many
 abbrev pub steps_left : (ℕ → ℕ) → ℕ → ℕ → ℕ
@@ -25,45 +25,30 @@ record IsNear (next : ℕ → ℕ) (most at count : ℕ) : Type 0 where
 -- a link to a cell of chain b, or to the end, by which those of its cells were passed that have this rank, or a
 -- higher one
 pub record IsWalk {N : Type 0} (cells : List (Cell N)) (m b at : ℕ) : Type 0 where
-  pub starts : List ℕ
-  pub threaded : IsThreaded starts (next_at cells) (chain_at m cells)
-  pub low : b < length starts
+  pub start : ℕ
+  pub all : IsChain (next_at cells) (chain_at m cells) start b
   pub from : ℕ
-  pub link : IsLink threaded.rank.of (chain_at m cells) b from at
+  pub link : IsLink all.rank.of (chain_at m cells) b from at
 
 module _ {N : Type 0} {cells : List (Cell N)} {m b at : ℕ} (w : IsWalk cells m b at) where
   abbrev pub rank : ℕ → ℕ
-  rank = w.threaded.rank.of
-
-  small : (j : ℕ) → chain_at m cells j ≡ b → j < END
-  small j on = w.threaded.small j (omega (arith, on, w.low))
+  rank = w.all.rank.of
 
   -- a walk that has not ended goes on past a cell of the chain
   abbrev pub walk_on : at ≢ END → IsWalk cells m b (next_at cells at)
-  walk_on ne = record {
-    starts = w.starts;
-    threaded = w.threaded;
-    low = w.low;
-    from = rank at;
-    link = subst (λ c. IsLink rank (chain_at m cells) c (rank at) (next_at cells at)) (w.link.on ne)
-        (w.threaded.linked at (omega (arith, w.link.on ne, w.low)));
-  }
+  walk_on ne = record { start = w.start; all = w.all; from = rank at; link = w.all.linked at (w.link.on ne) }
 
   -- a cell that is still to come is this one, or comes after it
   pub to_come : (j : ℕ) → chain_at m cells j ≡ b → rank j < w.from → at ≢ END → (j ≡ at) ⊎ (rank j < rank at)
   to_come j on later ne = elim (cases_eq j at) as (λ _. (j ≡ at) ⊎ (rank j < rank at)) [
     | inl e ↦ inl e
-    | inr other ↦ inr (lower w.threaded.rank j at (omega (arith, small j on))
-        (omega (arith, small at (w.link.on ne))) other (w.link.whole j on later))
+    | inr other ↦ inr (lower w.all.rank j at (w.all.small j on) (w.all.small at (w.link.on ne)) other
+        (w.link.whole j on later))
   ]
 
   -- where one is to come the walk has not ended
   pub walk_goes : (j : ℕ) → chain_at m cells j ≡ b → rank j < w.from → at ≢ END
-  walk_goes j on later e =
-      let r = w.threaded.rank in
-      let last : j ≡ END = r.apart j END (omega (arith, small j on)) (omega arith)
-      (omega (arith, w.link.whole j on later, ap rank e, r.ends)) in
-      omega (arith, small j on, last)
+  walk_goes j on later e = omega (arith, passed w.all w.link e j on, later)
 
 -- a walk has no more links than there are cells that pass
 module _ {X : Type 0} (p : X → Bool) (d : X) (none : p d ≡ false) where
@@ -132,16 +117,21 @@ module _ {N : Type 0} where
   abbrev pub walk_of : (slots cells : List (Cell N)) (free b : ℕ) → IsLinked slots cells free → b < length slots
       → IsWalk cells (length slots) b (next_at slots b)
   walk_of slots cells free b t low =
-      let starts : List ℕ = links_of slots ++ free ∷ [] in
-      let within : b < length starts = omega (arith, low, length-starts slots free) in
+      let c = t b (omega (arith, low, length-starts slots free)) in
       record {
-        starts = starts;
-        threaded = t;
-        low = within;
-        from = t.rank.top;
-        link = subst (λ to. IsLink t.rank.of (chain_at (length slots) cells) b t.rank.top to)
-            (bucket_start slots free b low) (t.started b within);
+        start = get_or (links_of slots ++ free ∷ []) b END;
+        all = c;
+        from = c.rank.top;
+        link = subst (IsLink c.rank.of (chain_at (length slots) cells) b c.rank.top)
+            (bucket_start slots free b low) c.started;
       }
+
+  -- a bucket's chain to which a cell belongs has begun
+  pub bucket_begun : (slots cells : List (Cell N)) (free b j : ℕ) → IsLinked slots cells free
+      → b < length slots → chain_at (length slots) cells j ≡ b
+      → next_at slots b ≢ END
+  bucket_begun slots cells free b j t low on =
+      let w = walk_of slots cells free b t low in walk_goes w j on (w.all.rank.below j)
 
   -- a search along a chain that has passed over cells which are not what is sought. It took a step for each
   pub record IsSearch (cells : List (Cell N)) (m b at : ℕ) (IsOther : ℕ → Type 0) (before now : ℕ) : Type 0 where
@@ -158,7 +148,7 @@ module _ {N : Type 0} where
       let w = walk_of slots cells free b t low in
       record {
         walk = w;
-        none = λ j _ past. absurd (omega (arith, t.rank.below j, past));
+        none = λ j _ past. absurd (omega (arith, w.all.rank.below j, past));
         goes_on = omega arith;
         cost = omega (arith, (near_end w low).few);
       }
@@ -182,8 +172,7 @@ module _ {N : Type 0} where
 
     -- a search that has ended
     pub search_ends : at ≡ END → (j : ℕ) → chain_at m cells j ≡ b → IsOther j
-    search_ends e j on = elim (cases_lt (rank s.walk j) s.walk.from) as (λ _. IsOther j)
-        [ inl next ↦ absurd (walk_goes s.walk j on next e) | inr past ↦ s.none j on past ]
+    search_ends e j on = s.none j on (passed s.walk.all s.walk.link e j on)
 
   -- a walk along a bucket's chain that has not ended is at a cell, which has a node
   pub record IsAt (cells : List (Cell N)) (at : ℕ) (read : Cell N) : Type 0 where

@@ -62,12 +62,17 @@ pub record IsLink (rank chain : ℕ → ℕ) (b from to : ℕ) : Type 0 where
   pub falls : rank to < from
   pub whole : (i : ℕ) → chain i ≡ b → rank i < from → rank i ≤ rank to
 
--- each chain starts where the list says, and goes on by the links
-pub record IsThreaded (starts : List ℕ) (next chain : ℕ → ℕ) : Type 0 where
+-- the links lead from this cell along exactly the cells of chain b
+pub record IsChain (next chain : ℕ → ℕ) (from b : ℕ) : Type 0 where
   pub rank : Ranks
-  pub small : (i : ℕ) → chain i < length starts → i < END
-  pub started : (b : ℕ) → b < length starts → IsLink rank.of chain b rank.top (slice_index_or starts b END)
-  pub linked : (i : ℕ) → chain i < length starts → IsLink rank.of chain (chain i) (rank.of i) (next i)
+  pub small : (i : ℕ) → chain i ≡ b → i < END
+  pub started : IsLink rank.of chain b rank.top from
+  pub linked : (i : ℕ) → chain i ≡ b → IsLink rank.of chain b (rank.of i) (next i)
+
+-- each chain starts where the list says
+abbrev pub IsThreaded : List ℕ → (ℕ → ℕ) → (ℕ → ℕ) → Type 0
+IsThreaded starts next chain =
+    (b : ℕ) → b < length starts → IsChain next chain (slice_index_or starts b END) b
 
 -- the links of the slots start the buckets' chains, and `free` the chain of the free cells
 abbrev pub IsLinked : {N : Type 0} → List (Cell N) → List (Cell N) → ℕ → Type 0

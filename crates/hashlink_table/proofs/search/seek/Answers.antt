@@ -7,7 +7,7 @@ use Rattle.hashlink_table.proofs.Linking.{positive_by_power}
 use Rattle.hashlink_table.proofs.Masks.{no_chain}
 use Rattle.hashlink_table.proofs.Moving.{within_kept}
 use Rattle.hashlink_table.proofs.Views.{contains_found, looked_at, none_left, tag_agrees}
-use Rattle.hashlink_table.proofs.Walks.{walk_of, walk_goes}
+use Rattle.hashlink_table.proofs.Walks.{bucket_begun}
 use Rattle.hashlink_table.proofs.search.seek.Given as given
 use Rattle.hashlink_table.proofs.search.seek.Goals.{After-base_of-base, In_default}
 use Rattle.hashlink_table.proofs.search.seek.Goals as goal
@@ -82,8 +82,7 @@ returns-then-free-ne0-clause-none g c =
     (λ e. c.if-free-ne0.true (c.free.ensures.lanes ∙ e)) in
     let on : chain_at m cells cell ≡ b
     = chain_at_within m cells cell (within_kept cells cell _ is) ∙ ap (chain_of m) is in
-    let linked = c.requires.arranged.1.linked in
-    absurd (walk_goes (walk_of slots cells _ b linked low) cell on (linked.rank.below cell) none))
+    absurd (bucket_begun slots cells _ b cell c.requires.arranged.1.linked low on none))
 
 pub returns-in-None-clause-none : goal.returns-in-None-clause-none
 returns-in-None-clause-none g c =

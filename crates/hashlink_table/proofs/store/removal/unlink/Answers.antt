@@ -23,13 +23,13 @@ returns-then-at-cell-clause-unlinked g c = λ free linked.
     (unlinked_first c.args.slots.now cells free c.args.bucket c.args.cell _ c.requires.within
     (sym c.next-at.ensures.value ∙ c.if-at-cell.true)
     (c.next-after.ensures.value ∙ next_at_read cells c.args.cell c.index-cells-cell.result there)
-    (λ e. omega (arith, there, c.requires.small, e)) c.requires.on_chain linked)
+    c.requires.on_chain linked)
 
 pub loop-cells-init : goal.loop-cells-init
 loop-cells-init g c =
     let m = length c.args.slots.now in let cells = c.args.cells.now in
     let w = walk_of c.args.slots.now cells _ c.args.bucket c.requires.linked.1 c.requires.within in
-    let to_come = c.requires.linked.1.rank.below c.args.cell in
+    let to_come = w.all.rank.below c.args.cell in
     rw c.next-at.ensures.value (record {
       walk = w;
       to_come = to_come;
@@ -88,8 +88,6 @@ returns-clause-unlinked g c = λ free linked.
     ∙ next_at_read cells c.args.cell c.index-cells-cell.result there)
     (ap (λ (d : C). d.kept) c.set_next-2.ensures
     ∙ kept_at_read cells c.loop-cells.at c.index-cells-at-2.result v.within)
-    (λ e. omega (arith, there, c.requires.small, e))
-    (omega (arith, c.requires.on_chain, c.requires.within))
     (c.requires.on_chain ∙ sym (v.walk.link.on (walk_goes v.walk c.args.cell c.requires.on_chain v.to_come)))
     linked
 
