@@ -1,10 +1,6 @@
 pub mod Names
-pub mod Cells
-pub mod Chaining
-pub mod Copying
 pub mod Doubling
 pub mod Groups
-pub mod Halves
 pub mod Linking
 pub mod Masks
 pub mod Moving

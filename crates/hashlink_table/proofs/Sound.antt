@@ -1,13 +1,13 @@
 -- The fields of a table agree.
 use Rattle.hashlink_table.proofs.Names.{◌≡◌, ◌≢◌, ℕ, zero, suc, ◌+◌, ◌-◌, ◌*◌, ◌%◌, ◌<◌, ◌≤◌, true, inl, inr}
-use Rattle.hashlink_table.proofs.Names.{length_push, take, with_node, List, [], ◌∷◌, ◌++◌, length, max, get_or, replicate, Option, Some}
-use Rattle.hashlink_table.proofs.Names.{None, is_some, refl, sym, ap, ◌∙◌, arith, IsPermutation, cases_eq}
-use Rattle.hashlink_table.proofs.Names.{cases_lt, length-append, length-replicate, length_permutation, Hashed}
-use Rattle.hashlink_table.proofs.Names.{Cell, END, kept_at, next_at, chain_of, nodes_in, links_of, contents}
-use Rattle.hashlink_table.proofs.Names.{AreSizes, IsArranged, IsFilled, IsLinked, IsSound, bare_cell}
-use Rattle.hashlink_table.proofs.Names.{Contents}
-use Rattle.hashlink_table.proofs.Cells.{chain_at_within, within_by_kept}
-use Rattle.hashlink_table.proofs.Linking.{bucket_start, free_start, length-starts}
+use Rattle.hashlink_table.proofs.Names.{length_push, take, with_node, List, [], ◌∷◌, ◌++◌, length, max}
+use Rattle.hashlink_table.proofs.Names.{get_or, replicate, Option, Some, None, is_some, refl, sym, ap, ◌∙◌}
+use Rattle.hashlink_table.proofs.Names.{arith, IsPermutation, cases_eq, cases_lt, length-append}
+use Rattle.hashlink_table.proofs.Names.{length-replicate, length_permutation, Hashed, Cell, END, kept_at}
+use Rattle.hashlink_table.proofs.Names.{next_at, chain_of, nodes_in, links_of, contents, AreSizes, IsArranged}
+use Rattle.hashlink_table.proofs.Names.{IsFilled, IsLinked, IsSound, bare_cell, Contents}
+use Rattle.hashlink_table.proofs.Linking.{chain_at_within, within_by_kept, bucket_start, free_start}
+use Rattle.hashlink_table.proofs.Linking.{length-starts}
 use Rattle.hashlink_table.proofs.Nodes.{nodes_in-full, nodes_in-bare, nodes_in-more_at, nodes_in-part}
 use Rattle.hashlink_table.proofs.Walks.{bucket_begun}
 use Rattle.hashlink_table.proofs.Threads.{begun}
@@ -31,7 +31,8 @@ module _ {N : Type 0} where
   linked-none slots none b h =
       let n = length-starts slots END in
       let starts = links_of slots ++ END ∷ [] in
-      let ends : get_or starts b END ≡ END = elim (cases_lt b (length slots)) as (λ _. get_or starts b END ≡ END) [
+      let ends : get_or starts b END ≡ END
+      = elim (cases_lt b (length slots)) as (λ _. get_or starts b END ≡ END) [
         | inl low ↦ bucket_start slots END b low ∙ none b
         | inr high ↦ ap (λ i. get_or starts i END) (omega (arith, high, h, n)) ∙ free_start slots END
       ] in

@@ -1,8 +1,8 @@
 -- All chains at once: a cell leaves its chain, and joins another.
-use Rattle.hashlink_table.proofs.Names.{◌≡◌, ◌≢◌, ℕ, ◌<◌, ◌≤◌, ◌+◌, inl, inr, List, length, get_or, set, sym, ap}
-use Rattle.hashlink_table.proofs.Names.{◌∙◌, refl, subst, arith, cases_eq, cases_lt, cond, eqb, eq-eqb, ne_eqb}
-use Rattle.hashlink_table.proofs.Names.{get_or-set_same, get_or-set_other, length-set, END, IsChain, IsLink}
-use Rattle.hashlink_table.proofs.Names.{IsThreaded, Ranks}
+use Rattle.hashlink_table.proofs.Names.{◌≡◌, ◌≢◌, ℕ, ◌<◌, ◌≤◌, ◌+◌, inl, inr, List, length, get_or, set, sym}
+use Rattle.hashlink_table.proofs.Names.{ap, ◌∙◌, refl, subst, arith, cases_eq, cases_lt, cond, eqb, eq-eqb}
+use Rattle.hashlink_table.proofs.Names.{ne_eqb, get_or-set_same, get_or-set_other, length-set, END, IsChain}
+use Rattle.hashlink_table.proofs.Names.{IsLink, IsThreaded, Ranks}
 
 -- the new function answers as the old but at i
 abbrev pub SameBut : ℕ → (ℕ → ℕ) → (ℕ → ℕ) → Type 0

@@ -1,14 +1,12 @@
 -- A walk along a chain: it stays in the chain, and ends.
 use Rattle.hashlink_table.proofs.Names.{◌≡◌, ◌≢◌, ℕ, zero, suc, ◌+◌, ◌<◌, ◌≤◌, cond, eqb, IsSome, ◌⊎◌, inl}
-use Rattle.hashlink_table.proofs.Names.{inr, Bool, true, false, List, length, get_or, set, count_by, refl, sym}
-use Rattle.hashlink_table.proofs.Names.{ap, ◌∙◌, subst, arith, cases_eq, cases_lt, true≢false, eq-eqb, ne_eqb}
-use Rattle.hashlink_table.proofs.Names.{get_or-set_other, get_or_past, get_or_read, sum_by-set}
+use Rattle.hashlink_table.proofs.Names.{inr, Bool, true, false, List, length, get_or, set, count_by, refl}
+use Rattle.hashlink_table.proofs.Names.{sym, ap, ◌∙◌, subst, arith, cases_eq, cases_lt, true≢false, eq-eqb}
+use Rattle.hashlink_table.proofs.Names.{ne_eqb, get_or-set_other, get_or_past, get_or_read, sum_by-set}
 use Rattle.hashlink_table.proofs.Names.{count_by-le-length, Cell, END, kept_at, next_at, chain_of, chain_at}
-use Rattle.hashlink_table.proofs.Names.{IsChain, IsLink, IsLinked, bare_cell}
-use Rattle.hashlink_table.proofs.Names.{[], ◌∷◌, ◌++◌, links_of}
-use Rattle.hashlink_table.proofs.Chaining.{on_within, on_some}
-use Rattle.hashlink_table.proofs.Linking.{bucket_start, length-starts}
-use Rattle.hashlink_table.proofs.Cells.{within_by_chain, chain_at_within}
+use Rattle.hashlink_table.proofs.Names.{IsChain, IsLink, IsLinked, bare_cell, [], ◌∷◌, ◌++◌, links_of}
+use Rattle.hashlink_table.proofs.Linking.{on_within, on_some, bucket_start, length-starts, within_by_chain}
+use Rattle.hashlink_table.proofs.Linking.{chain_at_within}
 use Rattle.hashlink_table.proofs.Threads.{lower, passed}
 
 -- how many links lead from a cell to the end, if no more than so many
@@ -22,8 +20,7 @@ record IsNear (next : ℕ → ℕ) (most at count : ℕ) : Type 0 where
   pub enough : steps_left next (suc most) at ≡ steps_left next most at
   pub falls : at ≢ END → steps_left next most (next at) < steps_left next most at
 
--- a link to a cell of chain b, or to the end, by which those of its cells were passed that have this rank, or a
--- higher one
+-- a link to a cell of chain b, or to the end. The cells of the chain from this rank on were passed
 pub record IsWalk {N : Type 0} (cells : List (Cell N)) (m b at : ℕ) : Type 0 where
   pub start : ℕ
   pub all : IsChain (next_at cells) (chain_at m cells) start b
@@ -114,8 +111,8 @@ module _ {N : Type 0} where
   steps_left-falls w low ne = (near_end w low).falls ne
 
   -- the walk along a bucket's chain
-  abbrev pub walk_of : (slots cells : List (Cell N)) (free b : ℕ) → IsLinked slots cells free → b < length slots
-      → IsWalk cells (length slots) b (next_at slots b)
+  abbrev pub walk_of : (slots cells : List (Cell N)) (free b : ℕ) → IsLinked slots cells free
+      → b < length slots → IsWalk cells (length slots) b (next_at slots b)
   walk_of slots cells free b t low =
       let c = t b (omega (arith, low, length-starts slots free)) in
       record {
@@ -134,7 +131,8 @@ module _ {N : Type 0} where
       let w = walk_of slots cells free b t low in walk_goes w j on (w.all.rank.below j)
 
   -- a search along a chain that has passed over cells which are not what is sought. It took a step for each
-  pub record IsSearch (cells : List (Cell N)) (m b at : ℕ) (IsOther : ℕ → Type 0) (before now : ℕ) : Type 0 where
+  pub record IsSearch (cells : List (Cell N)) (m b at : ℕ) (IsOther : ℕ → Type 0)
+      (before now : ℕ) : Type 0 where
     pub walk : IsWalk cells m b at
     pub none : (j : ℕ) → chain_at m cells j ≡ b → walk.from ≤ rank walk j → IsOther j
     pub goes_on : before ≤ now

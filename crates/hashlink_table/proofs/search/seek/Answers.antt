@@ -1,9 +1,8 @@
 use Rattle.hashlink_table.proofs.Names.{ℕ, ◌+◌, ◌-◌, ◌%◌, ◌<◌, ◌≤◌, ◌≡◌, ◌++◌, count_by, eqb, false, length}
 use Rattle.hashlink_table.proofs.Names.{Some, refl, ap, ◌∙◌, arith, eq-eqb, eqb-true, chain_at, chain_of}
 use Rattle.hashlink_table.proofs.Names.{kept_at, nodes_in, lanes_of, may_be, Slot, Overflow, tag_of}
-use Rattle.hashlink_table.proofs.Cells.{chain_at_within}
+use Rattle.hashlink_table.proofs.Linking.{chain_at_within, positive_by_power}
 use Rattle.hashlink_table.proofs.Groups.{from_base, group_within, grouped_in, to_base}
-use Rattle.hashlink_table.proofs.Linking.{positive_by_power}
 use Rattle.hashlink_table.proofs.Masks.{no_chain}
 use Rattle.hashlink_table.proofs.Moving.{within_kept}
 use Rattle.hashlink_table.proofs.Views.{contains_found, looked_at, none_left, tag_agrees}

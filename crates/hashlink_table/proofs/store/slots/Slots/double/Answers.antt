@@ -1,8 +1,8 @@
 -- Each cell is doubled in its turn, and the lists keep their lengths.
-use Rattle.hashlink_table.proofs.Names.{◌≡◌, ◌*◌, length, replicate, length-replicate, refl, sym, ◌∙◌, subst, arith}
-use Rattle.hashlink_table.proofs.Names.{IsPowerOfTwo, with_items, with_items_is, bare_cell}
+use Rattle.hashlink_table.proofs.Names.{◌≡◌, ◌*◌, length, replicate, length-replicate, refl, sym, ◌∙◌, subst}
+use Rattle.hashlink_table.proofs.Names.{arith, IsPowerOfTwo, with_items, with_items_is, bare_cell}
 use Rattle.hashlink_table.proofs.Storing.{sizes}
-use Rattle.hashlink_table.proofs.Halves.{doubled-all, doubled-none, doubled-on, twice_power}
+use Rattle.hashlink_table.proofs.Doubling.{doubled-all, doubled-none, doubled-on, twice_power}
 use Rattle.hashlink_table.proofs.store.slots.Slots.double.Given as given
 use Rattle.hashlink_table.proofs.store.slots.Slots.double.Goals as goal
 

@@ -1,5 +1,5 @@
 use Rattle.hashlink_table.proofs.Names.{cells_in, IsTagged}
-use Rattle.hashlink_table.proofs.Halves.{IsDoubledTo}
+use Rattle.hashlink_table.proofs.Doubling.{IsDoubledTo}
 use Rattle.hashlink_table.proofs.store.slots.Slots.double.Given as goal
 
 -- the first so many cells are doubled
