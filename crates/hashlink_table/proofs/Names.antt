@@ -1,6 +1,6 @@
 -- What the proofs of this crate import again and again.
-pub use Rattle.hashlink_table.specs.Chains.{Among, AreGrouped, AreSizes, AreTaken, IsArranged, IsChain}
-pub use Rattle.hashlink_table.specs.Chains.{IsFilled, IsInPlace, IsLinked, IsLinkedBut, IsPath, IsPlaced}
+pub use Rattle.hashlink_table.specs.Chains.{AreGrouped, AreSizes, AreTaken, IsArranged, IsChain, IsLink}
+pub use Rattle.hashlink_table.specs.Chains.{Ranks, IsFilled, IsInPlace, IsLinked, IsLinkedBut, IsPlaced}
 pub use Rattle.hashlink_table.specs.Chains.{IsSound, IsThreaded, SameNodes, chain_at, chain_of, contents}
 pub use Rattle.hashlink_table.specs.Chains.{kept_at, kept_by, links_of, next_at, nodes_in, stored_in}
 pub use Rattle.hashlink_table.specs.Chains.{with_node}
