@@ -10,11 +10,11 @@ use Rattle.std.proofs.lemmas.List.{take-append-drop, length-append}
 use Rattle.hashlink_model.specs.Entries.{IsEntries, place_without, without, stored_key, put, moved, moved_at}
 use Rattle.hashlink_model.specs.Entries.{moved_match}
 pub use Rattle.hashlink_model.proofs.ByPlace.{moved-there}
-use Rattle.hashlink_model.proofs.Splits.{none_from_lookup, remove_entry-none}
-use Rattle.hashlink_model.proofs.Splits.{remove_entry-here, place_of-none, splits}
+use Rattle.hashlink_model.proofs.Splits.{none_from_lookup, remove_entry-none, remove_entry-here}
+use Rattle.hashlink_model.proofs.Splits.{place_of-none, splits}
 use Rattle.hashlink_model.proofs.Distinct.{each-left}
-use Rattle.hashlink_model.proofs.Finds.{lookup_is, lookup_key_is, stored_key-equal}
-use Rattle.hashlink_model.proofs.Finds.{lookup_entry-without, lookup-equal}
+use Rattle.hashlink_model.proofs.Finds.{lookup_is, lookup_key_is, stored_key-equal, lookup_entry-without}
+use Rattle.hashlink_model.proofs.Finds.{lookup-equal}
 use Rattle.hashlink_model.proofs.Puts.{put_back, put_front, lookup_entry-put, none_without, IsEntries-put}
 
 moved_match-none : {K V : Type 0} (test : K → Bool) (es : List (K × V)) (b : ℕ) → NonePasses test es

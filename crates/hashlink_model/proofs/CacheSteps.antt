@@ -4,12 +4,11 @@ use Rattle.std.specs.Prelude.{MatchOption, Result, refl}
 use Rattle.std.specs.Option.{option_map_or}
 use Rattle.std.specs.Map.{lookup}
 use Rattle.hashlink_model.specs.Entries.{put, without, stored_key}
-use Rattle.hashlink_model.specs.MapState.{MapState, node_count}
+use Rattle.hashlink_model.specs.MapState.{MapState}
 use Rattle.hashlink_model.specs.Cache.{cache_get, CacheState, InsertsLast, CacheUses, cache_use, CacheInserts}
 use Rattle.hashlink_model.specs.Cache.{CacheGets, last_entries, cache_put}
 use Rattle.hashlink_model.proofs.Puts.{put_back}
 use Rattle.hashlink_model.proofs.Afterwards.{moved-there}
-use Rattle.hashlink_model.proofs.NodeCounts.{moves_nodes}
 
 -- the insert at the length
 pub put_entries : {K V S : Type 0} (eq : K → K → Bool) (old new : MapState K V S) (k : K)
@@ -48,9 +47,6 @@ module _ {K V S : Type 0} (eq : K → K → Bool) (old new : CacheState K V S) (
 
   pub gets_miss : CacheGets eq old new k None → new.map ≡ old.map
   gets_miss s = s.map.step
-
-  pub gets_nodes : (r : Option V) → CacheGets eq old new k r → node_count new.map ≡ node_count old.map
-  gets_nodes r s = moves_nodes eq old.map new.map k (length old.map.entries) r s.map
 
 -- ---- a use
 

@@ -1,7 +1,7 @@
 -- What a cache holds after its steps.
 use Rattle.std.proofs.Common.{◌≡◌, ℕ, suc, ◌+◌, ◌-◌, ◌≤◌, ◌<◌, Bool, true, false, min, List, [], ◌∷◌, ◌++◌}
-use Rattle.std.proofs.Common.{length, drop, take, unwrap_or, Some, refl, sym, ap, arith, zero, length-drop}
-use Rattle.std.proofs.Common.{lt-ltb, le-ltb, take-append-drop, None, ◌∙◌}
+use Rattle.std.proofs.Common.{length, drop, take, Some, refl, sym, ap, arith, zero, length-drop, lt-ltb}
+use Rattle.std.proofs.Common.{le-ltb, take-append-drop, None}
 use Rattle.std.specs.Cmp.{IsEquivalence}
 use Rattle.std.specs.Map.{lookup, lookup_entry}
 use Rattle.std.proofs.lemmas.Bool.{cases_lt}
@@ -10,9 +10,8 @@ use Rattle.hashlink_model.specs.Cache.{front_evicted, last_entries, cache_put, c
 use Rattle.hashlink_model.specs.Cache.{cache_use}
 use Rattle.hashlink_model.proofs.Distinct.{IsEntries-tail}
 use Rattle.hashlink_model.proofs.Puts.{IsEntries-put}
-use Rattle.hashlink_model.proofs.Finds.{lookup-equal}
 use Rattle.hashlink_model.proofs.Afterwards.{length-put, length-put_absent, length-put_there, length-moved}
-use Rattle.hashlink_model.proofs.Afterwards.{lookup-moved, lookup_entry-put_other, IsEntries-moved, moved_is}
+use Rattle.hashlink_model.proofs.Afterwards.{IsEntries-moved}
 use Rattle.hashlink_model.proofs.Remaining.{lookup-put_remaining, lookup_entry-put_remaining}
 use Rattle.std.proofs.lemmas.Bool.Decides.{nat_tests}
 use Rattle.std.specs.Option.{option_map_or}
@@ -50,10 +49,6 @@ module _ {K V : Type 0} where
   IsEntries-drop eq zero es d = d
   IsEntries-drop eq (suc n) [] d = d
   IsEntries-drop eq (suc n) (e ∷ es) d = IsEntries-drop eq n es (IsEntries-tail eq e es d)
-
-  pub IsEntries-front_evicted : (eq : K → K → Bool) (es : List (K × V)) (cap : ℕ) → IsEntries eq es
-      → IsEntries eq (front_evicted es cap)
-  IsEntries-front_evicted eq es cap d = grind (arith, d, IsEntries-drop eq 1 es d)
 
   -- ---- the cache's insert
 
@@ -139,27 +134,7 @@ module _ {K V : Type 0} (eq : K → K → Bool) (laws : IsEquivalence eq) where
 
   -- ---- a use: of a key that is there a move, of any other an insert
 
-  pub IsEntries-cache_get : (es : List (K × V)) (k : K) → IsEntries eq es → IsEntries eq (cache_get eq es k)
-  IsEntries-cache_get es k d = IsEntries-moved eq laws es k (length es) d
-
   pub IsEntries-cache_use : (es : List (K × V)) (cap : ℕ) (k : K) (v : V) → IsEntries eq es
       → IsEntries eq (cache_use eq es cap k v)
   IsEntries-cache_use es cap k v d =
-      grind (arith, IsEntries-cache_put eq laws es cap k v d, IsEntries-cache_get es k d)
-
-  pub lookup-cache_use : (q : K) (es : List (K × V)) (cap : ℕ) (k : K) (v : V) → IsEntries eq es → 1 ≤ cap
-      → eq k q ≡ true → lookup (eq q) (cache_use eq es cap k v) ≡ Some (unwrap_or (lookup (eq k) es) v)
-  lookup-cache_use q es cap k v d c t =
-      elim (lookup (eq k) es) as (λ o. lookup (eq k) es ≡ o → lookup (eq q)
-      (option_map_or (λ w. cache_get eq es k) o (cache_put eq es cap k v)) ≡ Some (unwrap_or o v)) [
-        | None ↦ λ l. lookup-cache_put q es cap k v d c t
-        | Some w ↦ λ l. lookup-moved eq laws q es k (length es) d ∙ sym (lookup-equal eq laws k q es t) ∙ l
-      ] refl
-
-  pub lookup_entry-cache_use : (q : K) (es : List (K × V)) (cap : ℕ) (k : K) (v : V) (e : K × V)
-      → IsEntries eq es → eq k q ≡ false → lookup_entry (eq q) (cache_use eq es cap k v) ≡ Some e
-      → lookup_entry (eq q) es ≡ Some e
-  lookup_entry-cache_use q es cap k v e d t f =
-      let apart : (w : V) → lookup_entry (eq q) (put eq es k w (length es)) ≡ lookup_entry (eq q) es
-      = λ w. lookup_entry-put_other eq laws q es k w (length es) d t in
-      grind (arith, lookup_entry-cache_put q es cap k v e d t, apart, moved_is eq es k (length es))
+      grind (arith, IsEntries-cache_put eq laws es cap k v d, IsEntries-moved eq laws es k (length es) d)

@@ -1,14 +1,13 @@
 -- What follows from the steps between two states of a map.
-use Rattle.std.proofs.Common.{◌≡◌, ℕ, max, sym, List, length, Bool}
-use Rattle.std.proofs.Common.{Option, None, Some, Result, Ok, Err, ap, ◌∙◌, arith}
+use Rattle.std.proofs.Common.{◌≡◌, ℕ, max, sym, List, length, Bool, Option, None, Some, Result, Ok, Err, ap}
+use Rattle.std.proofs.Common.{◌∙◌, arith}
 use Rattle.std.specs.Map.{set_value}
 use Rattle.std.proofs.lemmas.Map.{length-set_value}
 use Rattle.hashlink_model.specs.Entries.{put, moved}
-use Rattle.hashlink_model.specs.MapState.{MapState, node_count, HasRoom, Changes, Adds, Removes}
-use Rattle.hashlink_model.specs.MapState.{PutsEntry, Inserts}
+use Rattle.hashlink_model.specs.MapState.{MapState, node_count, HasRoom, Changes, Adds, Removes, PutsEntry}
+use Rattle.hashlink_model.specs.MapState.{Inserts}
 use Rattle.hashlink_model.specs.Steps.{KeepsOnly, WritesEntry, Moves, MovesMatch, Shrinks}
-use Rattle.hashlink_model.proofs.Afterwards.{length-put_there, length-moved, moved-absent}
-use Rattle.hashlink_model.proofs.Afterwards.{length-moved_match}
+use Rattle.hashlink_model.proofs.Afterwards.{length-put_there, length-moved, moved-absent, length-moved_match}
 
 module _ {K V S : Type 0} (old new : MapState K V S) where
   pub node_count-adds : (es : List (K × V)) → Adds old new es

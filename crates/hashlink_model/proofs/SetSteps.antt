@@ -18,8 +18,8 @@ use Rattle.hashlink_model.proofs.Puts.{IsEntries-put}
 use Rattle.hashlink_model.proofs.Afterwards.{length-put_absent, length-put_there}
 use Rattle.hashlink_model.proofs.Places.{split_at}
 use Rattle.hashlink_model.proofs.Members.{is_member-equal, is_member-append, none_from_is_member}
-use Rattle.hashlink_model.proofs.SetViews.{keys_of-pairs_of}
 use Rattle.hashlink_model.proofs.Members.{is_member_from_none}
+use Rattle.hashlink_model.proofs.SetViews.{keys_of-pairs_of}
 use Rattle.std.proofs.lemmas.Map.Keys.{IsDistinct-push}
 
 module _ {T : Type 0} (eq : T → T → Bool) where
