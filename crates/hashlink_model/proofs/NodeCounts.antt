@@ -1,24 +1,16 @@
 -- What follows from the steps between two states of a map.
-use Rattle.std.proofs.Common.{◌≡◌, ℕ, max, sym, List, length, Bool, Option, None, Some, Result, Ok, Err, ap}
-use Rattle.std.proofs.Common.{◌∙◌, arith}
+use Rattle.std.proofs.Common.{◌≡◌, ℕ, sym, List, length, Bool, Option, None, Some, Result, Ok, Err, ap, ◌∙◌}
+use Rattle.std.proofs.Common.{arith}
 use Rattle.std.specs.Map.{set_value}
 use Rattle.std.proofs.lemmas.Map.{length-set_value}
 use Rattle.hashlink_model.specs.Entries.{put, moved}
-use Rattle.hashlink_model.specs.MapState.{MapState, node_count, HasRoom, Changes, Adds, Removes, PutsEntry}
-use Rattle.hashlink_model.specs.MapState.{Inserts}
+use Rattle.hashlink_model.specs.MapState.{MapState, node_count, HasRoom, Changes, Removes, PutsEntry, Inserts}
 use Rattle.hashlink_model.specs.Steps.{KeepsOnly, WritesEntry, Moves, MovesMatch, Shrinks}
 use Rattle.hashlink_model.proofs.Afterwards.{length-put_there, length-moved, moved-absent, length-moved_match}
 
 module _ {K V S : Type 0} (old new : MapState K V S) where
-  pub node_count-adds : (es : List (K × V)) → Adds old new es
-      → node_count new ≡ max (node_count old) (length new.entries)
-  node_count-adds es s = omega (arith, ap length s.entries)
-
   pub node_count-removes : (es : List (K × V)) → Removes old new es → node_count new ≡ node_count old
   node_count-removes es s = omega (arith, ap length s.entries)
-
-  pub node_count-keeps : (es : List (K × V)) → KeepsOnly old new es → node_count new ≡ node_count old
-  node_count-keeps es s = omega (arith, ap length s.entries)
 
   pub node_count-changes : (es : List (K × V)) (most : ℕ) → Changes old new es most → length es
       ≡ length old.entries → node_count new ≡ node_count old

@@ -1,26 +1,18 @@
 -- The first and the last entry taken out, and cursors and entries of a map's state.
 use Rattle.std.proofs.Common.{◌≡◌, ℕ, ◌+◌, ◌≤◌, Bool, List, [], ◌∷◌, ◌++◌, length, None, Some, Err, refl, sym}
-use Rattle.std.proofs.Common.{ap, ◌∙◌, subst, append-nil, arith}
+use Rattle.std.proofs.Common.{ap, ◌∙◌, subst, arith}
 use Rattle.std.specs.Cmp.{IsEquivalence}
 use Rattle.std.specs.Map.{lookup}
-use Rattle.hashlink_model.specs.Entries.{IsEntries, without, place_of}
+use Rattle.hashlink_model.specs.Entries.{IsEntries, place_of}
 use Rattle.hashlink_model.specs.MapState.{MapState}
 use Rattle.std.specs.Map.Iter.{TakesFirst, TakesLast}
 use Rattle.hashlink_model.specs.Steps.{PopsFront, PopsBack}
 use Rattle.hashlink_model.specs.Walk.{after_first_of, before_last_of}
 use Rattle.hashlink_model.proofs.Walks.{takes_first, takes_last}
 use Rattle.hashlink_model.specs.Cursor.{CursorState, CursorInserts, place_kept}
-use Rattle.hashlink_model.proofs.Splits.{remove_entry-here}
-use Rattle.hashlink_model.proofs.Places.{none_before}
 use Rattle.hashlink_model.proofs.Cursors.{place_kept-same}
 
 module _ {K V : Type 0} (eq : K → K → Bool) (laws : IsEquivalence eq) where
-  pub without-last : (es : List (K × V)) (e : K × V) → IsEntries eq (es ++ e ∷ [])
-      → without eq (es ++ e ∷ []) e.0 ≡ es
-  without-last es e d =
-      remove_entry-here (eq e.0) e [] (laws.refl e.0) es (none_before eq laws es e [] e.0 d (laws.refl e.0))
-      ∙ append-nil es
-
   pub vacant : (k : K) (es : List (K × V)) → place_of (eq k) es ≡ None → lookup (eq k) es ≡ None
   vacant k [] p = refl
   vacant k (e ∷ es) p = grind (arith, vacant k es)
