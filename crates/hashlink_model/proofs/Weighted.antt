@@ -5,7 +5,6 @@ use Rattle.std.proofs.lemmas.List.{length-append}
 use Rattle.std.specs.Map.{lookup}
 use Rattle.hashlink_model.specs.Entries.{IsEntries, without, stored_key}
 use Rattle.hashlink_model.proofs.Distinct.{IsEntries-tail}
-use Rattle.std.specs.Cmp.{IsEquivalence}
 use Rattle.hashlink_model.proofs.Puts.{put_back}
 use Rattle.std.specs.Prelude.{Option}
 use Rattle.hashlink_model.specs.Weights.{WeightedState, WeightedInserts, total_weight, fitting, weighted_put}

@@ -1,4 +1,5 @@
-use Rattle.std.proofs.Common.{◌≡◌, ◌<◌, ◌+◌, ◌-◌, ◌∷◌, ◌++◌, ap, ◌∙◌, refl, le_refl, arith, length, length-append}
+use Rattle.std.proofs.Common.{◌≡◌, ◌<◌, ◌+◌, ◌-◌, ◌∷◌, ◌++◌, ap, ◌∙◌, refl, le_refl, arith, length}
+use Rattle.std.proofs.Common.{length-append}
 use Rattle.std.specs.Prelude.{insert}
 use Rattle.std.proofs.lemmas.List.Edits.{insert-append_right}
 use Rattle.hashlink_model.specs.Entries.{put}
