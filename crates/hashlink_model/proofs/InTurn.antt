@@ -1,6 +1,6 @@
 -- Many items in a row.
-use Rattle.std.proofs.Common.{◌≡◌, ℕ, ◌+◌, ◌-◌, ◌^◌, ◌≤◌, ◌<◌, Bool, List, [], ◌∷◌, ◌++◌, length, Option}
-use Rattle.std.proofs.Common.{None, Some, Result, Ok, ap, ◌∙◌, subst, arith, length-append}
+use Rattle.std.proofs.Common.{◌≡◌, ℕ, ◌+◌, ◌-◌, ◌≤◌, ◌<◌, Bool, List, [], ◌∷◌, ◌++◌, length, Option, None}
+use Rattle.std.proofs.Common.{Some, Result, Ok, ap, ◌∙◌, subst, arith, length-append}
 use Rattle.hashlink_model.specs.Entries.{put, extended}
 use Rattle.hashlink_model.specs.MapState.{MapState}
 use Rattle.hashlink_model.specs.Steps.{Drains}
@@ -43,9 +43,6 @@ module _ {K V S : Type 0} (eq : K → K → Bool) where
 
     pub stops_handed_back : back ≡ s.item
     stops_handed_back = s.refused.handed_back
-
-    pub stops_taken : (taken ≤ 2 ^ 64 - 1) × (length s.before < 2 ^ 64 → taken ≡ length s.before)
-    stops_taken = (omega arith, λ l. omega arith)
 
     -- only where the spare nodes are used up
     pub stops_late : old.spare < length items

@@ -5,29 +5,23 @@ use Rattle.std.proofs.Common.{true, cond, List, [], ◌∷◌, ◌++◌, length,
 use Rattle.std.proofs.Common.{ap₂, ◌∙◌, subst}
 use Rattle.std.specs.Cmp.{IsEquivalence}
 use Rattle.std.specs.Option.{option_map_or}
-use Rattle.std.specs.Map.{lookup, lookup_entry}
+use Rattle.std.specs.Map.{lookup_entry}
 use Rattle.std.proofs.lemmas.Map.{NonePasses}
 use Rattle.std.proofs.lemmas.List.{append-nil}
-use Rattle.hashlink_model.specs.Entries.{IsEntries, place_of, place_left, put, moved, moved_at, without}
+use Rattle.hashlink_model.specs.Entries.{IsEntries, place_of, place_left, put, moved_at, without}
 use Rattle.hashlink_model.specs.Entries.{set_value_at, set_key_at}
 use Rattle.hashlink_model.specs.Entry.{EntryState, IsEntry, IsRawEntry, raw_entry_of, insert_value}
-use Rattle.hashlink_model.specs.Entry.{insert_entry, or_insert, replace_entry}
+use Rattle.hashlink_model.specs.Entry.{insert_entry, replace_entry}
 use Rattle.hashlink_model.specs.MapState.{MapState}
 use Rattle.hashlink_model.proofs.Distinct.{none_equal, none_others, IsEntries-middle, IsEntries-insert}
-use Rattle.hashlink_model.proofs.Finds.{lookup_entry-middle, lookup_entry-without}
-use Rattle.hashlink_model.proofs.Puts.{none_without, IsEntries-without}
+use Rattle.hashlink_model.proofs.Finds.{lookup_entry-middle}
+use Rattle.hashlink_model.proofs.Puts.{none_without}
 use Rattle.hashlink_model.proofs.Places.{slice_get_here, split_at, place_of_its_key}
 use Rattle.hashlink_model.proofs.ByPlace.{set_value_at-here, set_key_at-here, remove-here, moved_at-last}
-use Rattle.hashlink_model.proofs.ByPlace.{moved_at-put, moved-there, remove-place, length-set_value_at}
+use Rattle.hashlink_model.proofs.ByPlace.{moved_at-put, remove-place, length-set_value_at}
 use Rattle.hashlink_model.proofs.Splits.{stands_from_place}
 
 module _ {K V : Type 0} where
-  pub or_insert-there : (eq : K → K → Bool) (es : List (K × V)) (k : K) (v w : V) → lookup (eq k) es ≡ Some w
-      → or_insert eq es k v ≡ moved eq es k (length es)
-  or_insert-there eq es k v w l =
-      ap (λ o. put eq es k (option_map_or (λ x. x) o v) (length es)) l
-      ∙ sym (moved-there eq es k (length es) w l)
-
   -- in a list taken apart at the entry
   pub replace_entry-here : (xs : List (K × V)) (e : K × V) (ys : List (K × V)) (h : K) (v : V)
       → replace_entry (xs ++ e ∷ ys) (length xs) h v ≡ xs ++ (h, v) ∷ ys
@@ -63,27 +57,11 @@ module _ {K V : Type 0} (eq : K → K → Bool) (laws : IsEquivalence eq) where
       (sym (remove-here s.0 e s.1) ∙ ap₂ remove (sym s.2) s.3
       ∙ remove-place (eq e.0) es j (place_of_its_key eq laws es j e e.0 d at (laws.refl e.0)))
 
-  none_last : (es : List (K × V)) (e : K × V) (h : K) → IsEntries eq es → eq h e.0 ≡ true
+  pub none_last : (es : List (K × V)) (e : K × V) (h : K) → IsEntries eq es → eq h e.0 ≡ true
       → NonePasses (eq h) (without eq es e.0 ++ [])
   none_last es e h d t =
       rw (append-nil (without eq es e.0))
       (none_equal eq laws e.0 h (without eq es e.0) (laws.symm e.0 h ∙ t) (none_without eq laws es e.0 d))
-
-  pub IsEntries-insert_entry : (es : List (K × V)) (j : ℕ) (e : K × V) (h : K) (v : V) → IsEntries eq es
-      → slice_get es j ≡ Some e → eq h e.0 ≡ true → IsEntries eq (insert_entry es j h v)
-  IsEntries-insert_entry es j e h v d at t =
-      rw (insert_entry-last es j e h v d at)
-      (IsEntries-insert eq laws (without eq es e.0) (h, v) [] (none_last es e h d t)
-      (rw (append-nil (without eq es e.0)) (IsEntries-without eq laws es e.0 d)))
-
-  pub lookup_entry-insert_entry : (q : K) (es : List (K × V)) (j : ℕ) (e : K × V) (h : K) (v : V)
-      → IsEntries eq es → slice_get es j ≡ Some e → eq h e.0 ≡ true
-      → lookup_entry (eq q) (insert_entry es j h v) ≡ cond (eq h q) (Some (h, v)) (lookup_entry (eq q) es)
-  lookup_entry-insert_entry q es j e h v d at t =
-      let last = ap (lookup_entry (eq q)) (insert_entry-last es j e h v d at) in
-      let found = lookup_entry-middle eq laws q (h, v) [] (without eq es e.0) (none_last es e h d t) in
-      let same = ap (lookup_entry (eq q)) (append-nil (without eq es e.0)) in
-      grind (arith, last, found, same, lookup_entry-without eq laws q e.0 es d, laws.congr h e.0 q t)
 
   -- ---- h in the place of e
 

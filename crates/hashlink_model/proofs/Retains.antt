@@ -10,7 +10,7 @@ use Rattle.std.proofs.lemmas.Map.{NonePasses}
 use Rattle.std.proofs.lemmas.Map.Keys.{IsDistinct-IsPermutation}
 use Rattle.std.proofs.lemmas.Map.Entries.{filter_from_retain_pairs}
 use Rattle.std.proofs.lemmas.List.Elements.{recursion_from_All, All-contains_itself, filter-append}
-use Rattle.std.proofs.lemmas.List.Sorted.{IsPermutation-map, Contains-permutation, IsPermutation-refl}
+use Rattle.std.proofs.lemmas.List.Sorted.{IsPermutation-map, Contains-permutation}
 use Rattle.std.proofs.lemmas.Option.{slice_get-get_or, none-some}
 use Rattle.hashlink_model.specs.Entries.{IsEntries}
 use Rattle.hashlink_model.specs.Retain.{KeepsInSomeOrder, KeepsInOrder, in_order_of}
@@ -165,17 +165,6 @@ module _ {F K V : Type 0} (T : F → K → V → Bool → V → F → Type 0) wh
         subst (λ zs. in_order_of eq (e ∷ es) zs ≡ zs) (sym r.6)
         (in_own_order_by e r.1 r.0 es r.3 n (none_kept (eq e.0) r.2 es r.3 g r.5 n)
         (in_own_order r.2 es r.3 g (IsEntries-tail eq e es d) r.5))
-
-    pub keeps_from_in_order : (f : F) (es new : List (K × V)) (g : F) → IsEntries eq es
-        → KeepsInOrder T f es new g → KeepsInSomeOrder T eq f es new g
-    keeps_from_in_order f es new g d r =
-        record {
-          order = es;
-          kept = new;
-          each_once = IsPermutation-refl es;
-          called = r;
-          entries = sym (in_own_order f es new g d r);
-        }
 
 -- ---- how the closure ends
 

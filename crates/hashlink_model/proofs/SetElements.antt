@@ -12,7 +12,7 @@ use Rattle.std.proofs.lemmas.Map.Entries.{length-keys_of}
 use Rattle.std.proofs.lemmas.Map.Made.{is_some-lookup}
 use Rattle.std.proofs.lemmas.Option.{slice_get-map}
 use Rattle.hashlink_model.specs.Compare.{entries_eq, elements_eq}
-use Rattle.hashlink_model.specs.Entries.{IsEntries, place_of, put, without, stored_key, extended, set_key_at}
+use Rattle.hashlink_model.specs.Entries.{IsEntries, place_of, without, stored_key, extended, set_key_at}
 use Rattle.hashlink_model.specs.MapState.{Inserts}
 use Rattle.hashlink_model.specs.Steps.{RemovesKey, Moves, PopsFront, PopsBack}
 use Rattle.hashlink_model.specs.Sets.{SetState, elements_of, pairs_of, put_element, replaced, stored_element}
@@ -20,8 +20,7 @@ use Rattle.hashlink_model.specs.Sets.{SetInserts, SetReplaces}
 use Rattle.hashlink_model.proofs.Splits.{stands_from_place, remove_entry-none, none_from_lookup}
 use Rattle.hashlink_model.proofs.Splits.{lookup_entry-none}
 use Rattle.hashlink_model.proofs.Finds.{lookup_is, lookup_key_is}
-use Rattle.hashlink_model.proofs.Puts.{put_back, put_front, put_back_absent}
-use Rattle.hashlink_model.proofs.Afterwards.{put_back_twice, put_front_twice}
+use Rattle.hashlink_model.proofs.Puts.{put_back, put_back_absent}
 use Rattle.hashlink_model.proofs.Places.{place_of_its_key, slice_get-place_or_end}
 use Rattle.hashlink_model.proofs.ByPlace.{moved-there, set_key_at-here}
 use Rattle.hashlink_model.proofs.Pops.{pops_front, pops_back}
@@ -155,10 +154,10 @@ module _ {T S : Type 0} (old new : SetState T S) (e : T × Unit {0}) where
 -- ---- where an element is put
 
 module _ {T : Type 0} (eq : T → T → Bool) where
-  removed_pairs : (ts : List T) (t : T) → keys_of (without eq (pairs_of ts) t) ≡ remove_key (eq t) ts
+  pub removed_pairs : (ts : List T) (t : T) → keys_of (without eq (pairs_of ts) t) ≡ remove_key (eq t) ts
   removed_pairs ts t = keys-remove_entry (eq t) (pairs_of ts) ∙ ap (remove_key (eq t)) (keys_of-pairs_of ts)
 
-  stored_pairs : (ts : List T) (t : T) → stored_key eq (pairs_of ts) t ≡ stored_element eq ts t
+  pub stored_pairs : (ts : List T) (t : T) → stored_key eq (pairs_of ts) t ≡ stored_element eq ts t
   stored_pairs ts t = ap (λ o. unwrap_or o t) (find-keys (eq t) (pairs_of ts) ∙ ap (find (eq t))
       (keys_of-pairs_of ts))
 
@@ -169,14 +168,8 @@ module _ {T : Type 0} (eq : T → T → Bool) where
       ∙ map-append (λ e. e.0) (without eq (pairs_of ts) t) ((stored_key eq (pairs_of ts) t, tt) ∷ [])
       ∙ ap₂ (λ xs x. xs ++ x ∷ []) (removed_pairs ts t) (stored_pairs ts t)
 
-  pub put_element_front : (ts : List T) (t : T) → put_element eq ts t 0
-      ≡ stored_element eq ts t ∷ remove_key (eq t) ts
-  put_element_front ts t =
-      ap keys_of (put_front eq (pairs_of ts) t tt)
-      ∙ ap₂ (λ x xs. x ∷ xs) (stored_pairs ts t) (removed_pairs ts t)
-
   module _ (laws : IsEquivalence eq) where
-    entries_of_pairs : (ts : List T) → IsDistinct eq ts → IsEntries eq (pairs_of ts)
+    pub entries_of_pairs : (ts : List T) → IsDistinct eq ts → IsEntries eq (pairs_of ts)
     entries_of_pairs ts d = subst (IsDistinct eq) (sym (keys_of-pairs_of ts)) d
 
     -- an element that stands at j, or is put directly behind itself
@@ -185,27 +178,6 @@ module _ {T : Type 0} (eq : T → T → Bool) where
     place_in_pairs ts j x t d at e =
         place_of_its_key eq laws (pairs_of ts) j (x, tt) t (entries_of_pairs ts d)
         (slice_get-map (λ u. (u, tt)) ts j ∙ ap (option_map (λ u. (u, tt))) at) e
-
-    -- the pairs of what is put are the entries that are put
-    pairs-put : (ts : List T) (t : T) (b : ℕ) → pairs_of (put_element eq ts t b) ≡ put eq (pairs_of ts) t tt b
-    pairs-put ts t b = pairs_of-keys_of (put eq (pairs_of ts) t tt b)
-
-    pub put_element_back_twice : (ts : List T) (t : T) → IsDistinct eq ts
-        → put_element eq (put_element eq ts t (length ts)) t (length (put_element eq ts t (length ts)))
-        ≡ put_element eq ts t (length ts)
-    put_element_back_twice ts t d =
-        let zs = put eq (pairs_of ts) t tt (length (pairs_of ts)) in
-        let same : put_element eq ts t (length ts)
-        ≡ keys_of zs = ap (put_element eq ts t) (sym (length_pairs_of eq ts)) in
-        ap (λ us. put_element eq us t (length us)) same
-        ∙ ap₂ (λ es n. keys_of (put eq es t tt n)) (pairs_of-keys_of zs) (length-keys_of zs)
-        ∙ ap keys_of (put_back_twice eq laws (pairs_of ts) t tt tt (entries_of_pairs ts d)) ∙ sym same
-
-    pub put_element_front_twice : (ts : List T) (t : T) → IsDistinct eq ts
-        → put_element eq (put_element eq ts t 0) t 0 ≡ put_element eq ts t 0
-    put_element_front_twice ts t d =
-        ap (λ es. keys_of (put eq es t tt 0)) (pairs-put ts t 0)
-        ∙ ap keys_of (put_front_twice eq laws (pairs_of ts) t tt tt (entries_of_pairs ts d))
 
     -- ---- many elements
 
