@@ -4,7 +4,7 @@ use Rattle.std.proofs.Common.{Err, ap, arith}
 use Rattle.std.proofs.lemmas.Map.{length-set_value}
 use Rattle.hashlink_model.specs.Entries.{put}
 use Rattle.hashlink_model.specs.MapState.{StoresAtMost, node_count}
-use Rattle.hashlink_model.specs.Steps.{Clears, RemovesKey, RemovesMatch, PopsFront, PopsBack}
+use Rattle.hashlink_model.specs.Steps.{Clears, RemovesKey, RemovesMatch, PopsFront}
 use Rattle.hashlink_model.specs.Cache.{CacheState, OnMap, IsWithin, HasNodeToSpare, CacheInserts, CacheGets}
 use Rattle.hashlink_model.specs.Cache.{SetsCapacity, CacheGetsMatch, CacheGetsMatchAndWrites}
 use Rattle.hashlink_model.proofs.Afterwards.{length-put_there, length-moved_match, length-put_absent}
@@ -31,11 +31,6 @@ module _ {K V S : Type 0} (old new : CacheState K V S) (n : ℕ) where
       → IsWithin new n
   within-pops_front None s w = omega (arith, ap (λ m. length m.entries) s.map.step)
   within-pops_front (Some e) s w = omega (arith, ap length s.map.step.entries)
-
-  pub within-pops_back : (r : Option (K × V)) → OnMap (λ a b. PopsBack a b r) old new → IsWithin old n
-      → IsWithin new n
-  within-pops_back None s w = omega (arith, ap (λ m. length m.entries) s.map.step)
-  within-pops_back (Some e) s w = omega (arith, ap length s.map.step.entries)
 
   -- a capacity that is set is kept from then on
   pub within-sets : (cap : ℕ) → SetsCapacity old new cap → IsWithin new 0

@@ -1,14 +1,13 @@
 -- Where a cursor stands after a move, and after an insert.
-use Rattle.std.proofs.Common.{◌≡◌, inl, inr, ℕ, ◌+◌, ◌≤◌, ◌<◌, Bool, List, [], ◌∷◌, length, refl, ap, ◌∙◌}
-use Rattle.std.proofs.Common.{arith, mod-eq_of_lt, le_refl, ◌%◌, zero, suc}
+use Rattle.std.proofs.Common.{◌≡◌, inl, inr, ℕ, ◌+◌, ◌≤◌, ◌<◌, Bool, List, [], ◌∷◌, length, refl, arith}
+use Rattle.std.proofs.Common.{mod-eq_of_lt, le_refl}
 use Rattle.std.specs.Prelude.{unwrap_or}
 use Rattle.std.specs.Cmp.{IsEquivalence}
-use Rattle.std.proofs.Math.Nat.{mod_self, add-mod_right}
+use Rattle.std.proofs.Math.Nat.{mod_self}
 use Rattle.std.proofs.lemmas.Option.{slice_get_cases}
 use Rattle.hashlink_model.specs.Entries.{IsEntries, place_of}
-use Rattle.hashlink_model.specs.Cursor.{place_kept, following_place, preceding_place}
+use Rattle.hashlink_model.specs.Cursor.{place_kept, following_place}
 use Rattle.hashlink_model.proofs.Places.{place_of_its_key}
-use Rattle.std.proofs.lemmas.Bool.{cases_lt}
 
 -- ---- moves
 
@@ -17,29 +16,6 @@ following_place-within n i l = let below : i + 1 < n + 1 = omega arith in mod-eq
 
 pub following_place-guard : (n : ℕ) → following_place n n ≡ 0
 following_place-guard n = mod_self (n + 1)
-
-pub preceding_place-within : (n i : ℕ) → i < n → preceding_place n (i + 1) ≡ i
-preceding_place-within n i l =
-    let below : i < n + 1 = omega arith in
-    let turn : i + 1 + n ≡ i + (n + 1) = omega arith in
-    ap (λ m. m % (n + 1)) turn ∙ add-mod_right i (n + 1) ∙ mod-eq_of_lt below
-
-pub preceding_place-first : (n : ℕ) → preceding_place n 0 ≡ n
-preceding_place-first n = let below : 0 + n < n + 1 = omega arith in mod-eq_of_lt below ∙ omega arith
-
--- a move on and one back lead to where it was, and so do one back and one on
-pub back_from_following : (n i : ℕ) → i ≤ n → preceding_place n (following_place n i) ≡ i
-back_from_following n i m = elim (cases_lt i n) [
-  | inl l ↦ rw (following_place-within n i l) (preceding_place-within n i l)
-  | inr l ↦ (let same : i ≡ n = omega arith in rw (same, following_place-guard n) (preceding_place-first n))
-]
-
-pub on_from_preceding : (n i : ℕ) → i ≤ n → following_place n (preceding_place n i) ≡ i
-on_from_preceding n zero m = rw (preceding_place-first n) (following_place-guard n)
-on_from_preceding n (suc i) m =
-    let below : i < n = omega arith in
-    let one : suc i ≡ i + 1 = omega arith in
-    rw (one, preceding_place-within n i below) (following_place-within n i below)
 
 module _ {K V : Type 0} (eq : K → K → Bool) (laws : IsEquivalence eq) where
   -- where the list stays, the cursor stays

@@ -41,9 +41,6 @@ module _ {K V S : Type 0} (eq : K → K → Bool) where
     pub stops_entries : new.entries ≡ extended eq old.entries s.before
     stops_entries = s.refused.grows.entries ∙ accepts_entries old s.between s.before s.accepted
 
-    pub stops_handed_back : back ≡ s.item
-    stops_handed_back = s.refused.handed_back
-
     -- only where the spare nodes are used up
     pub stops_late : old.spare < length items
     stops_late =

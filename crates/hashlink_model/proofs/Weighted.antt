@@ -2,13 +2,12 @@
 use Rattle.std.proofs.Common.{◌≡◌, ℕ, ◌≤◌, Bool, true, false, cond, List, [], ◌∷◌, ◌++◌, length, nat_le, refl}
 use Rattle.std.proofs.Common.{◌∙◌, ap, arith, le_refl, zero-le, le-leb}
 use Rattle.std.proofs.lemmas.List.{length-append}
-use Rattle.std.specs.Map.{lookup}
 use Rattle.hashlink_model.specs.Entries.{IsEntries, without, stored_key}
 use Rattle.hashlink_model.proofs.Distinct.{IsEntries-tail}
 use Rattle.hashlink_model.proofs.Puts.{put_back}
 use Rattle.std.specs.Prelude.{Option}
 use Rattle.hashlink_model.specs.Weights.{WeightedState, WeightedInserts, total_weight, fitting, weighted_put}
-use Rattle.hashlink_model.proofs.CacheSteps.{put_entries, put_answer}
+use Rattle.hashlink_model.proofs.CacheSteps.{put_entries}
 use Rattle.std.proofs.lemmas.Bool.Decides.{nat_tests}
 
 module _ {K V : Type 0} where
@@ -62,9 +61,6 @@ module _ {K V S : Type 0} (eq : K → K → Bool) (old new : WeightedState K V S
   weighted_entries s =
       s.keeps.entries ∙ ap (λ es. fitting es old.budget)
       (put_entries eq old.map s.between k (v, weight) w s.inserts)
-
-  pub weighted_answer : WeightedInserts eq old new k v weight w → w ≡ lookup (eq k) old.map.entries
-  weighted_answer s = put_answer eq old.map s.between k (v, weight) w s.inserts
 
   pub weighted_total : WeightedInserts eq old new k v weight w → total_weight new.map.entries ≤ new.budget
   weighted_total s = omega (arith, ap total_weight s.keeps.entries, fitting-fits s.between.entries old.budget)
