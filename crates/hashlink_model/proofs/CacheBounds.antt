@@ -1,18 +1,17 @@
--- How long a cache is after its calls, which of them is never refused, and how many links they store.
-use Rattle.std.proofs.Common.{◌≡◌, ℕ, ◌+◌, ◌-◌, ◌*◌, ◌≤◌, ◌<◌, Bool, length, Option, None, Some, Result, Ok}
-use Rattle.std.proofs.Common.{Err, ap, arith}
+-- How long a cache is after its calls, and which of them is never refused.
+use Rattle.std.proofs.Common.{◌≡◌, ℕ, ◌-◌, ◌≤◌, ◌<◌, Bool, length, Option, None, Some, Result, Ok, Err, ap}
+use Rattle.std.proofs.Common.{arith}
 use Rattle.std.proofs.lemmas.Map.{length-set_value}
 use Rattle.hashlink_model.specs.Entries.{put}
-use Rattle.hashlink_model.specs.MapState.{StoresAtMost, node_count}
+use Rattle.hashlink_model.specs.MapState.{node_count}
 use Rattle.hashlink_model.specs.Steps.{Clears, RemovesKey, RemovesMatch, PopsFront}
 use Rattle.hashlink_model.specs.Cache.{CacheState, OnMap, IsWithin, HasNodeToSpare, CacheInserts, CacheGets}
 use Rattle.hashlink_model.specs.Cache.{SetsCapacity, CacheGetsMatch, CacheGetsMatchAndWrites}
-use Rattle.hashlink_model.proofs.Afterwards.{length-put_there, length-moved_match, length-put_absent}
+use Rattle.hashlink_model.proofs.Afterwards.{length-moved_match}
 use Rattle.hashlink_model.proofs.Caches.{length-last_entries, cache_put-at_most}
 use Rattle.hashlink_model.proofs.CacheSteps.{put_entries, inserts_entries}
 use Rattle.hashlink_model.proofs.NodeCounts.{moves_match_length}
 use Rattle.hashlink_model.proofs.KeptNodes.{kept-inserts}
-use Rattle.std.specs.Option.{option_map_or}
 
 -- ---- a bound of the capacity and n more
 
@@ -92,23 +91,3 @@ module _ {K V S : Type 0} (old new : CacheState K V S) where
         let left = ap length s.map.fits.entries in
         record { beyond = omega arith; spare = omega arith }
     to_spare-inserts (Err pair) s h = absurd (omega arith)
-
--- ---- stored links: four for a new key, six for one that is there, and three for each entry that is dropped
-
-pub links-put : {K V S : Type 0} (eq : K → K → Bool) (old new : CacheState K V S) (k : K) (v : V)
-    (w : Option V) → CacheInserts eq old new k v (Ok w)
-    → StoresAtMost (option_map_or (λ _. 6 + 3 * (length old.map.entries - old.cap)) w
-    (4 + 3 * (length old.map.entries + 1 - old.cap))) old.map.link_writes new.map.link_writes
-links-put eq old new k v None s =
-    let same = ap length s.map.inserts.adds.entries in
-    let long = length-put_absent eq old.map.entries k v (length old.map.entries) s.map.inserts.absent in
-    let few = length-last_entries s.map.between.entries old.cap in
-    record { grows = omega arith; bound = omega arith }
-links-put eq old new k v (Some w) s =
-    let same = ap length s.map.inserts.puts.entries in
-    let long = length-put_there eq old.map.entries k v (length old.map.entries) w s.map.inserts.old_value in
-    let few = length-last_entries s.map.between.entries old.cap in
-    record { grows = omega arith; bound = omega arith }
-
-pub store_more : (m n a b : ℕ) → m ≤ n → StoresAtMost m a b → StoresAtMost n a b
-store_more m n a b l s = record { grows = s.grows; bound = omega arith }
