@@ -5,9 +5,9 @@ use Rattle.std.specs.Prelude.{insert, remove}
 use Rattle.std.specs.Option.{option_map_or}
 use Rattle.std.specs.Map.{keys_of, lookup, remove_entry, set_value}
 use Rattle.std.proofs.lemmas.List.Edits.{insert_end}
+use Rattle.std.proofs.lemmas.Option.{none-some}
 use Rattle.hashlink_model.specs.Entries.{place_of, place_left, moved_at, set_value_at, set_key_at, put, moved}
-use Rattle.hashlink_model.proofs.Splits.{stands_from_place, stands_from_lookup, set_value-here}
-use Rattle.hashlink_model.proofs.Splits.{remove_entry-here, lookup-here, place_of-here}
+use Rattle.hashlink_model.proofs.Splits.{stands_from_place, stands_from_lookup, lookup-here, place_of-here}
 use Rattle.hashlink_model.proofs.Puts.{put-here}
 use Rattle.hashlink_model.proofs.Places.{slice_get_here}
 
@@ -57,18 +57,15 @@ module _ {K V : Type 0} where
 
   pub set_value_at-place : (test : K → Bool) (es : List (K × V)) (j : ℕ) (w : V) → place_of test es ≡ Some j
       → set_value_at es j w ≡ set_value test es w
-  set_value_at-place test es j w p =
-      let s = stands_from_place test es j p in
-      ap₂ (λ zs n. set_value_at zs n w) s.3.is (sym s.4) ∙ set_value_at-here s.0 s.1 s.2 w
-      ∙ sym (set_value-here test s.1 s.2 s.3.passes w s.0 s.3.before)
-      ∙ ap (λ zs. set_value test zs w) (sym s.3.is)
+  set_value_at-place test [] j w p = refl
+  set_value_at-place test (e ∷ es) zero w p = grind (arith, p)
+  set_value_at-place test (e ∷ es) (suc j) w p = grind (arith, p, set_value_at-place test es j w)
 
   pub remove-place : (test : K → Bool) (es : List (K × V)) (j : ℕ) → place_of test es ≡ Some j
       → remove es j ≡ remove_entry test es
-  remove-place test es j p =
-      let s = stands_from_place test es j p in
-      ap₂ remove s.3.is (sym s.4) ∙ remove-here s.0 s.1 s.2
-      ∙ sym (remove_entry-here test s.1 s.2 s.3.passes s.0 s.3.before) ∙ ap (remove_entry test) (sym s.3.is)
+  remove-place test [] j p = absurd (none-some j p)
+  remove-place test (e ∷ es) zero p = grind (arith, p)
+  remove-place test (e ∷ es) (suc j) p = grind (arith, p, remove-place test es j)
 
   module _ (eq : K → K → Bool) (es : List (K × V)) (k : K) (j : ℕ) (p : place_of (eq k) es ≡ Some j) where
     -- moved with a new value it is put

@@ -1,20 +1,18 @@
 -- What a cache holds after its steps.
 use Rattle.std.proofs.Common.{◌≡◌, ℕ, suc, ◌+◌, ◌-◌, ◌≤◌, ◌<◌, Bool, true, false, min, List, [], ◌∷◌, ◌++◌}
 use Rattle.std.proofs.Common.{length, drop, take, Some, refl, sym, ap, arith, zero, length-drop, lt-ltb}
-use Rattle.std.proofs.Common.{le-ltb, take-append-drop, None}
+use Rattle.std.proofs.Common.{le-ltb, take-append-drop}
 use Rattle.std.specs.Cmp.{IsEquivalence}
 use Rattle.std.specs.Map.{lookup, lookup_entry}
 use Rattle.std.proofs.lemmas.Bool.{cases_lt}
 use Rattle.hashlink_model.specs.Entries.{IsEntries, put}
-use Rattle.hashlink_model.specs.Cache.{front_evicted, last_entries, cache_put, cache_get, cache_extended}
-use Rattle.hashlink_model.specs.Cache.{cache_use}
+use Rattle.hashlink_model.specs.Cache.{front_evicted, last_entries, cache_put, cache_extended, cache_use}
 use Rattle.hashlink_model.proofs.Distinct.{IsEntries-tail}
 use Rattle.hashlink_model.proofs.Puts.{IsEntries-put}
 use Rattle.hashlink_model.proofs.Afterwards.{length-put, length-put_absent, length-put_there, length-moved}
 use Rattle.hashlink_model.proofs.Afterwards.{IsEntries-moved}
 use Rattle.hashlink_model.proofs.Remaining.{lookup-put_remaining, lookup_entry-put_remaining}
 use Rattle.std.proofs.lemmas.Bool.Decides.{nat_tests}
-use Rattle.std.specs.Option.{option_map_or}
 
 module _ {K V : Type 0} where
   pub front_evicted-within : (es : List (K × V)) (cap : ℕ) → length es ≤ cap → front_evicted es cap ≡ es
@@ -27,12 +25,6 @@ module _ {K V : Type 0} where
   pub front_evicted-at_most : (es : List (K × V)) (cap n : ℕ) → cap ≤ n → length es ≤ n + 1
       → length (front_evicted es cap) ≤ n
   front_evicted-at_most es cap n c m = grind (arith, nat_tests, length-drop 1 es)
-
-  -- where there is at most one entry too many, an eviction keeps the last ones
-  pub front_evicted-last_entries : (es : List (K × V)) (cap : ℕ) → length es ≤ cap + 1
-      → front_evicted es cap ≡ last_entries es cap
-  front_evicted-last_entries es cap m =
-      grind (arith, front_evicted-above es cap, front_evicted-within es cap, cases_lt cap (length es))
 
   pub length-last_entries : (es : List (K × V)) (n : ℕ) → length (last_entries es n) ≡ min n (length es)
   length-last_entries es n = let a = length-drop (length es - n) es in omega arith
@@ -73,8 +65,9 @@ module _ {K V : Type 0} where
   pub cache_put-evicts : (eq : K → K → Bool) (es : List (K × V)) (cap : ℕ) (k : K) (v : V) → length es ≤ cap
       → cache_put eq es cap k v ≡ front_evicted (put eq es k v (length es)) cap
   cache_put-evicts eq es cap k v l =
-      let g = put_grown eq es k v in sym
-      (front_evicted-last_entries (put eq es k v (length es)) cap (omega arith))
+      let zs = put eq es k v (length es) in
+      let tests = cases_lt cap (length zs) in
+      grind (arith, put_grown eq es k v, front_evicted-above zs cap, front_evicted-within zs cap, tests)
 
   pub IsEntries-cache_put : (eq : K → K → Bool) → IsEquivalence eq
       → (es : List (K × V)) (cap : ℕ) (k : K) (v : V) → IsEntries eq es
@@ -94,11 +87,8 @@ module _ {K V : Type 0} where
 
   pub cache_use-at_most : (eq : K → K → Bool) (es : List (K × V)) (cap n : ℕ) (k : K) (v : V) → cap ≤ n
       → length es ≤ n → length (cache_use eq es cap k v) ≤ n
-  cache_use-at_most eq es cap n k v c m = elim (lookup (eq k) es)
-      as (λ o. length (option_map_or (λ w. cache_get eq es k) o (cache_put eq es cap k v)) ≤ n) [
-        | None ↦ omega (arith, cache_put-at_most eq es cap k v)
-        | Some w ↦ omega (arith, length-moved eq es k (length es))
-      ]
+  cache_use-at_most eq es cap n k v c m =
+      grind (arith, cache_put-at_most eq es cap k v, length-moved eq es k (length es))
 
   pub IsEntries-cache_extended : (eq : K → K → Bool) → IsEquivalence eq
       → (es : List (K × V)) (cap : ℕ) (pairs : List (K × V)) → IsEntries eq es
@@ -110,19 +100,15 @@ module _ {K V : Type 0} where
 
   -- ---- look-ups after an insert
 
-  -- the last entries are some where there is a place
-  last_entries-some : (es : List (K × V)) (cap : ℕ) → 1 ≤ cap → 1 ≤ length es → 1
-      ≤ length (last_entries es cap)
-  last_entries-some es cap c m = let few = length-last_entries es cap in omega arith
-
 module _ {K V : Type 0} (eq : K → K → Bool) (laws : IsEquivalence eq) where
   pub lookup-cache_put : (q : K) (es : List (K × V)) (cap : ℕ) (k : K) (v : V) → IsEntries eq es → 1 ≤ cap
       → eq k q ≡ true → lookup (eq q) (cache_put eq es cap k v) ≡ Some v
   lookup-cache_put q es cap k v d c t =
       let zs = put eq es k v (length es) in
       let long = length-put eq es k v (length es) in
+      let few = length-last_entries zs cap in
       lookup-put_remaining eq laws q es k v (take (length zs - cap) zs) (last_entries zs cap) d
-      (sym (last_entries-end zs cap)) (last_entries-some zs cap c (omega arith)) t
+      (sym (last_entries-end zs cap)) (omega arith) t
 
   pub lookup_entry-cache_put : (q : K) (es : List (K × V)) (cap : ℕ) (k : K) (v : V) (e : K × V)
       → IsEntries eq es → eq k q ≡ false → lookup_entry (eq q) (cache_put eq es cap k v) ≡ Some e

@@ -1,6 +1,5 @@
 -- Where a cursor stands after a move, and after an insert.
-use Rattle.std.proofs.Common.{◌≡◌, inl, inr, ℕ, ◌+◌, ◌≤◌, ◌<◌, Bool, List, [], ◌∷◌, length, refl, arith}
-use Rattle.std.proofs.Common.{mod-eq_of_lt, le_refl}
+use Rattle.std.proofs.Common.{◌≡◌, inl, inr, ℕ, ◌+◌, ◌≤◌, Bool, List, [], ◌∷◌, length, refl, arith, le_refl}
 use Rattle.std.specs.Prelude.{unwrap_or}
 use Rattle.std.specs.Cmp.{IsEquivalence}
 use Rattle.std.proofs.Math.Nat.{mod_self}
@@ -10,9 +9,6 @@ use Rattle.hashlink_model.specs.Cursor.{place_kept, following_place}
 use Rattle.hashlink_model.proofs.Places.{place_of_its_key}
 
 -- ---- moves
-
-pub following_place-within : (n i : ℕ) → i < n → following_place n i ≡ i + 1
-following_place-within n i l = let below : i + 1 < n + 1 = omega arith in mod-eq_of_lt below
 
 pub following_place-guard : (n : ℕ) → following_place n n ≡ 0
 following_place-guard n = mod_self (n + 1)

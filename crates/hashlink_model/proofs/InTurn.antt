@@ -1,9 +1,10 @@
 -- Many items in a row.
 use Rattle.std.proofs.Common.{◌≡◌, ℕ, ◌+◌, ◌-◌, ◌≤◌, ◌<◌, Bool, List, [], ◌∷◌, ◌++◌, length, Option, None}
 use Rattle.std.proofs.Common.{Some, Result, Ok, ap, ◌∙◌, subst, arith, length-append}
-use Rattle.hashlink_model.specs.Entries.{put, extended}
+use Rattle.hashlink_model.specs.Entries.{extended}
 use Rattle.hashlink_model.specs.MapState.{MapState}
 use Rattle.hashlink_model.specs.Steps.{Drains}
+use Rattle.hashlink_model.proofs.CacheSteps.{put_entries}
 use Rattle.hashlink_model.specs.Many.{AcceptsAll, StopsAt, InsertsPair}
 
 module _ {State Item A : Type 0} (step : State → State → Item → Result A Item → Type 0) where
@@ -13,16 +14,11 @@ module _ {State Item A : Type 0} (step : State → State → Item → Result A I
   accepts_in_parts a b c (x ∷ xs) ys s t = (s.0, s.1, s.2, accepts_in_parts s.0 b c xs ys s.3 t)
 
 module _ {K V S : Type 0} (eq : K → K → Bool) where
-  inserted : (old new : MapState K V S) (p : K × V) (w : Option V) → InsertsPair eq old new p (Ok w)
-      → new.entries ≡ put eq old.entries p.0 p.1 (length old.entries)
-  inserted old new p None s = s.adds.entries
-  inserted old new p (Some v) s = s.puts.entries
-
   pub accepts_entries : (old new : MapState K V S) (items : List (K × V))
       → AcceptsAll (InsertsPair eq) old items new → new.entries ≡ extended eq old.entries items
   accepts_entries old new [] s = ap (λ m. m.entries) s
   accepts_entries old new (p ∷ items) s =
-      accepts_entries s.0 new items s.3 ∙ ap (λ es. extended eq es items) (inserted old s.0 p s.1 s.2)
+      accepts_entries s.0 new items s.3 ∙ ap (λ es. extended eq es items) (put_entries eq old s.0 p.0 p.1 s.1 s.2)
 
   -- each item uses one spare node at most
   spare_inserted : (old new : MapState K V S) (p : K × V) (w : Option V) → InsertsPair eq old new p (Ok w)

@@ -1,6 +1,6 @@
 -- What a lazy walk over two sets gives, and its size hints.
-use Rattle.std.proofs.Common.{◌≡◌, ◌+◌, ◌≤◌, Bool, true, false, cond, List, [], ◌∷◌, ◌++◌, length, filter}
-use Rattle.std.proofs.Common.{Option, None, Some, refl, ap, arith, length-append, le_refl}
+use Rattle.std.proofs.Common.{◌≡◌, ◌+◌, ◌≤◌, Bool, true, List, [], ◌∷◌, ◌++◌, length, filter, Option, None}
+use Rattle.std.proofs.Common.{Some, refl, ap, arith, length-append, le_refl}
 use Rattle.std.specs.Map.Iter.{TakesFirst}
 use Rattle.hashlink_model.specs.Algebra.{PairWalk, first_passing, left_to_give, left_or_right, pair_step}
 
@@ -12,10 +12,7 @@ module _ {T : Type 0} where
   pub first_passing-takes : (p : T → Bool) (xs : List T)
       → TakesFirst (λ y. y) (filter p xs) (first_passing p xs).0 (filter p (first_passing p xs).1)
   first_passing-takes p [] = (refl, refl)
-  first_passing-takes p (x ∷ xs) = elim (p x)
-      as (λ b. TakesFirst (λ y. y) (cond b (x ∷ filter p xs) (filter p xs))
-      (cond b (Some x, xs) (first_passing p xs)).0 (filter p (cond b (Some x, xs) (first_passing p xs)).1))
-      [ true ↦ refl | false ↦ first_passing-takes p xs ]
+  first_passing-takes p (x ∷ xs) = grind (arith, first_passing-takes p xs)
 
   step_by : (p q : T → Bool) (ls ys : List T) (o : Option T) (xs : List T)
       → TakesFirst (λ y. y) (filter p ls) o (filter p xs)

@@ -35,9 +35,7 @@ module _ {K V : Type 0} where
   pub none_filtered : (test : K → Bool) (p : K × V → Bool) (es : List (K × V)) → NonePasses test es
       → NonePasses test (filter p es)
   none_filtered test p [] n = tt
-  none_filtered test p (e ∷ es) n =
-      elim (p e) as (λ b. NonePasses test (cond b (e ∷ filter p es) (filter p es)))
-      [ true ↦ (n.0, none_filtered test p es n.1) | false ↦ none_filtered test p es n.1 ]
+  none_filtered test p (e ∷ es) n = grind (arith, n.0, none_filtered test p es n.1)
 
 module _ {K V : Type 0} (eq : K → K → Bool) (laws : IsEquivalence eq) where
   -- ---- keys stay pairwise unequal
@@ -127,11 +125,7 @@ module _ {F K V : Type 0} (T : F → K → V → Bool → V → F → Type 0) wh
   pub none_kept : (test : K → Bool) (f : F) (es new : List (K × V)) (g : F) → KeepsInOrder T f es new g
       → NonePasses test es → NonePasses test new
   none_kept test f [] new g r n = rw r.0 tt
-  none_kept test f (e ∷ es) new g r n = rw r.6 (by r.0 (none_kept test r.2 es r.3 g r.5 n.1))
-    where
-      by : (b : Bool) → NonePasses test r.3 → NonePasses test (cond b ((e.0, r.1) ∷ r.3) r.3)
-      by true h = (n.0, h)
-      by false h = h
+  none_kept test f (e ∷ es) new g r n = rw r.6 (grind (arith, n.0, none_kept test r.2 es r.3 g r.5 n.1))
 
   module _ (eq : K → K → Bool) (laws : IsEquivalence eq) where
     pub IsEntries-keeps_in_order : (f : F) (es new : List (K × V)) (g : F) → IsEntries eq es
@@ -150,21 +144,16 @@ module _ {F K V : Type 0} (T : F → K → V → Bool → V → F → Type 0) wh
     skip x (e ∷ es) kept a =
         ap₂ cons_option (ap (λ b. cond b (Some x) (lookup_entry (eq e.0) kept)) a.0) (skip x es kept a.1)
 
-    in_own_order_by : (e : K × V) (w : V) (b : Bool) (es rest : List (K × V)) → NonePasses (eq e.0) es
-        → NonePasses (eq e.0) rest → in_order_of eq es rest ≡ rest
-        → in_order_of eq (e ∷ es) (cond b ((e.0, w) ∷ rest) rest) ≡ cond b ((e.0, w) ∷ rest) rest
-    in_own_order_by e w b es rest n m h =
-        let skipped = skip (e.0, w) es rest (each-weaker _ _ (λ x a. laws.symm x.0 e.0 ∙ a) es n) in
-        grind (arith, skipped, lookup_entry-none (eq e.0) rest m, h, laws.refl e.0)
-
     pub in_own_order : (f : F) (es new : List (K × V)) (g : F) → IsEntries eq es → KeepsInOrder T f es new g
         → in_order_of eq es new ≡ new
     in_own_order f [] new g d r = sym r.0
     in_own_order f (e ∷ es) new g d r =
         let n = IsEntries-head eq e es d in
+        let m = none_kept (eq e.0) r.2 es r.3 g r.5 n in
+        let skipped = skip (e.0, r.1) es r.3 (each-weaker _ _ (λ x a. laws.symm x.0 e.0 ∙ a) es n) in
+        let rest = in_own_order r.2 es r.3 g (IsEntries-tail eq e es d) r.5 in
         subst (λ zs. in_order_of eq (e ∷ es) zs ≡ zs) (sym r.6)
-        (in_own_order_by e r.1 r.0 es r.3 n (none_kept (eq e.0) r.2 es r.3 g r.5 n)
-        (in_own_order r.2 es r.3 g (IsEntries-tail eq e es d) r.5))
+        (grind (arith, skipped, lookup_entry-none (eq e.0) r.3 m, rest, laws.refl e.0))
 
 -- ---- how the closure ends
 

@@ -1,13 +1,12 @@
 -- The elements of a set after the map's steps.
 use Rattle.std.proofs.Common.{◌≡◌, ℕ, Bool, true, false, not, cond, List, [], ◌∷◌, ◌++◌, length, filter, None}
 use Rattle.std.proofs.Common.{slice_get, is_some, Option, Some, Ok, Err, option_map, refl, unwrap_or, sym, ap}
-use Rattle.std.proofs.Common.{ap₂, ◌∙◌, subst, arith}
+use Rattle.std.proofs.Common.{ap₂, ◌∙◌, subst, arith, zero, suc}
 use Rattle.std.specs.Cmp.{IsEquivalence}
 use Rattle.std.specs.List.{IsDistinct, AllZip, find}
 use Rattle.std.specs.Map.{keys_of, lookup, lookup_key, lookup_entry, remove_entry}
 use Rattle.std.specs.Set.{is_member, remove_key, swap_key}
 use Rattle.std.proofs.lemmas.List.{map-append}
-use Rattle.std.proofs.lemmas.Map.{NonePasses}
 use Rattle.std.proofs.lemmas.Map.Entries.{length-keys_of}
 use Rattle.std.proofs.lemmas.Map.Made.{is_some-lookup}
 use Rattle.std.proofs.lemmas.Option.{slice_get-map}
@@ -17,12 +16,11 @@ use Rattle.hashlink_model.specs.MapState.{Inserts}
 use Rattle.hashlink_model.specs.Steps.{RemovesKey, Moves, PopsFront, PopsBack}
 use Rattle.hashlink_model.specs.Sets.{SetState, elements_of, pairs_of, put_element, replaced, stored_element}
 use Rattle.hashlink_model.specs.Sets.{SetInserts, SetReplaces}
-use Rattle.hashlink_model.proofs.Splits.{stands_from_place, remove_entry-none, none_from_lookup}
-use Rattle.hashlink_model.proofs.Splits.{lookup_entry-none}
+use Rattle.hashlink_model.proofs.Splits.{remove_entry-none, none_from_lookup, lookup_entry-none}
 use Rattle.hashlink_model.proofs.Finds.{lookup_is, lookup_key_is}
 use Rattle.hashlink_model.proofs.Puts.{put_back, put_back_absent}
 use Rattle.hashlink_model.proofs.Places.{place_of_its_key, slice_get-place_or_end}
-use Rattle.hashlink_model.proofs.ByPlace.{moved-there, set_key_at-here}
+use Rattle.hashlink_model.proofs.ByPlace.{moved-there}
 use Rattle.hashlink_model.proofs.Pops.{pops_front, pops_back}
 use Rattle.hashlink_model.proofs.SetSteps.{replaced-absent, replaced-there, length_pairs_of}
 use Rattle.hashlink_model.proofs.SetViews.{keys_of-pairs_of, pairs_of-keys_of, keys_of-put}
@@ -43,19 +41,12 @@ module _ {T V : Type 0} (test : T → Bool) where
   keys-filter p [] = refl
   keys-filter p (e ∷ es) = grind (arith, keys-filter p es)
 
-  swap_key-here : (e : T × V) (ys : List (T × V)) (t : T) → test e.0 ≡ true → (xs : List (T × V))
-      → NonePasses test xs → swap_key test (keys_of (xs ++ e ∷ ys)) t ≡ keys_of (xs ++ (t, e.1) ∷ ys)
-  swap_key-here e ys t p [] n = rw p refl
-  swap_key-here e ys t p (x ∷ xs) n = rw n.0 (ap (λ r. x.0 ∷ r) (swap_key-here e ys t p xs n.1))
-
   -- a key that is set at the place of an equal one
   pub keys-set_key_at : (es : List (T × V)) (j : ℕ) (t : T) → place_of test es ≡ Some j
       → keys_of (set_key_at es j t) ≡ swap_key test (keys_of es) t
-  keys-set_key_at es j t p =
-      let s = stands_from_place test es j p in
-      ap₂ (λ zs i. keys_of (set_key_at zs i t)) s.3.is (sym s.4) ∙ ap keys_of (set_key_at-here s.0 s.1 s.2 t)
-      ∙ sym (swap_key-here s.1 s.2 t s.3.passes s.0 s.3.before)
-      ∙ ap (λ zs. swap_key test (keys_of zs) t) (sym s.3.is)
+  keys-set_key_at [] j t p = refl
+  keys-set_key_at (e ∷ es) zero t p = grind (arith, p)
+  keys-set_key_at (e ∷ es) (suc j) t p = grind (arith, p, keys-set_key_at es j t)
 
 module _ {T S : Type 0} (eq : T → T → Bool) (old new : SetState T S) (t : T) where
   member_none : lookup (eq t) old.entries ≡ None → is_member eq (elements_of old) t ≡ false
@@ -109,15 +100,12 @@ module _ {T S : Type 0} (eq : T → T → Bool) (old new : SetState T S) (t : T)
 
   -- ---- the set's own steps
 
-  length_elements : length old.entries ≡ length (elements_of old)
-  length_elements = sym (length-keys_of old.entries)
-
   pub set_inserts : (b : Bool) → SetInserts eq old new t (Ok b)
       → (elements_of new ≡ put_element eq (elements_of old) t (length (elements_of old)))
       × (b ≡ not (is_member eq (elements_of old) t))
   set_inserts b s = (
     inserts_elements (length old.entries) (cond b None (Some tt)) s
-        ∙ ap (put_element eq (elements_of old) t) length_elements,
+        ∙ ap (put_element eq (elements_of old) t) (sym (length-keys_of old.entries)),
     grind (arith, inserts_member (length old.entries) (cond b None (Some tt)) s),
   )
 

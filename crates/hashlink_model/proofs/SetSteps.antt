@@ -1,9 +1,9 @@
 -- What stands after the steps of a set.
 use Rattle.std.proofs.Common.{◌≡◌, ℕ, zero, suc, ◌+◌, Bool, true, false, cond, ◌||◌, List, [], ◌∷◌, ◌++◌, sym}
-use Rattle.std.proofs.Common.{length, take, drop, slice_get, is_some, Some, refl, ap, ap₂, ◌∙◌, arith}
+use Rattle.std.proofs.Common.{length, take, drop, slice_get, Some, refl, ap, ap₂, ◌∙◌, arith}
 use Rattle.std.specs.Cmp.{IsEquivalence}
 use Rattle.std.specs.List.{IsDistinct}
-use Rattle.std.specs.Map.{keys_of, lookup}
+use Rattle.std.specs.Map.{keys_of}
 use Rattle.std.specs.Set.{is_member, swap_key}
 use Rattle.std.proofs.lemmas.Map.Made.{is_some-lookup}
 use Rattle.std.proofs.lemmas.Map.Entries.{length-keys_of}
@@ -24,16 +24,11 @@ module _ {T : Type 0} (eq : T → T → Bool) where
   pub length_pairs_of : (ts : List T) → length (pairs_of ts) ≡ length ts
   length_pairs_of ts = sym (length-keys_of (pairs_of ts)) ∙ ap length (keys_of-pairs_of ts)
 
-  -- an element is a member exactly where a look-up finds it
-  is_some-lookup_pairs : (ts : List T) (t : T) → is_some (lookup (eq t) (pairs_of ts)) ≡ is_member eq ts t
-  is_some-lookup_pairs ts t = is_some-lookup (eq t) (pairs_of ts)
-      ∙ ap (λ zs. is_member eq zs t) (keys_of-pairs_of ts)
-
   pub length-put_element : (ts : List T) (t : T) (b : ℕ)
       → length (put_element eq ts t b) ≡ cond (is_member eq ts t) (length ts) (length ts + 1)
   length-put_element ts t b =
       let es = pairs_of ts in
-      let there = is_some-lookup_pairs ts t in
+      let there = is_some-lookup (eq t) es ∙ ap (λ zs. is_member eq zs t) (keys_of-pairs_of ts) in
       let long = length-keys_of (put eq es t tt b) in
       let same = length_pairs_of ts in
       grind (arith, long, there, same, length-put_absent eq es t tt b, length-put_there eq es t tt b)

@@ -1,9 +1,9 @@
-use Rattle.std.proofs.Common.{◌≡◌, ◌<◌, ◌+◌, ◌-◌, ◌∷◌, ◌++◌, ap, ◌∙◌, refl, le_refl, arith, length}
-use Rattle.std.proofs.Common.{length-append}
+use Rattle.std.proofs.Common.{◌≡◌, ◌<◌, ◌+◌, ◌-◌, ◌∷◌, ◌++◌, ap, ◌∙◌, refl, le_refl, mod-eq_of_lt, arith}
+use Rattle.std.proofs.Common.{length, length-append}
 use Rattle.std.specs.Prelude.{insert}
 use Rattle.std.proofs.lemmas.List.Edits.{insert-append_right}
 use Rattle.hashlink_model.specs.Entries.{put}
-use Rattle.hashlink_model.proofs.Cursors.{following_place-within, following_place-guard}
+use Rattle.hashlink_model.proofs.Cursors.{following_place-guard}
 use Rattle.hashlink_model.proofs.Puts.{put-absent, put_front}
 use Rattle.hashlink_model.proofs.cursor.cursor_inserts_an_absent_key.Goals as goal
 
@@ -15,9 +15,10 @@ returns g c = record {
       ∙ insert-append_right xs (e ∷ ys) (length xs) (length xs) (k, v) refl (le_refl _)
       ∙ ap (λ i. xs ++ insert (e ∷ ys) i (k, v)) here;
   after = λ eq laws xs e ys k v n.
-      let below : length xs < length (xs ++ e ∷ ys) = omega (arith, length-append xs (e ∷ ys)) in
+      let long = length-append xs (e ∷ ys) in
+      let below : length xs + 1 < length (xs ++ e ∷ ys) + 1 = omega arith in
       let next : length xs + 1 - length xs ≡ 1 = omega arith in
-      ap (put eq (xs ++ e ∷ ys) k v) (following_place-within _ _ below)
+      ap (put eq (xs ++ e ∷ ys) k v) (mod-eq_of_lt below)
       ∙ put-absent eq (xs ++ e ∷ ys) k v (length xs + 1) n
       ∙ insert-append_right xs (e ∷ ys) (length xs) (length xs + 1) (k, v) refl (omega arith)
       ∙ ap (λ i. xs ++ insert (e ∷ ys) i (k, v)) next;
