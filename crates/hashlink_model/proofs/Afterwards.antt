@@ -1,20 +1,17 @@
 -- What stands after a key was put, moved or taken out: lengths, look-ups, and the same step once more.
-use Rattle.std.proofs.Common.{ap₂, inl, inr, ◌≡◌, ℕ, ◌+◌, Bool, true, false, cond, List, [], ◌∷◌, ◌++◌}
-use Rattle.std.proofs.Common.{length, None, Some, refl, sym, ap, ◌∙◌, arith, take, drop}
-use Rattle.std.specs.Option.{option_map_or}
-use Rattle.std.specs.Cmp.{IsEquivalence}
-use Rattle.std.specs.Map.{lookup, lookup_entry}
-use Rattle.std.proofs.lemmas.Map.{NonePasses}
-use Rattle.std.proofs.lemmas.List.{take-append-drop, length-append}
-use Rattle.hashlink_model.specs.Entries.{IsEntries, place_without, without, stored_key, put, moved, moved_at}
+use Rattle.hashlink_model.proofs.Names.{ap₂, inl, inr, ◌≡◌, ℕ, ◌+◌, Bool, true, false, cond, List, [], ◌∷◌}
+use Rattle.hashlink_model.proofs.Names.{◌++◌, length, None, Some, refl, sym, ap, ◌∙◌, arith, take, drop}
+use Rattle.hashlink_model.proofs.Names.{option_map_or, IsEquivalence, lookup, lookup_entry, NonePasses}
+use Rattle.hashlink_model.proofs.Names.{take-append-drop, length-append, IsEntries, place_without, without}
+use Rattle.hashlink_model.proofs.Names.{stored_key, put, moved, moved_at}
 use Rattle.hashlink_model.specs.Entries.{moved_match}
-pub use Rattle.hashlink_model.proofs.ByPlace.{moved-there}
 use Rattle.hashlink_model.proofs.Splits.{none_from_lookup, remove_entry-none, remove_entry-here}
 use Rattle.hashlink_model.proofs.Splits.{place_of-none, splits}
 use Rattle.hashlink_model.proofs.Distinct.{each-left}
 use Rattle.hashlink_model.proofs.Finds.{lookup_is, lookup_key_is, stored_key-equal, lookup_entry-without}
 use Rattle.hashlink_model.proofs.Finds.{lookup-equal}
 use Rattle.hashlink_model.proofs.Puts.{put_back, put_front, lookup_entry-put, none_without, IsEntries-put}
+pub use Rattle.hashlink_model.proofs.ByPlace.{moved-there}
 
 moved_match-none : {K V : Type 0} (test : K → Bool) (es : List (K × V)) (b : ℕ) → NonePasses test es
     → moved_match test es b ≡ es

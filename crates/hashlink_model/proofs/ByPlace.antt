@@ -1,12 +1,9 @@
 -- Steps at a place, and the same steps at the key that stands there.
-use Rattle.std.proofs.Common.{◌≡◌, ℕ, zero, suc, ◌-◌, ◌<◌, Bool, List, [], ◌∷◌, ◌++◌, length, Some, refl, sym}
-use Rattle.std.proofs.Common.{ap, ap₂, ◌∙◌, arith, lt-ltb, length-append}
-use Rattle.std.specs.Prelude.{insert, remove}
-use Rattle.std.specs.Option.{option_map_or}
-use Rattle.std.specs.Map.{keys_of, lookup, remove_entry, set_value}
-use Rattle.std.proofs.lemmas.List.Edits.{insert_end}
-use Rattle.std.proofs.lemmas.Option.{none-some}
-use Rattle.hashlink_model.specs.Entries.{place_of, place_left, moved_at, set_value_at, set_key_at, put, moved}
+use Rattle.hashlink_model.proofs.Names.{◌≡◌, ℕ, zero, suc, ◌-◌, ◌<◌, Bool, List, [], ◌∷◌, ◌++◌, length, Some}
+use Rattle.hashlink_model.proofs.Names.{refl, sym, ap, ap₂, ◌∙◌, arith, lt-ltb, length-append, insert, remove}
+use Rattle.hashlink_model.proofs.Names.{option_map_or, keys_of, lookup, remove_entry, set_value, insert_end}
+use Rattle.hashlink_model.proofs.Names.{none-some, place_of, place_left, moved_at, set_value_at, set_key_at}
+use Rattle.hashlink_model.proofs.Names.{put, moved}
 use Rattle.hashlink_model.proofs.Splits.{stands_from_place, stands_from_lookup, lookup-here, place_of-here}
 use Rattle.hashlink_model.proofs.Puts.{put-here}
 use Rattle.hashlink_model.proofs.Places.{slice_get_here}

@@ -1,12 +1,10 @@
 -- How long a cache is after its calls, and which of them is never refused.
-use Rattle.std.proofs.Common.{◌≡◌, ℕ, ◌-◌, ◌≤◌, ◌<◌, Bool, length, Option, None, Some, Result, Ok, Err, ap}
-use Rattle.std.proofs.Common.{arith}
-use Rattle.std.proofs.lemmas.Map.{length-set_value}
-use Rattle.hashlink_model.specs.Entries.{put}
-use Rattle.hashlink_model.specs.MapState.{node_count}
-use Rattle.hashlink_model.specs.Steps.{Clears, RemovesKey, RemovesMatch, PopsFront}
-use Rattle.hashlink_model.specs.Cache.{CacheState, OnMap, IsWithin, HasNodeToSpare, CacheInserts, CacheGets}
-use Rattle.hashlink_model.specs.Cache.{SetsCapacity, CacheGetsMatch, CacheGetsMatchAndWrites}
+use Rattle.hashlink_model.proofs.Names.{◌≡◌, ℕ, ◌-◌, ◌≤◌, ◌<◌, Bool, length, Option, None, Some, Result, Ok}
+use Rattle.hashlink_model.proofs.Names.{Err, ap, arith, length-set_value, put, node_count, Clears, RemovesKey}
+use Rattle.hashlink_model.proofs.Names.{PopsFront, CacheState, CacheInserts, CacheGets}
+use Rattle.hashlink_model.specs.Steps.{RemovesMatch}
+use Rattle.hashlink_model.specs.Cache.{OnMap, IsWithin, HasNodeToSpare, SetsCapacity, CacheGetsMatch}
+use Rattle.hashlink_model.specs.Cache.{CacheGetsMatchAndWrites}
 use Rattle.hashlink_model.proofs.Afterwards.{length-moved_match}
 use Rattle.hashlink_model.proofs.Caches.{length-last_entries, cache_put-at_most}
 use Rattle.hashlink_model.proofs.CacheSteps.{put_entries, inserts_entries}

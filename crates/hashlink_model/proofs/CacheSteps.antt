@@ -1,12 +1,9 @@
 -- What follows from the steps between two states of a cache.
-use Rattle.std.proofs.Common.{◌≡◌, Bool, [], ◌∷◌, ◌++◌, length, Option, None, Some, Ok, Err, sym, ap, ◌∙◌}
-use Rattle.std.specs.Prelude.{MatchOption, Result, refl}
-use Rattle.std.specs.Option.{option_map_or}
-use Rattle.std.specs.Map.{lookup}
-use Rattle.hashlink_model.specs.Entries.{put, without, stored_key}
-use Rattle.hashlink_model.specs.MapState.{MapState}
-use Rattle.hashlink_model.specs.Cache.{cache_get, CacheState, InsertsLast, CacheUses, cache_use, CacheInserts}
-use Rattle.hashlink_model.specs.Cache.{CacheGets, last_entries, cache_put}
+use Rattle.hashlink_model.proofs.Names.{◌≡◌, Bool, [], ◌∷◌, ◌++◌, length, Option, None, Some, Ok, Err, sym}
+use Rattle.hashlink_model.proofs.Names.{ap, ◌∙◌, MatchOption, Result, refl, option_map_or, lookup, put}
+use Rattle.hashlink_model.proofs.Names.{without, stored_key, MapState, CacheState, cache_use, CacheInserts}
+use Rattle.hashlink_model.proofs.Names.{CacheGets, last_entries, cache_put}
+use Rattle.hashlink_model.specs.Cache.{cache_get, InsertsLast, CacheUses}
 use Rattle.hashlink_model.proofs.Puts.{put_back}
 use Rattle.hashlink_model.proofs.Afterwards.{moved-there}
 

@@ -1,11 +1,9 @@
 -- Where a cursor stands after a move, and after an insert.
-use Rattle.std.proofs.Common.{◌≡◌, inl, inr, ℕ, ◌+◌, ◌≤◌, Bool, List, [], ◌∷◌, length, refl, arith, le_refl}
-use Rattle.std.specs.Prelude.{unwrap_or}
-use Rattle.std.specs.Cmp.{IsEquivalence}
+use Rattle.hashlink_model.proofs.Names.{◌≡◌, inl, inr, ℕ, ◌+◌, ◌≤◌, Bool, List, [], ◌∷◌, length, refl, arith}
+use Rattle.hashlink_model.proofs.Names.{le_refl, unwrap_or, IsEquivalence, IsEntries, place_of, place_kept}
 use Rattle.std.proofs.Math.Nat.{mod_self}
 use Rattle.std.proofs.lemmas.Option.{slice_get_cases}
-use Rattle.hashlink_model.specs.Entries.{IsEntries, place_of}
-use Rattle.hashlink_model.specs.Cursor.{place_kept, following_place}
+use Rattle.hashlink_model.specs.Cursor.{following_place}
 use Rattle.hashlink_model.proofs.Places.{place_of_its_key}
 
 -- ---- moves

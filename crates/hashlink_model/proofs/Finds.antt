@@ -1,10 +1,7 @@
 -- What a look-up finds: at the key of an entry, and at every other key.
-use Rattle.std.proofs.Common.{◌≡◌, Bool, true, cond, List, [], ◌∷◌, ◌++◌, None, Some, refl, ap, arith}
-use Rattle.std.specs.Option.{option_map}
-use Rattle.std.specs.Cmp.{IsEquivalence}
-use Rattle.std.specs.Map.{lookup, lookup_entry, lookup_key}
-use Rattle.std.proofs.lemmas.Map.{NonePasses}
-use Rattle.hashlink_model.specs.Entries.{IsEntries, without, stored_key}
+use Rattle.hashlink_model.proofs.Names.{◌≡◌, Bool, true, cond, List, [], ◌∷◌, ◌++◌, None, Some, refl, ap}
+use Rattle.hashlink_model.proofs.Names.{arith, option_map, IsEquivalence, lookup, lookup_entry, lookup_key}
+use Rattle.hashlink_model.proofs.Names.{NonePasses, IsEntries, without, stored_key}
 use Rattle.hashlink_model.proofs.Splits.{lookup_entry-none}
 use Rattle.hashlink_model.proofs.Distinct.{none_equal, IsEntries-head, IsEntries-tail}
 

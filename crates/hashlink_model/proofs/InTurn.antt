@@ -1,11 +1,10 @@
 -- Many items in a row.
-use Rattle.std.proofs.Common.{◌≡◌, ℕ, ◌+◌, ◌-◌, ◌≤◌, ◌<◌, Bool, List, [], ◌∷◌, ◌++◌, length, Option, None}
-use Rattle.std.proofs.Common.{Some, Result, Ok, ap, ◌∙◌, subst, arith, length-append}
-use Rattle.hashlink_model.specs.Entries.{extended}
-use Rattle.hashlink_model.specs.MapState.{MapState}
+use Rattle.hashlink_model.proofs.Names.{◌≡◌, ℕ, ◌+◌, ◌-◌, ◌≤◌, ◌<◌, Bool, List, [], ◌∷◌, ◌++◌, length, Option}
+use Rattle.hashlink_model.proofs.Names.{None, Some, Result, Ok, ap, ◌∙◌, subst, arith, length-append}
+use Rattle.hashlink_model.proofs.Names.{extended, MapState, InsertsPair}
 use Rattle.hashlink_model.specs.Steps.{Drains}
 use Rattle.hashlink_model.proofs.CacheSteps.{put_entries}
-use Rattle.hashlink_model.specs.Many.{AcceptsAll, StopsAt, InsertsPair}
+use Rattle.hashlink_model.specs.Many.{AcceptsAll, StopsAt}
 
 module _ {State Item A : Type 0} (step : State → State → Item → Result A Item → Type 0) where
   pub accepts_in_parts : (a b c : State) (xs ys : List Item) → AcceptsAll step a xs b → AcceptsAll step b ys c

@@ -1,11 +1,9 @@
 -- What follows from the steps between two states of a map.
-use Rattle.std.proofs.Common.{◌≡◌, ℕ, sym, List, length, Bool, Option, None, Some, Result, Ok, Err, ap, ◌∙◌}
-use Rattle.std.proofs.Common.{arith}
-use Rattle.std.specs.Map.{set_value}
-use Rattle.std.proofs.lemmas.Map.{length-set_value}
-use Rattle.hashlink_model.specs.Entries.{put, moved}
-use Rattle.hashlink_model.specs.MapState.{MapState, node_count, HasRoom, Changes, Removes, PutsEntry, Inserts}
-use Rattle.hashlink_model.specs.Steps.{KeepsOnly, WritesEntry, Moves, MovesMatch, Shrinks}
+use Rattle.hashlink_model.proofs.Names.{◌≡◌, ℕ, sym, List, length, Bool, Option, None, Some, Result, Ok, Err}
+use Rattle.hashlink_model.proofs.Names.{ap, ◌∙◌, arith, set_value, length-set_value, put, moved, MapState}
+use Rattle.hashlink_model.proofs.Names.{node_count, Changes, Inserts, KeepsOnly, Moves, MovesMatch}
+use Rattle.hashlink_model.specs.MapState.{HasRoom, Removes, PutsEntry}
+use Rattle.hashlink_model.specs.Steps.{WritesEntry, Shrinks}
 use Rattle.hashlink_model.proofs.Afterwards.{length-put_there, length-moved, moved-absent, length-moved_match}
 
 module _ {K V S : Type 0} (old new : MapState K V S) where

@@ -1,18 +1,12 @@
 -- What stands after the steps on an occupied entry.
-use Rattle.std.specs.Prelude.{insert, remove, zero, suc, ◌<◌, MatchOption, Option}
-use Rattle.std.proofs.Common.{arith, take, drop, length-append, length-take, length-drop, ◌≡◌, ℕ, ◌+◌, Bool}
-use Rattle.std.proofs.Common.{true, cond, List, [], ◌∷◌, ◌++◌, length, slice_get, None, Some, refl, sym, ap}
-use Rattle.std.proofs.Common.{ap₂, ◌∙◌, subst}
-use Rattle.std.specs.Cmp.{IsEquivalence}
-use Rattle.std.specs.Option.{option_map_or}
-use Rattle.std.specs.Map.{lookup_entry}
-use Rattle.std.proofs.lemmas.Map.{NonePasses}
-use Rattle.std.proofs.lemmas.List.{append-nil}
-use Rattle.hashlink_model.specs.Entries.{IsEntries, place_of, place_left, put, moved_at, without}
-use Rattle.hashlink_model.specs.Entries.{set_value_at, set_key_at}
+use Rattle.hashlink_model.proofs.Names.{insert, remove, zero, suc, ◌<◌, MatchOption, Option, arith, take}
+use Rattle.hashlink_model.proofs.Names.{drop, length-append, length-take, length-drop, ◌≡◌, ℕ, ◌+◌, Bool}
+use Rattle.hashlink_model.proofs.Names.{true, cond, List, [], ◌∷◌, ◌++◌, length, slice_get, None, Some, refl}
+use Rattle.hashlink_model.proofs.Names.{sym, ap, ap₂, ◌∙◌, subst, IsEquivalence, option_map_or, lookup_entry}
+use Rattle.hashlink_model.proofs.Names.{NonePasses, append-nil, IsEntries, place_of, place_left, put}
+use Rattle.hashlink_model.proofs.Names.{moved_at, without, set_value_at, set_key_at, MapState}
 use Rattle.hashlink_model.specs.Entry.{EntryState, IsEntry, IsRawEntry, raw_entry_of, insert_value}
 use Rattle.hashlink_model.specs.Entry.{insert_entry, replace_entry}
-use Rattle.hashlink_model.specs.MapState.{MapState}
 use Rattle.hashlink_model.proofs.Distinct.{none_equal, none_others, IsEntries-middle, IsEntries-insert}
 use Rattle.hashlink_model.proofs.Finds.{lookup_entry-middle}
 use Rattle.hashlink_model.proofs.Puts.{none_without}

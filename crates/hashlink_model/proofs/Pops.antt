@@ -1,15 +1,10 @@
 -- The first and the last entry taken out, and cursors and entries of a map's state.
-use Rattle.std.proofs.Common.{◌≡◌, ℕ, ◌+◌, ◌≤◌, Bool, List, [], ◌∷◌, ◌++◌, length, None, Some, Err, refl, sym}
-use Rattle.std.proofs.Common.{ap, ◌∙◌, subst, arith}
-use Rattle.std.specs.Cmp.{IsEquivalence}
-use Rattle.std.specs.Map.{lookup}
-use Rattle.hashlink_model.specs.Entries.{IsEntries, place_of}
-use Rattle.hashlink_model.specs.MapState.{MapState}
-use Rattle.std.specs.Map.Iter.{TakesFirst, TakesLast}
-use Rattle.hashlink_model.specs.Steps.{PopsFront, PopsBack}
-use Rattle.hashlink_model.specs.Walk.{after_first_of, before_last_of}
+use Rattle.hashlink_model.proofs.Names.{◌≡◌, ℕ, ◌+◌, ◌≤◌, Bool, List, [], ◌∷◌, ◌++◌, length, None, Some, Err}
+use Rattle.hashlink_model.proofs.Names.{refl, sym, ap, ◌∙◌, subst, arith, IsEquivalence, lookup, IsEntries}
+use Rattle.hashlink_model.proofs.Names.{place_of, MapState, TakesFirst, TakesLast, PopsFront, PopsBack}
+use Rattle.hashlink_model.proofs.Names.{after_first_of, before_last_of, place_kept}
 use Rattle.hashlink_model.proofs.Walks.{takes_first, takes_last}
-use Rattle.hashlink_model.specs.Cursor.{CursorState, CursorInserts, place_kept}
+use Rattle.hashlink_model.specs.Cursor.{CursorState, CursorInserts}
 use Rattle.hashlink_model.proofs.Cursors.{place_kept-same}
 
 module _ {K V : Type 0} (eq : K → K → Bool) (laws : IsEquivalence eq) where

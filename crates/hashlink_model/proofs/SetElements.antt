@@ -1,21 +1,17 @@
 -- The elements of a set after the map's steps.
-use Rattle.std.proofs.Common.{◌≡◌, ℕ, Bool, true, false, not, cond, List, [], ◌∷◌, ◌++◌, length, filter, None}
-use Rattle.std.proofs.Common.{slice_get, is_some, Option, Some, Ok, Err, option_map, refl, unwrap_or, sym, ap}
-use Rattle.std.proofs.Common.{ap₂, ◌∙◌, subst, arith, zero, suc}
-use Rattle.std.specs.Cmp.{IsEquivalence}
-use Rattle.std.specs.List.{IsDistinct, AllZip, find}
-use Rattle.std.specs.Map.{keys_of, lookup, lookup_key, lookup_entry, remove_entry}
-use Rattle.std.specs.Set.{is_member, remove_key, swap_key}
+use Rattle.hashlink_model.proofs.Names.{◌≡◌, ℕ, Bool, true, false, not, cond, List, [], ◌∷◌, ◌++◌, length}
+use Rattle.hashlink_model.proofs.Names.{filter, None, slice_get, is_some, Option, Some, Ok, Err, option_map}
+use Rattle.hashlink_model.proofs.Names.{refl, unwrap_or, sym, ap, ap₂, ◌∙◌, subst, arith, zero, suc}
+use Rattle.hashlink_model.proofs.Names.{IsEquivalence, AllZip, find, keys_of, lookup, lookup_key}
+use Rattle.hashlink_model.proofs.Names.{lookup_entry, remove_entry, is_member, swap_key, length-keys_of}
+use Rattle.hashlink_model.proofs.Names.{is_some-lookup, entries_eq, elements_eq, IsEntries, place_of, without}
+use Rattle.hashlink_model.proofs.Names.{stored_key, extended, set_key_at, Inserts, RemovesKey, Moves}
+use Rattle.hashlink_model.proofs.Names.{PopsFront, PopsBack, pairs_of, put_element, replaced, stored_element}
+use Rattle.std.specs.List.{IsDistinct}
+use Rattle.std.specs.Set.{remove_key}
 use Rattle.std.proofs.lemmas.List.{map-append}
-use Rattle.std.proofs.lemmas.Map.Entries.{length-keys_of}
-use Rattle.std.proofs.lemmas.Map.Made.{is_some-lookup}
 use Rattle.std.proofs.lemmas.Option.{slice_get-map}
-use Rattle.hashlink_model.specs.Compare.{entries_eq, elements_eq}
-use Rattle.hashlink_model.specs.Entries.{IsEntries, place_of, without, stored_key, extended, set_key_at}
-use Rattle.hashlink_model.specs.MapState.{Inserts}
-use Rattle.hashlink_model.specs.Steps.{RemovesKey, Moves, PopsFront, PopsBack}
-use Rattle.hashlink_model.specs.Sets.{SetState, elements_of, pairs_of, put_element, replaced, stored_element}
-use Rattle.hashlink_model.specs.Sets.{SetInserts, SetReplaces}
+use Rattle.hashlink_model.specs.Sets.{SetState, elements_of, SetInserts, SetReplaces}
 use Rattle.hashlink_model.proofs.Splits.{remove_entry-none, none_from_lookup, lookup_entry-none}
 use Rattle.hashlink_model.proofs.Finds.{lookup_is, lookup_key_is}
 use Rattle.hashlink_model.proofs.Puts.{put_back, put_back_absent}

@@ -1,16 +1,10 @@
 -- What stands after the steps of a set.
-use Rattle.std.proofs.Common.{◌≡◌, ℕ, zero, suc, ◌+◌, Bool, true, false, cond, ◌||◌, List, [], ◌∷◌, ◌++◌, sym}
-use Rattle.std.proofs.Common.{length, take, drop, slice_get, Some, refl, ap, ap₂, ◌∙◌, arith}
-use Rattle.std.specs.Cmp.{IsEquivalence}
+use Rattle.hashlink_model.proofs.Names.{◌≡◌, ℕ, zero, suc, ◌+◌, Bool, true, false, cond, ◌||◌, List, [], ◌∷◌}
+use Rattle.hashlink_model.proofs.Names.{◌++◌, sym, length, take, drop, slice_get, Some, refl, ap, ap₂, ◌∙◌}
+use Rattle.hashlink_model.proofs.Names.{arith, IsEquivalence, keys_of, is_member, swap_key, is_some-lookup}
+use Rattle.hashlink_model.proofs.Names.{length-keys_of, take-append-drop, none-some, same_Some, place_without}
+use Rattle.hashlink_model.proofs.Names.{without, stored_key, put, pairs_of, put_element, replaced}
 use Rattle.std.specs.List.{IsDistinct}
-use Rattle.std.specs.Map.{keys_of}
-use Rattle.std.specs.Set.{is_member, swap_key}
-use Rattle.std.proofs.lemmas.Map.Made.{is_some-lookup}
-use Rattle.std.proofs.lemmas.Map.Entries.{length-keys_of}
-use Rattle.std.proofs.lemmas.List.{take-append-drop}
-use Rattle.std.proofs.lemmas.Option.{none-some, same_Some}
-use Rattle.hashlink_model.specs.Entries.{place_without, without, stored_key, put}
-use Rattle.hashlink_model.specs.Sets.{pairs_of, put_element, replaced}
 use Rattle.hashlink_model.proofs.Distinct.{each-middle, each-weaker}
 use Rattle.hashlink_model.proofs.Finds.{stored_key-equal}
 use Rattle.hashlink_model.proofs.Afterwards.{length-put_absent, length-put_there}

@@ -1,12 +1,11 @@
 -- A list of entries at the first key that passes a test: `xs ++ e ∷ ys`, where e passes and none of xs does;
 -- or no key passes.
-use Rattle.std.proofs.Common.{◌≡◌, ℕ, Bool, true, false, List, [], ◌∷◌, ◌++◌, length, None, Some, ◌⊎◌, inl}
-use Rattle.std.proofs.Common.{inr, refl, sym, ap, ◌∙◌, add-one}
-use Rattle.std.specs.Map.{lookup, lookup_entry, lookup_key, remove_entry, set_value}
-use Rattle.std.proofs.lemmas.Map.{NonePasses, none_passes_from_lookup}
-use Rattle.std.proofs.lemmas.Option.{same_Some}
+use Rattle.hashlink_model.proofs.Names.{◌≡◌, ℕ, Bool, true, false, List, [], ◌∷◌, ◌++◌, length, None, Some}
+use Rattle.hashlink_model.proofs.Names.{◌⊎◌, inl, inr, refl, sym, ap, ◌∙◌, lookup, lookup_entry, lookup_key}
+use Rattle.hashlink_model.proofs.Names.{remove_entry, set_value, NonePasses, same_Some, place_of, IsKeyTest}
+use Rattle.std.proofs.Common.{add-one}
+use Rattle.std.proofs.lemmas.Map.{none_passes_from_lookup}
 use Rattle.std.proofs.Math.Path.{fun_ext}
-use Rattle.hashlink_model.specs.Entries.{place_of, IsKeyTest}
 
 module _ {K V : Type 0} (test : K → Bool) where
   -- e is the first entry of es whose key passes, xs stands before it and ys after it

@@ -1,14 +1,12 @@
 -- The longest end of the entries that a budget allows.
-use Rattle.std.proofs.Common.{◌≡◌, ℕ, ◌≤◌, Bool, true, false, cond, List, [], ◌∷◌, ◌++◌, length, nat_le, refl}
-use Rattle.std.proofs.Common.{◌∙◌, ap, arith, le_refl, zero-le, le-leb}
-use Rattle.std.proofs.lemmas.List.{length-append}
-use Rattle.hashlink_model.specs.Entries.{IsEntries, without, stored_key}
+use Rattle.hashlink_model.proofs.Names.{◌≡◌, ℕ, ◌≤◌, Bool, true, false, cond, List, [], ◌∷◌, ◌++◌, length}
+use Rattle.hashlink_model.proofs.Names.{refl, ◌∙◌, ap, arith, le_refl, zero-le, length-append, IsEntries}
+use Rattle.hashlink_model.proofs.Names.{without, stored_key, Option, nat_tests}
+use Rattle.std.proofs.Common.{nat_le, le-leb}
 use Rattle.hashlink_model.proofs.Distinct.{IsEntries-tail}
 use Rattle.hashlink_model.proofs.Puts.{put_back}
-use Rattle.std.specs.Prelude.{Option}
 use Rattle.hashlink_model.specs.Weights.{WeightedState, WeightedInserts, total_weight, fitting, weighted_put}
 use Rattle.hashlink_model.proofs.CacheSteps.{put_entries}
-use Rattle.std.proofs.lemmas.Bool.Decides.{nat_tests}
 
 module _ {K V : Type 0} where
   pub fitting-fits : (es : List (K × (V × ℕ))) (budget : ℕ) → total_weight (fitting es budget) ≤ budget

@@ -1,5 +1,4 @@
-use Rattle.std.proofs.Common.{◌++◌, ap, refl}
-use Rattle.hashlink_model.specs.Algebra.{difference_of}
+use Rattle.hashlink_model.proofs.Names.{◌++◌, ap, refl, difference_of}
 use Rattle.hashlink_model.proofs.LazyWalks.{filter-all, pair_step-takes}
 use Rattle.hashlink_model.proofs.algebra.lazy_walks_give_set_algebra.Goals as goal
 

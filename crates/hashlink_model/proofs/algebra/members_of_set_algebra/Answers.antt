@@ -1,5 +1,4 @@
-use Rattle.std.proofs.Common.{arith}
-use Rattle.hashlink_model.specs.Algebra.{difference_of}
+use Rattle.hashlink_model.proofs.Names.{arith, difference_of}
 use Rattle.hashlink_model.proofs.Members.{difference_members, intersection_members, is_member-append}
 use Rattle.hashlink_model.proofs.algebra.members_of_set_algebra.Goals as goal
 

@@ -1,8 +1,7 @@
-use Rattle.std.proofs.Common.{◌≡◌, ◌<◌, ◌+◌, ◌-◌, ◌∷◌, ◌++◌, ap, ◌∙◌, refl, le_refl, mod-eq_of_lt, arith}
-use Rattle.std.proofs.Common.{length, length-append}
-use Rattle.std.specs.Prelude.{insert}
+use Rattle.hashlink_model.proofs.Names.{◌≡◌, ◌<◌, ◌+◌, ◌-◌, ◌∷◌, ◌++◌, ap, ◌∙◌, refl, le_refl, arith, length}
+use Rattle.hashlink_model.proofs.Names.{length-append, insert, put}
+use Rattle.std.proofs.Common.{mod-eq_of_lt}
 use Rattle.std.proofs.lemmas.List.Edits.{insert-append_right}
-use Rattle.hashlink_model.specs.Entries.{put}
 use Rattle.hashlink_model.proofs.Cursors.{following_place-guard}
 use Rattle.hashlink_model.proofs.Puts.{put-absent, put_front}
 use Rattle.hashlink_model.proofs.cursor.cursor_inserts_an_absent_key.Goals as goal

@@ -1,5 +1,4 @@
-use Rattle.std.proofs.Common.{length, [], append-nil}
-use Rattle.hashlink_model.specs.Entries.{without}
+use Rattle.hashlink_model.proofs.Names.{length, [], append-nil, without}
 use Rattle.hashlink_model.proofs.Distinct.{IsEntries-insert}
 use Rattle.hashlink_model.proofs.Puts.{IsEntries-put, IsEntries-without}
 use Rattle.hashlink_model.proofs.Occupied.{insert_entry-last, none_last, IsEntries-replace_entry}

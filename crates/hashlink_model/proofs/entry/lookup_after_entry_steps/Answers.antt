@@ -1,6 +1,4 @@
-use Rattle.std.proofs.Common.{ap, [], append-nil, arith}
-use Rattle.std.specs.Map.{lookup_entry}
-use Rattle.hashlink_model.specs.Entries.{without}
+use Rattle.hashlink_model.proofs.Names.{ap, [], append-nil, arith, lookup_entry, without}
 use Rattle.hashlink_model.proofs.Finds.{lookup_entry-middle, lookup_entry-without}
 use Rattle.hashlink_model.proofs.Occupied.{insert_entry-last, none_last, lookup_entry-replace_entry}
 use Rattle.hashlink_model.proofs.entry.lookup_after_entry_steps.Goals as goal

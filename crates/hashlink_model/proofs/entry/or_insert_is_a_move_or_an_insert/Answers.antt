@@ -1,6 +1,4 @@
-use Rattle.std.proofs.Common.{ap, sym, ◌∙◌, length}
-use Rattle.std.specs.Option.{option_map_or}
-use Rattle.hashlink_model.specs.Entries.{put}
+use Rattle.hashlink_model.proofs.Names.{ap, sym, ◌∙◌, length, option_map_or, put}
 use Rattle.hashlink_model.proofs.ByPlace.{moved-there}
 use Rattle.hashlink_model.proofs.entry.or_insert_is_a_move_or_an_insert.Goals as goal
 

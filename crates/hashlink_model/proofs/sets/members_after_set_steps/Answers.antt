@@ -1,7 +1,5 @@
-use Rattle.std.proofs.Common.{◌∙◌, ◌∷◌, ◌||◌, [], refl, ap, arith}
-use Rattle.std.specs.Set.{is_member}
-use Rattle.std.proofs.lemmas.List.{length-append}
-use Rattle.hashlink_model.specs.Sets.{pairs_of}
+use Rattle.hashlink_model.proofs.Names.{◌∙◌, ◌∷◌, ◌||◌, [], refl, ap, arith, is_member, length-append}
+use Rattle.hashlink_model.proofs.Names.{pairs_of}
 use Rattle.hashlink_model.proofs.Members.{is_member-append, is_member-equal}
 use Rattle.hashlink_model.proofs.SetViews.{keys_of-pairs_of}
 use Rattle.hashlink_model.proofs.SetSteps.{is_member-put, member_swap_key, length-put_element}

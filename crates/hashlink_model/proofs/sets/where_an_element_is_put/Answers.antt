@@ -1,9 +1,5 @@
-use Rattle.std.proofs.Common.{◌≡◌, ◌∷◌, ap, ap₂, ◌∙◌, sym, length}
-use Rattle.std.specs.Map.{keys_of}
-use Rattle.std.proofs.lemmas.Map.{keys-set_value}
-use Rattle.std.proofs.lemmas.Map.Entries.{length-keys_of}
-use Rattle.hashlink_model.specs.Entries.{put}
-use Rattle.hashlink_model.specs.Sets.{pairs_of, put_element}
+use Rattle.hashlink_model.proofs.Names.{◌≡◌, ◌∷◌, ap, ap₂, ◌∙◌, sym, length, keys_of, keys-set_value}
+use Rattle.hashlink_model.proofs.Names.{length-keys_of, put, pairs_of, put_element}
 use Rattle.hashlink_model.proofs.Puts.{put_front, put_at_its_place, put_after_its_place}
 use Rattle.hashlink_model.proofs.Afterwards.{put_back_twice, put_front_twice}
 use Rattle.hashlink_model.proofs.SetViews.{keys_of-pairs_of, pairs_of-keys_of}

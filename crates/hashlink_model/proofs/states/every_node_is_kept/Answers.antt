@@ -1,6 +1,4 @@
-use Rattle.std.proofs.Common.{ap, length, arith}
-use Rattle.std.proofs.lemmas.Map.{length-set_value}
-use Rattle.hashlink_model.specs.MapState.{node_count}
+use Rattle.hashlink_model.proofs.Names.{ap, length, arith, length-set_value, node_count}
 use Rattle.hashlink_model.proofs.Afterwards.{length-moved}
 use Rattle.hashlink_model.proofs.KeptNodes as kept
 use Rattle.hashlink_model.proofs.states.every_node_is_kept.Goals as goal

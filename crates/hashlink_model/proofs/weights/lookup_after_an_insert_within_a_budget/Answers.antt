@@ -1,5 +1,4 @@
-use Rattle.std.proofs.Common.{length}
-use Rattle.hashlink_model.specs.Entries.{put}
+use Rattle.hashlink_model.proofs.Names.{length, put}
 use Rattle.hashlink_model.proofs.Remaining.{lookup-put_remaining, lookup_entry-put_remaining}
 use Rattle.hashlink_model.proofs.Weighted.{fitting-end, length-weighted_put}
 use Rattle.hashlink_model.proofs.weights.lookup_after_an_insert_within_a_budget.Goals as goal

@@ -1,5 +1,4 @@
-use Rattle.std.proofs.Common.{length}
-use Rattle.hashlink_model.specs.Entries.{put}
+use Rattle.hashlink_model.proofs.Names.{length, put}
 use Rattle.hashlink_model.proofs.Puts.{IsEntries-put}
 use Rattle.hashlink_model.proofs.Weighted.{IsEntries-fitting, fitting-fits, length-weighted_put}
 use Rattle.hashlink_model.proofs.weights.what_an_insert_within_a_budget_leaves.Goals as goal
