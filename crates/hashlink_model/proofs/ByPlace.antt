@@ -1,10 +1,10 @@
 -- Steps at a place, and the same steps at the key that stands there.
-use Rattle.hashlink_model.proofs.Names.{◌≡◌, ℕ, zero, suc, ◌-◌, ◌<◌, Bool, List, [], ◌∷◌, ◌++◌, length, Some}
-use Rattle.hashlink_model.proofs.Names.{refl, sym, ap, ap₂, ◌∙◌, arith, lt-ltb, length-append, insert, remove}
-use Rattle.hashlink_model.proofs.Names.{option_map_or, keys_of, lookup, remove_entry, set_value, insert_end}
-use Rattle.hashlink_model.proofs.Names.{none-some, place_of, place_left, moved_at, set_value_at, set_key_at}
-use Rattle.hashlink_model.proofs.Names.{put, moved}
-use Rattle.hashlink_model.proofs.Splits.{stands_from_place, stands_from_lookup, lookup-here, place_of-here}
+use Rattle.hashlink_model.proofs.Names.{set_value_same, ◌≡◌, ℕ, zero, suc, ◌-◌, ◌<◌, Bool, List, [], ◌∷◌}
+use Rattle.hashlink_model.proofs.Names.{◌++◌, length, Some, refl, sym, ap, ap₂, ◌∙◌, arith, lt-ltb}
+use Rattle.hashlink_model.proofs.Names.{length-append, insert, remove, option_map_or, keys_of, lookup}
+use Rattle.hashlink_model.proofs.Names.{remove_entry, set_value, insert_end, none-some, place_of, place_left}
+use Rattle.hashlink_model.proofs.Names.{moved_at, set_value_at, set_key_at, put, moved}
+use Rattle.hashlink_model.proofs.Splits.{stands_from_place, stands_from_lookup, place_of-here}
 use Rattle.hashlink_model.proofs.Puts.{put-here}
 use Rattle.hashlink_model.proofs.Places.{slice_get_here}
 
@@ -82,11 +82,7 @@ pub moved-there : {K V : Type 0} (eq : K → K → Bool) (es : List (K × V)) (k
     → lookup (eq k) es ≡ Some w → moved eq es k b ≡ put eq es k w b
 moved-there eq es k b w l =
     let s = stands_from_lookup (eq k) es w l in
-    let there = put-here eq s.0 s.1 s.2 k w b s.3.passes s.3.before in
-    let stands : s.1.1 ≡ w = cc
-    (sym (lookup-here (eq k) s.1 s.2 s.3.passes s.0 s.3.before) ∙ ap (lookup (eq k)) (sym s.3.is) ∙ l) in
-    ap (λ zs. moved eq zs k b) s.3.is
-    ∙ ap (λ o. option_map_or (λ i. moved_at (s.0 ++ s.1 ∷ s.2) i b) o (s.0 ++ s.1 ∷ s.2))
-    (place_of-here (eq k) s.1 s.2 s.3.passes s.0 s.3.before) ∙ moved_at-here s.0 s.1 s.2 b
-    ∙ ap (λ v. insert (s.0 ++ s.2) (place_left (length s.0) b) (s.1.0, v)) stands ∙ sym there
-    ∙ ap (λ zs. put eq zs k w b) (sym s.3.is)
+    let p = ap (place_of (eq k)) s.3.is ∙ place_of-here (eq k) s.1 s.2 s.3.passes s.0 s.3.before in
+    let same = set_value_at-place (eq k) es (length s.0) w p ∙ set_value_same (eq k) es w l in
+    sym (moved_at-place eq es k (length s.0) p b) ∙ ap (λ zs. moved_at zs (length s.0) b) (sym same)
+    ∙ moved_at-put eq es k (length s.0) p w b

@@ -96,7 +96,6 @@ module _ {K V : Type 0} where
   IsEntries-cache_extended eq laws es cap (p ∷ pairs) d =
       IsEntries-cache_extended eq laws (cache_put eq es cap p.0 p.1) cap pairs
       (IsEntries-cache_put eq laws es cap p.0 p.1 d)
-
   -- ---- look-ups after an insert
 
 module _ {K V : Type 0} (eq : K → K → Bool) (laws : IsEquivalence eq) where

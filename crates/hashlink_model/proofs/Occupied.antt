@@ -5,12 +5,11 @@ use Rattle.hashlink_model.proofs.Names.{true, cond, List, [], ◌∷◌, ◌++�
 use Rattle.hashlink_model.proofs.Names.{sym, ap, ap₂, ◌∙◌, subst, IsEquivalence, option_map_or, lookup_entry}
 use Rattle.hashlink_model.proofs.Names.{NonePasses, append-nil, IsEntries, place_of, place_left, put}
 use Rattle.hashlink_model.proofs.Names.{moved_at, without, set_value_at, set_key_at, MapState}
-use Rattle.hashlink_model.specs.Entry.{EntryState, IsEntry, IsRawEntry, raw_entry_of, insert_value}
-use Rattle.hashlink_model.specs.Entry.{insert_entry, replace_entry}
+use Rattle.hashlink_model.specs.Entry.{IsRawEntry, raw_entry_of, insert_value, insert_entry, replace_entry}
 use Rattle.hashlink_model.proofs.Distinct.{none_equal, none_others, IsEntries-middle, IsEntries-insert}
 use Rattle.hashlink_model.proofs.Finds.{lookup_entry-middle}
 use Rattle.hashlink_model.proofs.Puts.{none_without}
-use Rattle.hashlink_model.proofs.Places.{slice_get_here, split_at, place_of_its_key}
+use Rattle.hashlink_model.proofs.Places.{split_at, place_of_its_key}
 use Rattle.hashlink_model.proofs.ByPlace.{set_value_at-here, set_key_at-here, remove-here, moved_at-last}
 use Rattle.hashlink_model.proofs.ByPlace.{moved_at-put, remove-place, length-set_value_at}
 use Rattle.hashlink_model.proofs.Splits.{stands_from_place}
@@ -142,12 +141,6 @@ module _ {K V : Type 0} where
 -- ---- where an entry stands
 
 module _ {K V S : Type 0} (eq : K → K → Bool) where
-  pub entry_stands : (e : EntryState K V S) (j : ℕ) → IsEntry eq e → e.place ≡ Some j
-      → (x : K × V) × (slice_get e.map.entries j ≡ Some x) × (eq e.key x.0 ≡ true)
-  entry_stands e j i p =
-      let s = stands_from_place (eq e.key) e.map.entries j (sym i ∙ p) in
-      (s.1, ap₂ slice_get s.3.is (sym s.4) ∙ slice_get_here s.0 s.1 s.2, s.3.passes)
-
   pub raw_entry_stands : (m : MapState K V S) (k : K) → IsRawEntry (raw_entry_of eq m k)
   raw_entry_stands m k = by (place_of (eq k) m.entries) refl
     where

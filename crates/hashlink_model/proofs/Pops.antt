@@ -1,9 +1,9 @@
 -- The first and the last entry taken out, and cursors and entries of a map's state.
-use Rattle.hashlink_model.proofs.Names.{◌≡◌, ℕ, ◌+◌, ◌≤◌, Bool, List, [], ◌∷◌, ◌++◌, length, None, Some, Err}
-use Rattle.hashlink_model.proofs.Names.{refl, sym, ap, ◌∙◌, subst, arith, IsEquivalence, lookup, IsEntries}
-use Rattle.hashlink_model.proofs.Names.{place_of, MapState, TakesFirst, TakesLast, PopsFront, PopsBack}
-use Rattle.hashlink_model.proofs.Names.{after_first_of, before_last_of, place_kept}
-use Rattle.hashlink_model.proofs.Walks.{takes_first, takes_last}
+use Rattle.hashlink_model.proofs.Names.{ap₂, option_to_list, cons_option, ◌≡◌, ℕ, ◌+◌, ◌≤◌, Bool, List, []}
+use Rattle.hashlink_model.proofs.Names.{◌∷◌, ◌++◌, length, None, Some, Err, refl, sym, ap, ◌∙◌, arith}
+use Rattle.hashlink_model.proofs.Names.{IsEquivalence, lookup, IsEntries, place_of, MapState, PopsFront}
+use Rattle.hashlink_model.proofs.Names.{PopsBack, place_kept}
+use Rattle.hashlink_model.proofs.Walks.{first_splits, last_splits}
 use Rattle.hashlink_model.specs.Cursor.{CursorState, CursorInserts}
 use Rattle.hashlink_model.proofs.Cursors.{place_kept-same}
 
@@ -30,15 +30,11 @@ module _ {K V : Type 0} (eq : K → K → Bool) (laws : IsEquivalence eq) where
 module _ {K V S : Type 0} (old new : MapState K V S) (e : K × V) where
   pub pops_front : PopsFront old new (Some e) → (old.entries ≡ e ∷ new.entries) × (new.spare ≡ old.spare + 1)
   pops_front s =
-      let taken : TakesFirst (λ x. x) old.entries (Some e) (after_first_of old.entries)
-      = subst (λ o. TakesFirst (λ x. x) old.entries o (after_first_of old.entries)) (sym s.answer)
-      (takes_first old.entries) in
-      (taken ∙ ap (λ r. e ∷ r) (sym s.step.entries), s.step.spare)
+      (sym (first_splits old.entries) ∙ ap₂ cons_option (sym s.answer) (sym s.step.entries), s.step.spare)
 
   pub pops_back : PopsBack old new (Some e) → (old.entries ≡ new.entries ++ e ∷ [])
       × (new.spare ≡ old.spare + 1)
-  pops_back s =
-      let taken : TakesLast (λ x. x) old.entries (Some e) (before_last_of old.entries)
-      = subst (λ o. TakesLast (λ x. x) old.entries o (before_last_of old.entries)) (sym s.answer)
-      (takes_last old.entries) in
-      (taken ∙ ap (λ r. r ++ e ∷ []) (sym s.step.entries), s.step.spare)
+  pops_back s = (
+    sym (last_splits old.entries) ∙ ap₂ (λ es o. es ++ option_to_list o) (sym s.step.entries) (sym s.answer),
+    s.step.spare,
+  )

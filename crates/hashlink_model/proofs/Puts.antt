@@ -33,9 +33,6 @@ module _ {K V : Type 0} (eq : K → K → Bool) where
   place_without-end [] k = refl
   place_without-end (e ∷ es) k = grind (arith, nat_tests, place_without-end es k)
 
-  pub place_without-front : (es : List (K × V)) (k : K) → place_without eq es k 0 ≡ 0
-  place_without-front es k = grind (arith, nat_tests)
-
   -- put at the end is last, with the key object that was there
   pub put_back : (es : List (K × V)) (k : K) (v : V)
       → put eq es k v (length es) ≡ without eq es k ++ (stored_key eq es k, v) ∷ []
@@ -44,7 +41,7 @@ module _ {K V : Type 0} (eq : K → K → Bool) where
   -- put at 0 is first
   pub put_front : (es : List (K × V)) (k : K) (v : V) → put eq es k v 0
       ≡ (stored_key eq es k, v) ∷ without eq es k
-  put_front es k v = rw (place_without-front es k) refl
+  put_front es k v = grind (arith, nat_tests)
 
   -- put where the key stands, or directly after it, changes the value alone
   kept_by : (es : List (K × V)) (k : K) (v : V) (j b : ℕ) → (b ≡ j) ⊎ (b ≡ j + 1)

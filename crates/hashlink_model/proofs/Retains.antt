@@ -1,15 +1,13 @@
 -- What a retain leaves: in the list's own order, with keys pairwise unequal, and a filter where the closure
 -- is a predicate.
-use Rattle.hashlink_model.proofs.Names.{◌≡◌, Bool, true, false, cond, List, [], ◌∷◌, ◌++◌, Option, None, Some}
-use Rattle.hashlink_model.proofs.Names.{filter, refl, sym, ap, ap₂, ◌∙◌, subst, arith, IsEquivalence}
-use Rattle.hashlink_model.proofs.Names.{AllByRecursion, cons_option, lookup_entry, keys_of, NonePasses}
-use Rattle.hashlink_model.proofs.Names.{recursion_from_All, none-some, IsEntries}
-use Rattle.std.proofs.Common.{Contains, IsPermutation}
-use Rattle.std.specs.Map.Calls.{RetainsPairs}
+use Rattle.hashlink_model.proofs.Names.{recursion_from_All, keys_of, ◌≡◌, Bool, true, false, cond, List, []}
+use Rattle.hashlink_model.proofs.Names.{◌∷◌, ◌++◌, Option, None, Some, filter, refl, sym, ap, ap₂, ◌∙◌, subst}
+use Rattle.hashlink_model.proofs.Names.{arith, IsEquivalence, AllByRecursion, cons_option, lookup_entry}
+use Rattle.hashlink_model.proofs.Names.{NonePasses, none-some, IsEntries}
 use Rattle.std.proofs.lemmas.Map.Keys.{IsDistinct-IsPermutation}
-use Rattle.std.proofs.lemmas.Map.Entries.{filter_from_retain_pairs}
 use Rattle.std.proofs.lemmas.List.Elements.{All-contains_itself, filter-append}
 use Rattle.std.proofs.lemmas.List.Sorted.{IsPermutation-map, Contains-permutation}
+use Rattle.std.proofs.Common.{Contains}
 use Rattle.std.proofs.lemmas.Option.{slice_get-get_or}
 use Rattle.hashlink_model.specs.Retain.{KeepsInSomeOrder, KeepsInOrder, in_order_of}
 use Rattle.hashlink_model.proofs.Distinct.{IsEntries-cons, IsEntries-head, IsEntries-tail, each-append}
@@ -18,11 +16,14 @@ use Rattle.hashlink_model.proofs.Splits.{lookup_entry-none, lookup_entry-here}
 use Rattle.hashlink_model.proofs.Places.{split_at}
 
 module _ {F K V : Type 0} (T : F → K → V → Bool → V → F → Type 0) where
-  -- the calls along a list, without the state in which they leave the closure
-  pub retains-called : (f : F) (es kept : List (K × V)) (g : F) → KeepsInOrder T f es kept g
-      → RetainsPairs T f es kept
-  retains-called f [] kept g r = r.0
-  retains-called f (e ∷ es) kept g r = (r.0, r.1, r.2, r.3, r.4, retains-called r.2 es r.3 g r.5, r.6)
+  pub keeps_in_order_is_filter : (p : K × V → Bool)
+      → ((g : F) (k : K) (v : V) (b : Bool) (w : V) (h : F) → T g k v b w h → (b ≡ p (k, v)) × (w ≡ v))
+      → (f : F) (es new : List (K × V)) (h : F) → KeepsInOrder T f es new h → new ≡ filter p es
+  keeps_in_order_is_filter p says f [] new h r = r.0
+  keeps_in_order_is_filter p says f (e ∷ es) new h r =
+      let call = says f e.0 e.1 r.0 r.1 r.2 r.4 in
+      let rest = keeps_in_order_is_filter p says r.2 es r.3 h r.5 in
+      r.6 ∙ (λ i. cond (call.0 i) ((e.0, call.1 i) ∷ rest i) (rest i))
 
 module _ {K V : Type 0} where
   pub found_passes : (test : K → Bool) (es : List (K × V)) (f : K × V) → lookup_entry test es ≡ Some f
@@ -91,34 +92,19 @@ module _ {K V : Type 0} (eq : K → K → Bool) (laws : IsEquivalence eq) where
   in_order_by p kept [] a = refl
   in_order_by p kept (e ∷ es) a = grind (arith, a.0, in_order_by p kept es a.1)
 
-  pub in_order_of-filter : (p : K × V → Bool) (es order : List (K × V)) → IsEntries eq es
-      → IsPermutation es order → in_order_of eq es (filter p order) ≡ filter p es
-  in_order_of-filter p es order d m =
-      let e = IsDistinct-IsPermutation eq laws.symm (keys_of es) (keys_of order)
-      (IsPermutation-map (λ x. x.0) es order m) d in
-      in_order_by p (filter p order) es
-      (each-weaker _ _ (λ x c. lookup_filtered p order x e (Contains-permutation es order x m c)) es
-      (recursion_from_All (Contains es) es (All-contains_itself es)))
-
   pub keeps_is_filter : {F : Type 0} (T : F → K → V → Bool → V → F → Type 0) (p : K × V → Bool)
       → ((g : F) (k : K) (v : V) (b : Bool) (w : V) (h : F) → T g k v b w h → (b ≡ p (k, v)) × (w ≡ v))
       → (f : F) (es new : List (K × V)) (h : F) → IsEntries eq es → KeepsInSomeOrder T eq f es new h
       → new ≡ filter p es
   keeps_is_filter T p says f es new h d r =
-      let kept = filter_from_retain_pairs T (λ _. Unit {0}) p
-      (λ g k v b w h _ t. let s = says g k v b w h t in (s.0, s.1, tt)) f r.order r.kept tt
-      (retains-called T f r.order r.kept h r.called) in
-      r.entries ∙ ap (in_order_of eq es) kept ∙ in_order_of-filter p es r.order d r.each_once
+      let apart = IsDistinct-IsPermutation eq laws.symm (keys_of es) (keys_of r.order)
+      (IsPermutation-map (λ x. x.0) es r.order r.each_once) d in
+      r.entries ∙ ap (in_order_of eq es) (keeps_in_order_is_filter T p says f r.order r.kept h r.called)
+      ∙ in_order_by p (filter p r.order) es
+      (each-weaker _ _ (λ x c. lookup_filtered p r.order x apart (Contains-permutation es r.order x r.each_once c))
+      es (recursion_from_All (Contains es) es (All-contains_itself es)))
 
 module _ {F K V : Type 0} (T : F → K → V → Bool → V → F → Type 0) where
-  pub keeps_in_order_is_filter : (p : K × V → Bool)
-      → ((g : F) (k : K) (v : V) (b : Bool) (w : V) (h : F) → T g k v b w h → (b ≡ p (k, v)) × (w ≡ v))
-      → (f : F) (es new : List (K × V)) (h : F) → KeepsInOrder T f es new h → new ≡ filter p es
-  keeps_in_order_is_filter p says f es new h r =
-      filter_from_retain_pairs T (λ _. Unit {0}) p
-      (λ g k v b w h _ t. let s = says g k v b w h t in (s.0, s.1, tt)) f
-      es new tt (retains-called T f es new h r)
-
   -- no key comes in
   pub none_kept : (test : K → Bool) (f : F) (es new : List (K × V)) (g : F) → KeepsInOrder T f es new g
       → NonePasses test es → NonePasses test new

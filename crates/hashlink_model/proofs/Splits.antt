@@ -6,6 +6,7 @@ use Rattle.hashlink_model.proofs.Names.{remove_entry, set_value, NonePasses, sam
 use Rattle.std.proofs.Common.{add-one}
 use Rattle.std.proofs.lemmas.Map.{none_passes_from_lookup}
 use Rattle.std.proofs.Math.Path.{fun_ext}
+pub use Rattle.std.proofs.lemmas.Map.{lookup-none}
 
 module _ {K V : Type 0} (test : K → Bool) where
   -- e is the first entry of es whose key passes, xs stands before it and ys after it
@@ -44,10 +45,6 @@ module _ {K V : Type 0} (test : K → Bool) where
   pub lookup_key-none : (es : List (K × V)) → NonePasses test es → lookup_key test es ≡ None
   lookup_key-none [] n = refl
   lookup_key-none (x ∷ es) n = rw n.0 (lookup_key-none es n.1)
-
-  pub lookup-none : (es : List (K × V)) → NonePasses test es → lookup test es ≡ None
-  lookup-none [] n = refl
-  lookup-none (x ∷ es) n = rw n.0 (lookup-none es n.1)
 
   pub remove_entry-none : (es : List (K × V)) → NonePasses test es → remove_entry test es ≡ es
   remove_entry-none [] n = refl
@@ -90,7 +87,7 @@ module _ {K V : Type 0} (test : K → Bool) where
   none_from_lookup es l = none_passes_from_lookup test es l
 
   pub stands_from_lookup : (es : List (K × V)) (w : V) → lookup test es ≡ Some w → Stands es
-  stands_from_lookup es w l = elim (splits es) [ inl n ↦ absurd (cc (lookup-none es n)) | inr s ↦ s ]
+  stands_from_lookup es w l = elim (splits es) [ inl n ↦ absurd (cc (lookup-none test es n)) | inr s ↦ s ]
 
   pub stands_from_place : (es : List (K × V)) (j : ℕ) → place_of test es ≡ Some j
       → (xs : List (K × V)) × (e : K × V) × (ys : List (K × V)) × StandsAt es xs e ys × (length xs ≡ j)

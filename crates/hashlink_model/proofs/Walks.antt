@@ -1,9 +1,8 @@
 -- What a walk from both ends gives and leaves.
-use Rattle.std.proofs.Common.{◌≡◌, suc, ◌-◌, List, [], ◌∷◌, ◌++◌, length, Option, None, Some, option_to_list}
-use Rattle.std.proofs.Common.{refl, sym, ap, ◌∙◌, arith, append_assoc}
-use Rattle.std.specs.List.{cons_option}
-use Rattle.std.specs.Map.Iter.{TakesFirst, TakesLast}
-use Rattle.std.proofs.lemmas.List.{append-nil, length-append, length-take, length-drop}
+use Rattle.hashlink_model.proofs.Names.{◌≡◌, suc, ◌-◌, List, [], ◌∷◌, ◌++◌, length, Option, None, Some}
+use Rattle.hashlink_model.proofs.Names.{option_to_list, refl, sym, ap, ◌∙◌, arith, append_assoc, cons_option}
+use Rattle.hashlink_model.proofs.Names.{TakesFirst, append-nil, length-append, length-take, length-drop}
+use Rattle.std.specs.Map.Iter.{TakesLast}
 use Rattle.hashlink_model.specs.Walk.{End, Front, Back, first_of, after_first_of, last_of, before_last_of}
 use Rattle.hashlink_model.specs.Walk.{step_leaves, walk_leaves, given_front, given_back}
 

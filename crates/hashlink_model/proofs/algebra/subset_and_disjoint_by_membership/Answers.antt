@@ -10,8 +10,11 @@ returns g c = record {
   subset_from = λ eq laws xs ys f.
       nil_from_none eq laws _ (λ q. grind (arith, difference_members eq laws xs ys q, f q));
   disjoint = λ eq laws xs ys s q m.
-      grind (arith, intersection_members eq laws xs ys q,
-          nil_has_none eq laws (intersection_of eq xs ys) s q);
+      grind (
+        arith,
+        intersection_members eq laws xs ys q,
+        nil_has_none eq laws (intersection_of eq xs ys) s q,
+      );
   disjoint_from = λ eq laws xs ys f.
       nil_from_none eq laws _ (λ q. grind (arith, intersection_members eq laws xs ys q, f q));
 }
