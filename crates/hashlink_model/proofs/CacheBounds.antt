@@ -1,8 +1,7 @@
 -- How long a cache is after its calls, and which of them is never refused.
-use Rattle.hashlink_model.proofs.Names.{◌≡◌, ℕ, ◌-◌, ◌≤◌, ◌<◌, Bool, length, Option, None, Some, Result, Ok}
+use Rattle.hashlink_model.proofs.Names.{◌≡◌, ℕ, ◌≤◌, ◌<◌, Bool, length, Option, None, Some, Result, Ok}
 use Rattle.hashlink_model.proofs.Names.{Err, ap, arith, length-set_value, put, node_count, Clears, RemovesKey}
 use Rattle.hashlink_model.proofs.Names.{PopsFront, CacheState, CacheInserts, CacheGets}
-use Rattle.hashlink_model.specs.Steps.{RemovesMatch}
 use Rattle.hashlink_model.specs.Cache.{OnMap, IsWithin, HasNodeToSpare, SetsCapacity, CacheGetsMatch}
 use Rattle.hashlink_model.specs.Cache.{CacheGetsMatchAndWrites}
 use Rattle.hashlink_model.proofs.Afterwards.{length-moved_match}
@@ -46,11 +45,6 @@ module _ {K V S : Type 0} (old new : CacheState K V S) (n : ℕ) where
         let written = length-set_value test s.map.between.entries w in
         omega (arith, ap (λ m. length m.entries) s.map.writes, ap length s.map.moves.entries)
 
-    pub within-removes_match : (r : Option (K × V)) → OnMap (λ a b. RemovesMatch test a b r) old new
-        → IsWithin old n → IsWithin new n
-    within-removes_match None s i = omega (arith, ap (λ m. length m.entries) s.map.step)
-    within-removes_match (Some e) s i = omega (arith, ap length s.map.step.entries)
-
   module _ (eq : K → K → Bool) (k : K) where
     pub within-inserts : (v : V) (r : Result (Option V) (K × V)) → CacheInserts eq old new k v r
         → IsWithin old n → IsWithin new n
@@ -62,7 +56,8 @@ module _ {K V S : Type 0} (old new : CacheState K V S) (n : ℕ) where
 
     pub within-removes : (r : Option (K × V)) → OnMap (λ a b. RemovesKey eq a b k r) old new → IsWithin old n
         → IsWithin new n
-    within-removes r s i = within-removes_match (eq k) r s i
+    within-removes None s i = omega (arith, ap (λ m. length m.entries) s.map.step)
+    within-removes (Some e) s i = omega (arith, ap length s.map.step.entries)
 
 -- ---- once an entry was dropped, no insert is refused
 

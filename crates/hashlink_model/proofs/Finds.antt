@@ -20,11 +20,6 @@ module _ {K V : Type 0} (eq : K → K → Bool) (laws : IsEquivalence eq) where
   stored_key-equal k (e ∷ es) = grind (arith, stored_key-equal k es)
 
   -- an equal key is asked for alike
-  pub lookup_entry-equal : (k q : K) (es : List (K × V)) → eq k q ≡ true
-      → lookup_entry (eq k) es ≡ lookup_entry (eq q) es
-  lookup_entry-equal k q [] t = refl
-  lookup_entry-equal k q (x ∷ es) t = grind (arith, laws.congr k q x.0 t, lookup_entry-equal k q es t)
-
   pub lookup-equal : (k q : K) (es : List (K × V)) → eq k q ≡ true → lookup (eq k) es ≡ lookup (eq q) es
   lookup-equal k q [] t = refl
   lookup-equal k q (x ∷ es) t = grind (arith, laws.congr k q x.0 t, lookup-equal k q es t)

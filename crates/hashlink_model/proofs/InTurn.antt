@@ -1,5 +1,5 @@
 -- Many items in a row.
-use Rattle.hashlink_model.proofs.Names.{◌≡◌, ℕ, ◌+◌, ◌-◌, ◌≤◌, ◌<◌, Bool, List, [], ◌∷◌, ◌++◌, length, Option}
+use Rattle.hashlink_model.proofs.Names.{◌≡◌, ℕ, ◌+◌, ◌≤◌, ◌<◌, Bool, List, [], ◌∷◌, ◌++◌, length, Option}
 use Rattle.hashlink_model.proofs.Names.{None, Some, Result, Ok, ap, ◌∙◌, subst, arith, length-append}
 use Rattle.hashlink_model.proofs.Names.{extended, MapState, InsertsPair}
 use Rattle.hashlink_model.specs.Steps.{Drains}

@@ -15,8 +15,8 @@ pub use Rattle.hashlink_model.specs.Steps.{RemovesKey}
 pub use Rattle.std.proofs.Common.{Bool, Err, List, None, Ok, Option, Result, Some, [], ap, append-nil}
 pub use Rattle.std.proofs.Common.{append_assoc, ap₂, arith, cond, drop, false, filter, inl, inr, is_some}
 pub use Rattle.std.proofs.Common.{le_refl, length, length-drop, length-take, lt-ltb, min, nat_eq, not}
-pub use Rattle.std.proofs.Common.{option_to_list, refl, slice_get, subst, suc, sym, take, true, zero, zero-le}
-pub use Rattle.std.proofs.Common.{ℕ, ◌&&◌, ◌++◌, ◌+◌, ◌-◌, ◌<◌, ◌||◌, ◌∙◌, ◌∷◌, ◌≡◌, ◌≤◌, ◌⊎◌}
+pub use Rattle.std.proofs.Common.{option_to_list, refl, slice_get, subst, suc, sym, take, true, zero, ℕ, ◌&&◌}
+pub use Rattle.std.proofs.Common.{◌++◌, ◌+◌, ◌-◌, ◌<◌, ◌||◌, ◌∙◌, ◌∷◌, ◌≡◌, ◌≤◌, ◌⊎◌}
 pub use Rattle.std.proofs.lemmas.Bool.Decides.{nat_tests}
 pub use Rattle.std.proofs.lemmas.List.{length-append, take-append-drop}
 pub use Rattle.std.proofs.lemmas.List.Edits.{insert_end}

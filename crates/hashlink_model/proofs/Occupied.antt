@@ -1,6 +1,6 @@
 -- What stands after the steps on an occupied entry.
 use Rattle.hashlink_model.proofs.Names.{insert, remove, zero, suc, ◌<◌, MatchOption, Option, arith, take}
-use Rattle.hashlink_model.proofs.Names.{drop, length-append, length-take, length-drop, ◌≡◌, ℕ, ◌+◌, Bool}
+use Rattle.hashlink_model.proofs.Names.{drop, length-append, length-take, length-drop, ◌≡◌, ℕ, Bool}
 use Rattle.hashlink_model.proofs.Names.{true, cond, List, [], ◌∷◌, ◌++◌, length, slice_get, None, Some, refl}
 use Rattle.hashlink_model.proofs.Names.{sym, ap, ap₂, ◌∙◌, subst, IsEquivalence, option_map_or, lookup_entry}
 use Rattle.hashlink_model.proofs.Names.{NonePasses, append-nil, IsEntries, place_of, place_left, put}
@@ -24,17 +24,15 @@ module _ {K V : Type 0} where
   -- a key or a value alone is the entry with the other part as it was
   pub set_key_at-entry : (es : List (K × V)) (j : ℕ) (e : K × V) (k : K) → slice_get es j ≡ Some e
       → set_key_at es j k ≡ replace_entry es j k e.1
-  set_key_at-entry es j e k at =
-      let s = split_at es j e at in
-      ap₂ (λ zs i. set_key_at zs i k) s.2 (sym s.3) ∙ set_key_at-here s.0 e s.1 k
-      ∙ sym (replace_entry-here s.0 e s.1 k e.1) ∙ ap₂ (λ zs i. replace_entry zs i k e.1) (sym s.2) s.3
+  set_key_at-entry [] j e k at = refl
+  set_key_at-entry (x ∷ es) zero e k at = grind (arith, at)
+  set_key_at-entry (x ∷ es) (suc j) e k at = ap (λ zs. x ∷ zs) (set_key_at-entry es j e k at)
 
   pub set_value_at-entry : (es : List (K × V)) (j : ℕ) (e : K × V) (v : V) → slice_get es j ≡ Some e
       → set_value_at es j v ≡ replace_entry es j e.0 v
-  set_value_at-entry es j e v at =
-      let s = split_at es j e at in
-      ap₂ (λ zs i. set_value_at zs i v) s.2 (sym s.3) ∙ set_value_at-here s.0 e s.1 v
-      ∙ sym (replace_entry-here s.0 e s.1 e.0 v) ∙ ap₂ (λ zs i. replace_entry zs i e.0 v) (sym s.2) s.3
+  set_value_at-entry [] j e v at = refl
+  set_value_at-entry (x ∷ es) zero e v at = grind (arith, at)
+  set_value_at-entry (x ∷ es) (suc j) e v at = ap (λ zs. x ∷ zs) (set_value_at-entry es j e v at)
 
 module _ {K V : Type 0} (eq : K → K → Bool) (laws : IsEquivalence eq) where
   -- the entry at j leaves, and h stands last with the value
@@ -109,10 +107,6 @@ module _ {K V : Type 0} where
   length-set_key_at (e ∷ es) zero k = refl
   length-set_key_at (e ∷ es) (suc j) k = ap suc (length-set_key_at es j k)
 
-  length-inserted : (es : List (K × V)) (b : ℕ) (e : K × V) → length (insert es b e) ≡ length es + 1
-  length-inserted es b e =
-      omega (arith, length-append (take b es) (e ∷ drop b es), length-take b es, length-drop b es)
-
   pub length-moved_at : (es : List (K × V)) (j b : ℕ) → length (moved_at es j b) ≡ length es
   length-moved_at es j b = by (slice_get es j) refl
     where
@@ -121,9 +115,17 @@ module _ {K V : Type 0} where
       by None at = refl
       by (Some e) at =
           let s = split_at es j e at in
-          length-inserted (remove es j) (place_left j b) e
-          ∙ ap (λ zs. length zs + 1) (ap₂ remove s.2 (sym s.3) ∙ remove-here s.0 e s.1)
-          ∙ omega (arith, length-append s.0 s.1, length-append s.0 (e ∷ s.1), ap length s.2)
+          let zs = remove es j in
+          let n = place_left j b in
+          let rest = ap length (ap₂ remove s.2 (sym s.3) ∙ remove-here s.0 e s.1) in
+          let whole = ap length s.2 ∙ length-append s.0 (e ∷ s.1) in
+          omega (
+            arith,
+            rest ∙ length-append s.0 s.1,
+            length-append (take n zs) (e ∷ drop n zs),
+            length-take n zs,
+            length-drop n zs,
+          )
 
   pub length-replace_entry : (es : List (K × V)) (j : ℕ) (h : K) (v : V)
       → length (replace_entry es j h v) ≡ length es

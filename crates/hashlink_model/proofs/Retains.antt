@@ -67,24 +67,17 @@ module _ {K V : Type 0} (eq : K → K → Bool) (laws : IsEquivalence eq) where
 
   -- ---- a predicate
 
-  at_by : (p : K × V → Bool) (us : List (K × V)) (e : K × V) (vs : List (K × V)) (b : Bool)
-      → NonePasses (eq e.0) us → NonePasses (eq e.0) vs
-      → lookup_entry (eq e.0) (filter p us ++ cond b (e ∷ filter p vs) (filter p vs)) ≡ cond b (Some e) None
-  at_by p us e vs true n m =
-      lookup_entry-here (eq e.0) e (filter p vs) (laws.refl e.0) (filter p us) (none_filtered (eq e.0) p us n)
-  at_by p us e vs false n m =
-      lookup_entry-none (eq e.0) (filter p us ++ filter p vs)
-      (each-append _ (filter p us) (filter p vs) (none_filtered (eq e.0) p us n)
-      (none_filtered (eq e.0) p vs m))
-
   lookup_filtered : (p : K × V → Bool) (es : List (K × V)) (e : K × V) → IsEntries eq es → Contains es e
       → lookup_entry (eq e.0) (filter p es) ≡ cond (p e) (Some e) None
   lookup_filtered p es e d c =
       let s = split_at es c.0 e (slice_get-get_or es c.0 e c.1 ∙ ap Some c.2) in
       let apart = none_others eq laws s.0 e s.1 (subst (IsEntries eq) s.2 d) in
+      let us = none_filtered (eq e.0) p s.0 (each-left _ s.0 s.1 apart) in
+      let vs = none_filtered (eq e.0) p s.1 (each-right _ s.0 s.1 apart) in
+      let here = lookup_entry-here (eq e.0) e (filter p s.1) (laws.refl e.0) (filter p s.0) us in
+      let none = lookup_entry-none (eq e.0) (filter p s.0 ++ filter p s.1) (each-append _ _ _ us vs) in
       ap (λ zs. lookup_entry (eq e.0) (filter p zs)) s.2
-      ∙ ap (lookup_entry (eq e.0)) (filter-append p s.0 (e ∷ s.1))
-      ∙ at_by p s.0 e s.1 (p e) (each-left _ s.0 s.1 apart) (each-right _ s.0 s.1 apart)
+      ∙ ap (lookup_entry (eq e.0)) (filter-append p s.0 (e ∷ s.1)) ∙ grind (arith, here, none)
 
   in_order_by : (p : K × V → Bool) (kept es : List (K × V))
       → AllByRecursion (λ e. lookup_entry (eq e.0) kept ≡ cond (p e) (Some e) None) es

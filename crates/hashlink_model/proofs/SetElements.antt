@@ -45,11 +45,9 @@ module _ {T V : Type 0} (test : T → Bool) where
   keys-set_key_at (e ∷ es) (suc j) t p = grind (arith, p, keys-set_key_at es j t)
 
 module _ {T S : Type 0} (eq : T → T → Bool) (old new : SetState T S) (t : T) where
-  member_none : lookup (eq t) old.entries ≡ None → is_member eq (elements_of old) t ≡ false
-  member_none l = sym (is_some-lookup (eq t) old.entries) ∙ ap is_some l
-
-  member_some : (w : Unit {0}) → lookup (eq t) old.entries ≡ Some w → is_member eq (elements_of old) t ≡ true
-  member_some w l = sym (is_some-lookup (eq t) old.entries) ∙ ap is_some l
+  member_is : (o : Option (Unit {0})) → lookup (eq t) old.entries ≡ o
+      → is_member eq (elements_of old) t ≡ is_some o
+  member_is o l = sym (is_some-lookup (eq t) old.entries) ∙ ap is_some l
 
   module _ (b : ℕ) where
     pub inserts_elements : (w : Option (Unit {0})) → Inserts eq old new t tt b (Ok w)
@@ -59,22 +57,22 @@ module _ {T S : Type 0} (eq : T → T → Bool) (old new : SetState T S) (t : T)
 
     pub inserts_member : (w : Option (Unit {0})) → Inserts eq old new t tt b (Ok w)
         → is_some w ≡ is_member eq (elements_of old) t
-    inserts_member None s = sym (member_none s.absent)
-    inserts_member (Some w) s = sym (member_some w s.old_value)
+    inserts_member None s = sym (member_is None s.absent)
+    inserts_member (Some w) s = sym (member_is (Some w) s.old_value)
 
     pub inserts_refused : (pair : T × Unit {0}) → Inserts eq old new t tt b (Err pair)
         → (elements_of new ≡ elements_of old) × (is_member eq (elements_of old) t ≡ false) × (pair.0 ≡ t)
     inserts_refused pair s =
-        (ap keys_of s.grows.entries, member_none s.may_refuse.absent, ap (λ p. p.0) s.handed_back)
+        (ap keys_of s.grows.entries, member_is None s.may_refuse.absent, ap (λ p. p.0) s.handed_back)
 
     pub moves_elements : (r : Option (Unit {0})) → Moves eq old new t b r
         → (elements_of new ≡ cond (is_some r) (put_element eq (elements_of old) t b) (elements_of old))
         × (is_some r ≡ is_member eq (elements_of old) t)
-    moves_elements None s = (ap elements_of s.step, sym (member_none (sym s.answer)))
+    moves_elements None s = (ap elements_of s.step, sym (member_is None (sym s.answer)))
     moves_elements (Some w) s = (
       ap keys_of (s.step.entries ∙ moved-there eq old.entries t b w (sym s.answer))
           ∙ keys_of-put eq old.entries t b,
-      sym (member_some w (sym s.answer)),
+      sym (member_is (Some w) (sym s.answer)),
     )
 
   found_key : (r : Option (T × Unit {0})) → r ≡ lookup_entry (eq t) old.entries
@@ -111,7 +109,7 @@ module _ {T S : Type 0} (eq : T → T → Bool) (old new : SetState T S) (t : T)
       let none = none_from_lookup (eq t) old.entries s.absent in (
         ap keys_of (s.adds.entries ∙ put_back_absent eq old.entries t tt none)
             ∙ map-append (λ e. e.0) old.entries ((t, tt) ∷ [])
-            ∙ sym (replaced-absent eq (elements_of old) t (member_none s.absent)),
+            ∙ sym (replaced-absent eq (elements_of old) t (member_is None s.absent)),
         found_key None (sym (lookup_entry-none (eq t) old.entries none)),
       )
   set_replaces (Some x) s =

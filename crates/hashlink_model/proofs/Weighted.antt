@@ -1,8 +1,8 @@
 -- The longest end of the entries that a budget allows.
 use Rattle.hashlink_model.proofs.Names.{◌≡◌, ℕ, ◌≤◌, Bool, true, false, cond, List, [], ◌∷◌, ◌++◌, length}
-use Rattle.hashlink_model.proofs.Names.{refl, ◌∙◌, ap, arith, le_refl, zero-le, length-append, IsEntries}
-use Rattle.hashlink_model.proofs.Names.{without, stored_key, Option, nat_tests}
-use Rattle.std.proofs.Common.{nat_le, le-leb}
+use Rattle.hashlink_model.proofs.Names.{refl, ◌∙◌, ap, arith, le_refl, length-append, IsEntries, without}
+use Rattle.hashlink_model.proofs.Names.{stored_key, Option, nat_tests}
+use Rattle.std.proofs.Common.{zero-le, nat_le, le-leb}
 use Rattle.hashlink_model.proofs.Distinct.{IsEntries-tail}
 use Rattle.hashlink_model.proofs.Puts.{put_back}
 use Rattle.hashlink_model.specs.Weights.{WeightedState, WeightedInserts, total_weight, fitting, weighted_put}
