@@ -8,16 +8,15 @@ use Rattle.hashlink_model.proofs.Puts.{put_back}
 use Rattle.hashlink_model.proofs.Afterwards.{moved-there}
 
 -- the insert at the length
-pub put_entries : {K V S : Type 0} (eq : K → K → Bool) (old new : MapState K V S) (k : K)
-    (v : V) (w : Option V) → InsertsLast eq k v w old new
-    → new.entries ≡ put eq old.entries k v (length old.entries)
-put_entries eq old new k v None s = s.adds.entries
-put_entries eq old new k v (Some x) s = s.puts.entries
+module _ {K V S : Type 0} (eq : K → K → Bool) (old new : MapState K V S) (k : K) (v : V) where
+  pub put_entries : (w : Option V) → InsertsLast eq k v w old new
+      → new.entries ≡ put eq old.entries k v (length old.entries)
+  put_entries None s = s.adds.entries
+  put_entries (Some x) s = s.puts.entries
 
-pub put_answer : {K V S : Type 0} (eq : K → K → Bool) (old new : MapState K V S) (k : K)
-    (v : V) (w : Option V) → InsertsLast eq k v w old new → w ≡ lookup (eq k) old.entries
-put_answer eq old new k v None s = sym s.absent
-put_answer eq old new k v (Some x) s = sym s.old_value
+  pub put_answer : (w : Option V) → InsertsLast eq k v w old new → w ≡ lookup (eq k) old.entries
+  put_answer None s = sym s.absent
+  put_answer (Some x) s = sym s.old_value
 
 module _ {K V S : Type 0} (eq : K → K → Bool) (old new : CacheState K V S) (k : K) (v : V) where
   pub inserts_answer : (w : Option V) → CacheInserts eq old new k v (Ok w) → w ≡ lookup (eq k) old.map.entries

@@ -15,13 +15,12 @@ module _ {X : Type 0} where
   first_splits [] = refl
   first_splits (x ∷ xs) = refl
 
-  last_step : (x y : X) (xs : List X) → length (x ∷ y ∷ xs) - 1 ≡ suc (length (y ∷ xs) - 1)
-  last_step x y xs = omega arith
-
   pub last_splits : (xs : List X) → before_last_of xs ++ option_to_list (last_of xs) ≡ xs
   last_splits [] = refl
   last_splits (x ∷ []) = refl
-  last_splits (x ∷ y ∷ xs) = rw (last_step x y xs) (ap (λ r. x ∷ r) (last_splits (y ∷ xs)))
+  last_splits (x ∷ y ∷ xs) =
+      let one : length (x ∷ y ∷ xs) - 1 ≡ suc (length (y ∷ xs) - 1) = omega arith in
+      rw one (ap (λ r. x ∷ r) (last_splits (y ∷ xs)))
 
   last_by : (x : X) (xs : List X) (o : Option X) → before_last_of (x ∷ xs) ++ option_to_list o ≡ x ∷ xs
       → TakesLast (λ x. x) (x ∷ xs) o (before_last_of (x ∷ xs))
