@@ -1,21 +1,17 @@
 -- What stands after a key was put, moved or taken out: lengths, look-ups, and the same step once more.
-use Rattle.std.proofs.Common.{ap₂, inl, inr, ◌≡◌, ℕ, ◌+◌, Bool, true, false, cond, List, [], ◌∷◌, ◌++◌}
-use Rattle.std.proofs.Common.{length, None, Some, refl, sym, ap, ◌∙◌, arith, take, drop}
-use Rattle.std.specs.Prelude.{unwrap_or}
-use Rattle.std.specs.Option.{option_map_or}
-use Rattle.std.specs.Cmp.{IsEquivalence}
-use Rattle.std.specs.Map.{lookup, lookup_entry, lookup_key}
-use Rattle.std.proofs.lemmas.Map.{NonePasses}
-use Rattle.std.proofs.lemmas.List.{take-append-drop, length-append}
-use Rattle.hashlink_model.specs.Entries.{IsEntries, place_without, without, stored_key, put, moved, moved_at}
+use Rattle.hashlink_model.proofs.Names.{ap₂, inl, inr, ◌≡◌, ℕ, ◌+◌, Bool, true, false, cond, List, [], ◌∷◌}
+use Rattle.hashlink_model.proofs.Names.{◌++◌, length, None, Some, refl, sym, ap, ◌∙◌, arith, take, drop}
+use Rattle.hashlink_model.proofs.Names.{option_map_or, IsEquivalence, lookup, lookup_entry, NonePasses}
+use Rattle.hashlink_model.proofs.Names.{take-append-drop, length-append, IsEntries, place_without, without}
+use Rattle.hashlink_model.proofs.Names.{stored_key, put, moved, moved_at}
 use Rattle.hashlink_model.specs.Entries.{moved_match}
-pub use Rattle.hashlink_model.proofs.ByPlace.{moved-there}
-use Rattle.hashlink_model.proofs.Splits.{none_from_lookup, remove_entry-none}
-use Rattle.hashlink_model.proofs.Splits.{remove_entry-here, place_of-none, splits}
+use Rattle.hashlink_model.proofs.Splits.{none_from_lookup, remove_entry-none, remove_entry-here}
+use Rattle.hashlink_model.proofs.Splits.{place_of-none, splits}
 use Rattle.hashlink_model.proofs.Distinct.{each-left}
-use Rattle.hashlink_model.proofs.Finds.{lookup_is, lookup_key_is, stored_key-equal}
-use Rattle.hashlink_model.proofs.Finds.{lookup_entry-without, lookup-equal}
+use Rattle.hashlink_model.proofs.Finds.{lookup_is, lookup_key_is, stored_key-equal, lookup_entry-without}
+use Rattle.hashlink_model.proofs.Finds.{lookup-equal}
 use Rattle.hashlink_model.proofs.Puts.{put_back, put_front, lookup_entry-put, none_without, IsEntries-put}
+pub use Rattle.hashlink_model.proofs.ByPlace.{moved-there}
 
 moved_match-none : {K V : Type 0} (test : K → Bool) (es : List (K × V)) (b : ℕ) → NonePasses test es
     → moved_match test es b ≡ es
@@ -78,12 +74,6 @@ module _ {K V : Type 0} (eq : K → K → Bool) (laws : IsEquivalence eq) where
       let after = lookup_is (eq q) (put eq es k v b) in
       grind (arith, after, lookup_is (eq q) es, lookup_entry-put eq laws q es k v b d)
 
-  pub lookup_key-put : (q : K) (es : List (K × V)) (k : K) (v : V) (b : ℕ) → IsEntries eq es
-      → lookup_key (eq q) (put eq es k v b) ≡ cond (eq k q) (Some (stored_key eq es k)) (lookup_key (eq q) es)
-  lookup_key-put q es k v b d =
-      let after = lookup_key_is (eq q) (put eq es k v b) in
-      grind (arith, after, lookup_key_is (eq q) es, lookup_entry-put eq laws q es k v b d)
-
   pub lookup-put_same : (q : K) (es : List (K × V)) (k : K) (v : V) (b : ℕ) → IsEntries eq es → eq k q ≡ true
       → lookup (eq q) (put eq es k v b) ≡ Some v
   lookup-put_same q es k v b d t = lookup-put q es k v b d ∙ rw t refl
@@ -95,7 +85,9 @@ module _ {K V : Type 0} (eq : K → K → Bool) (laws : IsEquivalence eq) where
   -- the stored key stays
   pub stored_key-put : (es : List (K × V)) (k : K) (v : V) (b : ℕ) → IsEntries eq es
       → stored_key eq (put eq es k v b) k ≡ stored_key eq es k
-  stored_key-put es k v b d = ap (λ o. unwrap_or o k) (lookup_key-put k es k v b d) ∙ rw (laws.refl k) refl
+  stored_key-put es k v b d =
+      let after = lookup_key_is (eq k) (put eq es k v b) in
+      grind (arith, after, lookup_key_is (eq k) es, lookup_entry-put eq laws k es k v b d, laws.refl k)
 
   -- ---- look-ups after a removal
 

@@ -1,13 +1,10 @@
 -- Steps at a place, and the same steps at the key that stands there.
-use Rattle.std.proofs.Common.{◌≡◌, ℕ, zero, suc, ◌-◌, ◌<◌, Bool, List, [], ◌∷◌, ◌++◌, length, Some, refl, sym}
-use Rattle.std.proofs.Common.{ap, ap₂, ◌∙◌, arith, lt-ltb, length-append}
-use Rattle.std.specs.Prelude.{insert, remove}
-use Rattle.std.specs.Option.{option_map_or}
-use Rattle.std.specs.Map.{keys_of, lookup, remove_entry, set_value}
-use Rattle.std.proofs.lemmas.List.Edits.{insert_end}
-use Rattle.hashlink_model.specs.Entries.{place_of, place_left, moved_at, set_value_at, set_key_at, put, moved}
-use Rattle.hashlink_model.proofs.Splits.{stands_from_place, stands_from_lookup, set_value-here}
-use Rattle.hashlink_model.proofs.Splits.{remove_entry-here, lookup-here, place_of-here}
+use Rattle.hashlink_model.proofs.Names.{set_value_same, ◌≡◌, ℕ, zero, suc, ◌-◌, ◌<◌, Bool, List, [], ◌∷◌}
+use Rattle.hashlink_model.proofs.Names.{◌++◌, length, Some, refl, sym, ap, ap₂, ◌∙◌, arith, lt-ltb}
+use Rattle.hashlink_model.proofs.Names.{length-append, insert, remove, option_map_or, keys_of, lookup}
+use Rattle.hashlink_model.proofs.Names.{remove_entry, set_value, insert_end, none-some, place_of, place_left}
+use Rattle.hashlink_model.proofs.Names.{moved_at, set_value_at, set_key_at, put, moved}
+use Rattle.hashlink_model.proofs.Splits.{stands_from_place, stands_from_lookup, place_of-here}
 use Rattle.hashlink_model.proofs.Puts.{put-here}
 use Rattle.hashlink_model.proofs.Places.{slice_get_here}
 
@@ -57,18 +54,15 @@ module _ {K V : Type 0} where
 
   pub set_value_at-place : (test : K → Bool) (es : List (K × V)) (j : ℕ) (w : V) → place_of test es ≡ Some j
       → set_value_at es j w ≡ set_value test es w
-  set_value_at-place test es j w p =
-      let s = stands_from_place test es j p in
-      ap₂ (λ zs n. set_value_at zs n w) s.3.is (sym s.4) ∙ set_value_at-here s.0 s.1 s.2 w
-      ∙ sym (set_value-here test s.1 s.2 s.3.passes w s.0 s.3.before)
-      ∙ ap (λ zs. set_value test zs w) (sym s.3.is)
+  set_value_at-place test [] j w p = refl
+  set_value_at-place test (e ∷ es) zero w p = grind (arith, p)
+  set_value_at-place test (e ∷ es) (suc j) w p = grind (arith, p, set_value_at-place test es j w)
 
   pub remove-place : (test : K → Bool) (es : List (K × V)) (j : ℕ) → place_of test es ≡ Some j
       → remove es j ≡ remove_entry test es
-  remove-place test es j p =
-      let s = stands_from_place test es j p in
-      ap₂ remove s.3.is (sym s.4) ∙ remove-here s.0 s.1 s.2
-      ∙ sym (remove_entry-here test s.1 s.2 s.3.passes s.0 s.3.before) ∙ ap (remove_entry test) (sym s.3.is)
+  remove-place test [] j p = absurd (none-some j p)
+  remove-place test (e ∷ es) zero p = grind (arith, p)
+  remove-place test (e ∷ es) (suc j) p = grind (arith, p, remove-place test es j)
 
   module _ (eq : K → K → Bool) (es : List (K × V)) (k : K) (j : ℕ) (p : place_of (eq k) es ≡ Some j) where
     -- moved with a new value it is put
@@ -88,11 +82,7 @@ pub moved-there : {K V : Type 0} (eq : K → K → Bool) (es : List (K × V)) (k
     → lookup (eq k) es ≡ Some w → moved eq es k b ≡ put eq es k w b
 moved-there eq es k b w l =
     let s = stands_from_lookup (eq k) es w l in
-    let there = put-here eq s.0 s.1 s.2 k w b s.3.passes s.3.before in
-    let stands : s.1.1 ≡ w = cc
-    (sym (lookup-here (eq k) s.1 s.2 s.3.passes s.0 s.3.before) ∙ ap (lookup (eq k)) (sym s.3.is) ∙ l) in
-    ap (λ zs. moved eq zs k b) s.3.is
-    ∙ ap (λ o. option_map_or (λ i. moved_at (s.0 ++ s.1 ∷ s.2) i b) o (s.0 ++ s.1 ∷ s.2))
-    (place_of-here (eq k) s.1 s.2 s.3.passes s.0 s.3.before) ∙ moved_at-here s.0 s.1 s.2 b
-    ∙ ap (λ v. insert (s.0 ++ s.2) (place_left (length s.0) b) (s.1.0, v)) stands ∙ sym there
-    ∙ ap (λ zs. put eq zs k w b) (sym s.3.is)
+    let p = ap (place_of (eq k)) s.3.is ∙ place_of-here (eq k) s.1 s.2 s.3.passes s.0 s.3.before in
+    let same = set_value_at-place (eq k) es (length s.0) w p ∙ set_value_same (eq k) es w l in
+    sym (moved_at-place eq es k (length s.0) p b) ∙ ap (λ zs. moved_at zs (length s.0) b) (sym same)
+    ∙ moved_at-put eq es k (length s.0) p w b

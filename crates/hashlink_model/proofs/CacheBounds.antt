@@ -1,18 +1,14 @@
--- How long a cache is after its calls, which of them is never refused, and how many links they store.
-use Rattle.std.proofs.Common.{◌≡◌, ℕ, ◌+◌, ◌-◌, ◌*◌, ◌≤◌, ◌<◌, Bool, length, Option, None, Some, Result, Ok}
-use Rattle.std.proofs.Common.{Err, ap, arith}
-use Rattle.std.proofs.lemmas.Map.{length-set_value}
-use Rattle.hashlink_model.specs.Entries.{put}
-use Rattle.hashlink_model.specs.MapState.{StoresAtMost, node_count}
-use Rattle.hashlink_model.specs.Steps.{Clears, RemovesKey, RemovesMatch, PopsFront, PopsBack}
-use Rattle.hashlink_model.specs.Cache.{CacheState, OnMap, IsWithin, HasNodeToSpare, CacheInserts, CacheGets}
-use Rattle.hashlink_model.specs.Cache.{SetsCapacity, CacheGetsMatch, CacheGetsMatchAndWrites}
-use Rattle.hashlink_model.proofs.Afterwards.{length-put_there, length-moved_match, length-put_absent}
+-- How long a cache is after its calls, and which of them is never refused.
+use Rattle.hashlink_model.proofs.Names.{◌≡◌, ℕ, ◌≤◌, ◌<◌, Bool, length, Option, None, Some, Result, Ok}
+use Rattle.hashlink_model.proofs.Names.{Err, ap, arith, length-set_value, put, node_count, Clears, RemovesKey}
+use Rattle.hashlink_model.proofs.Names.{PopsFront, CacheState, CacheInserts, CacheGets}
+use Rattle.hashlink_model.specs.Cache.{OnMap, IsWithin, HasNodeToSpare, SetsCapacity, CacheGetsMatch}
+use Rattle.hashlink_model.specs.Cache.{CacheGetsMatchAndWrites}
+use Rattle.hashlink_model.proofs.Afterwards.{length-moved_match}
 use Rattle.hashlink_model.proofs.Caches.{length-last_entries, cache_put-at_most}
 use Rattle.hashlink_model.proofs.CacheSteps.{put_entries, inserts_entries}
 use Rattle.hashlink_model.proofs.NodeCounts.{moves_match_length}
 use Rattle.hashlink_model.proofs.KeptNodes.{kept-inserts}
-use Rattle.std.specs.Option.{option_map_or}
 
 -- ---- a bound of the capacity and n more
 
@@ -32,11 +28,6 @@ module _ {K V S : Type 0} (old new : CacheState K V S) (n : ℕ) where
   within-pops_front None s w = omega (arith, ap (λ m. length m.entries) s.map.step)
   within-pops_front (Some e) s w = omega (arith, ap length s.map.step.entries)
 
-  pub within-pops_back : (r : Option (K × V)) → OnMap (λ a b. PopsBack a b r) old new → IsWithin old n
-      → IsWithin new n
-  within-pops_back None s w = omega (arith, ap (λ m. length m.entries) s.map.step)
-  within-pops_back (Some e) s w = omega (arith, ap length s.map.step.entries)
-
   -- a capacity that is set is kept from then on
   pub within-sets : (cap : ℕ) → SetsCapacity old new cap → IsWithin new 0
   within-sets cap s = omega (arith, ap length s.map.entries, length-last_entries old.map.entries cap)
@@ -54,11 +45,6 @@ module _ {K V S : Type 0} (old new : CacheState K V S) (n : ℕ) where
         let written = length-set_value test s.map.between.entries w in
         omega (arith, ap (λ m. length m.entries) s.map.writes, ap length s.map.moves.entries)
 
-    pub within-removes_match : (r : Option (K × V)) → OnMap (λ a b. RemovesMatch test a b r) old new
-        → IsWithin old n → IsWithin new n
-    within-removes_match None s i = omega (arith, ap (λ m. length m.entries) s.map.step)
-    within-removes_match (Some e) s i = omega (arith, ap length s.map.step.entries)
-
   module _ (eq : K → K → Bool) (k : K) where
     pub within-inserts : (v : V) (r : Result (Option V) (K × V)) → CacheInserts eq old new k v r
         → IsWithin old n → IsWithin new n
@@ -70,7 +56,8 @@ module _ {K V S : Type 0} (old new : CacheState K V S) (n : ℕ) where
 
     pub within-removes : (r : Option (K × V)) → OnMap (λ a b. RemovesKey eq a b k r) old new → IsWithin old n
         → IsWithin new n
-    within-removes r s i = within-removes_match (eq k) r s i
+    within-removes None s i = omega (arith, ap (λ m. length m.entries) s.map.step)
+    within-removes (Some e) s i = omega (arith, ap length s.map.step.entries)
 
 -- ---- once an entry was dropped, no insert is refused
 
@@ -97,23 +84,3 @@ module _ {K V S : Type 0} (old new : CacheState K V S) where
         let left = ap length s.map.fits.entries in
         record { beyond = omega arith; spare = omega arith }
     to_spare-inserts (Err pair) s h = absurd (omega arith)
-
--- ---- stored links: four for a new key, six for one that is there, and three for each entry that is dropped
-
-pub links-put : {K V S : Type 0} (eq : K → K → Bool) (old new : CacheState K V S) (k : K) (v : V)
-    (w : Option V) → CacheInserts eq old new k v (Ok w)
-    → StoresAtMost (option_map_or (λ _. 6 + 3 * (length old.map.entries - old.cap)) w
-    (4 + 3 * (length old.map.entries + 1 - old.cap))) old.map.link_writes new.map.link_writes
-links-put eq old new k v None s =
-    let same = ap length s.map.inserts.adds.entries in
-    let long = length-put_absent eq old.map.entries k v (length old.map.entries) s.map.inserts.absent in
-    let few = length-last_entries s.map.between.entries old.cap in
-    record { grows = omega arith; bound = omega arith }
-links-put eq old new k v (Some w) s =
-    let same = ap length s.map.inserts.puts.entries in
-    let long = length-put_there eq old.map.entries k v (length old.map.entries) w s.map.inserts.old_value in
-    let few = length-last_entries s.map.between.entries old.cap in
-    record { grows = omega arith; bound = omega arith }
-
-pub store_more : (m n a b : ℕ) → m ≤ n → StoresAtMost m a b → StoresAtMost n a b
-store_more m n a b l s = record { grows = s.grows; bound = omega arith }

@@ -1,27 +1,22 @@
 -- What follows from the steps between two states of a cache.
-use Rattle.std.proofs.Common.{◌≡◌, Bool, [], ◌∷◌, ◌++◌, length, Option, None, Some, Ok, Err, sym, ap, ◌∙◌}
-use Rattle.std.specs.Prelude.{MatchOption, Result, refl}
-use Rattle.std.specs.Option.{option_map_or}
-use Rattle.std.specs.Map.{lookup}
-use Rattle.hashlink_model.specs.Entries.{put, without, stored_key}
-use Rattle.hashlink_model.specs.MapState.{MapState, node_count}
-use Rattle.hashlink_model.specs.Cache.{cache_get, CacheState, InsertsLast, CacheUses, cache_use, CacheInserts}
-use Rattle.hashlink_model.specs.Cache.{CacheGets, last_entries, cache_put}
+use Rattle.hashlink_model.proofs.Names.{◌≡◌, Bool, [], ◌∷◌, ◌++◌, length, Option, None, Some, Ok, Err, sym}
+use Rattle.hashlink_model.proofs.Names.{ap, ◌∙◌, MatchOption, Result, refl, option_map_or, lookup, put}
+use Rattle.hashlink_model.proofs.Names.{without, stored_key, MapState, CacheState, cache_use, CacheInserts}
+use Rattle.hashlink_model.proofs.Names.{CacheGets, last_entries, cache_put}
+use Rattle.hashlink_model.specs.Cache.{cache_get, InsertsLast, CacheUses}
 use Rattle.hashlink_model.proofs.Puts.{put_back}
 use Rattle.hashlink_model.proofs.Afterwards.{moved-there}
-use Rattle.hashlink_model.proofs.NodeCounts.{moves_nodes}
 
 -- the insert at the length
-pub put_entries : {K V S : Type 0} (eq : K → K → Bool) (old new : MapState K V S) (k : K)
-    (v : V) (w : Option V) → InsertsLast eq k v w old new
-    → new.entries ≡ put eq old.entries k v (length old.entries)
-put_entries eq old new k v None s = s.adds.entries
-put_entries eq old new k v (Some x) s = s.puts.entries
+module _ {K V S : Type 0} (eq : K → K → Bool) (old new : MapState K V S) (k : K) (v : V) where
+  pub put_entries : (w : Option V) → InsertsLast eq k v w old new
+      → new.entries ≡ put eq old.entries k v (length old.entries)
+  put_entries None s = s.adds.entries
+  put_entries (Some x) s = s.puts.entries
 
-pub put_answer : {K V S : Type 0} (eq : K → K → Bool) (old new : MapState K V S) (k : K)
-    (v : V) (w : Option V) → InsertsLast eq k v w old new → w ≡ lookup (eq k) old.entries
-put_answer eq old new k v None s = sym s.absent
-put_answer eq old new k v (Some x) s = sym s.old_value
+  pub put_answer : (w : Option V) → InsertsLast eq k v w old new → w ≡ lookup (eq k) old.entries
+  put_answer None s = sym s.absent
+  put_answer (Some x) s = sym s.old_value
 
 module _ {K V S : Type 0} (eq : K → K → Bool) (old new : CacheState K V S) (k : K) (v : V) where
   pub inserts_answer : (w : Option V) → CacheInserts eq old new k v (Ok w) → w ≡ lookup (eq k) old.map.entries
@@ -48,9 +43,6 @@ module _ {K V S : Type 0} (eq : K → K → Bool) (old new : CacheState K V S) (
 
   pub gets_miss : CacheGets eq old new k None → new.map ≡ old.map
   gets_miss s = s.map.step
-
-  pub gets_nodes : (r : Option V) → CacheGets eq old new k r → node_count new.map ≡ node_count old.map
-  gets_nodes r s = moves_nodes eq old.map new.map k (length old.map.entries) r s.map
 
 -- ---- a use
 

@@ -1,21 +1,17 @@
 -- What a cache holds after its steps.
-use Rattle.std.proofs.Common.{◌≡◌, ℕ, suc, ◌+◌, ◌-◌, ◌≤◌, ◌<◌, Bool, true, false, min, List, [], ◌∷◌, ◌++◌}
-use Rattle.std.proofs.Common.{length, drop, take, unwrap_or, Some, refl, sym, ap, arith, zero, length-drop}
-use Rattle.std.proofs.Common.{lt-ltb, le-ltb, take-append-drop, None, ◌∙◌}
-use Rattle.std.specs.Cmp.{IsEquivalence}
-use Rattle.std.specs.Map.{lookup, lookup_entry}
+use Rattle.hashlink_model.proofs.Names.{◌≡◌, ℕ, suc, ◌+◌, ◌-◌, ◌≤◌, ◌<◌, Bool, true, false, min, List, []}
+use Rattle.hashlink_model.proofs.Names.{◌∷◌, ◌++◌, length, drop, take, Some, refl, sym, ap, arith, zero}
+use Rattle.hashlink_model.proofs.Names.{length-drop, lt-ltb, take-append-drop, IsEquivalence, lookup}
+use Rattle.hashlink_model.proofs.Names.{lookup_entry, IsEntries, put, last_entries, cache_put, cache_use}
+use Rattle.hashlink_model.proofs.Names.{nat_tests}
+use Rattle.std.proofs.Common.{le-ltb}
 use Rattle.std.proofs.lemmas.Bool.{cases_lt}
-use Rattle.hashlink_model.specs.Entries.{IsEntries, put}
-use Rattle.hashlink_model.specs.Cache.{front_evicted, last_entries, cache_put, cache_get, cache_extended}
-use Rattle.hashlink_model.specs.Cache.{cache_use}
+use Rattle.hashlink_model.specs.Cache.{front_evicted, cache_extended}
 use Rattle.hashlink_model.proofs.Distinct.{IsEntries-tail}
 use Rattle.hashlink_model.proofs.Puts.{IsEntries-put}
-use Rattle.hashlink_model.proofs.Finds.{lookup-equal}
 use Rattle.hashlink_model.proofs.Afterwards.{length-put, length-put_absent, length-put_there, length-moved}
-use Rattle.hashlink_model.proofs.Afterwards.{lookup-moved, lookup_entry-put_other, IsEntries-moved, moved_is}
+use Rattle.hashlink_model.proofs.Afterwards.{IsEntries-moved}
 use Rattle.hashlink_model.proofs.Remaining.{lookup-put_remaining, lookup_entry-put_remaining}
-use Rattle.std.proofs.lemmas.Bool.Decides.{nat_tests}
-use Rattle.std.specs.Option.{option_map_or}
 
 module _ {K V : Type 0} where
   pub front_evicted-within : (es : List (K × V)) (cap : ℕ) → length es ≤ cap → front_evicted es cap ≡ es
@@ -28,12 +24,6 @@ module _ {K V : Type 0} where
   pub front_evicted-at_most : (es : List (K × V)) (cap n : ℕ) → cap ≤ n → length es ≤ n + 1
       → length (front_evicted es cap) ≤ n
   front_evicted-at_most es cap n c m = grind (arith, nat_tests, length-drop 1 es)
-
-  -- where there is at most one entry too many, an eviction keeps the last ones
-  pub front_evicted-last_entries : (es : List (K × V)) (cap : ℕ) → length es ≤ cap + 1
-      → front_evicted es cap ≡ last_entries es cap
-  front_evicted-last_entries es cap m =
-      grind (arith, front_evicted-above es cap, front_evicted-within es cap, cases_lt cap (length es))
 
   pub length-last_entries : (es : List (K × V)) (n : ℕ) → length (last_entries es n) ≡ min n (length es)
   length-last_entries es n = let a = length-drop (length es - n) es in omega arith
@@ -50,10 +40,6 @@ module _ {K V : Type 0} where
   IsEntries-drop eq zero es d = d
   IsEntries-drop eq (suc n) [] d = d
   IsEntries-drop eq (suc n) (e ∷ es) d = IsEntries-drop eq n es (IsEntries-tail eq e es d)
-
-  pub IsEntries-front_evicted : (eq : K → K → Bool) (es : List (K × V)) (cap : ℕ) → IsEntries eq es
-      → IsEntries eq (front_evicted es cap)
-  IsEntries-front_evicted eq es cap d = grind (arith, d, IsEntries-drop eq 1 es d)
 
   -- ---- the cache's insert
 
@@ -78,8 +64,9 @@ module _ {K V : Type 0} where
   pub cache_put-evicts : (eq : K → K → Bool) (es : List (K × V)) (cap : ℕ) (k : K) (v : V) → length es ≤ cap
       → cache_put eq es cap k v ≡ front_evicted (put eq es k v (length es)) cap
   cache_put-evicts eq es cap k v l =
-      let g = put_grown eq es k v in sym
-      (front_evicted-last_entries (put eq es k v (length es)) cap (omega arith))
+      let zs = put eq es k v (length es) in
+      let tests = cases_lt cap (length zs) in
+      grind (arith, put_grown eq es k v, front_evicted-above zs cap, front_evicted-within zs cap, tests)
 
   pub IsEntries-cache_put : (eq : K → K → Bool) → IsEquivalence eq
       → (es : List (K × V)) (cap : ℕ) (k : K) (v : V) → IsEntries eq es
@@ -99,11 +86,8 @@ module _ {K V : Type 0} where
 
   pub cache_use-at_most : (eq : K → K → Bool) (es : List (K × V)) (cap n : ℕ) (k : K) (v : V) → cap ≤ n
       → length es ≤ n → length (cache_use eq es cap k v) ≤ n
-  cache_use-at_most eq es cap n k v c m = elim (lookup (eq k) es)
-      as (λ o. length (option_map_or (λ w. cache_get eq es k) o (cache_put eq es cap k v)) ≤ n) [
-        | None ↦ omega (arith, cache_put-at_most eq es cap k v)
-        | Some w ↦ omega (arith, length-moved eq es k (length es))
-      ]
+  cache_use-at_most eq es cap n k v c m =
+      grind (arith, cache_put-at_most eq es cap k v, length-moved eq es k (length es))
 
   pub IsEntries-cache_extended : (eq : K → K → Bool) → IsEquivalence eq
       → (es : List (K × V)) (cap : ℕ) (pairs : List (K × V)) → IsEntries eq es
@@ -112,13 +96,7 @@ module _ {K V : Type 0} where
   IsEntries-cache_extended eq laws es cap (p ∷ pairs) d =
       IsEntries-cache_extended eq laws (cache_put eq es cap p.0 p.1) cap pairs
       (IsEntries-cache_put eq laws es cap p.0 p.1 d)
-
   -- ---- look-ups after an insert
-
-  -- the last entries are some where there is a place
-  last_entries-some : (es : List (K × V)) (cap : ℕ) → 1 ≤ cap → 1 ≤ length es → 1
-      ≤ length (last_entries es cap)
-  last_entries-some es cap c m = let few = length-last_entries es cap in omega arith
 
 module _ {K V : Type 0} (eq : K → K → Bool) (laws : IsEquivalence eq) where
   pub lookup-cache_put : (q : K) (es : List (K × V)) (cap : ℕ) (k : K) (v : V) → IsEntries eq es → 1 ≤ cap
@@ -126,8 +104,9 @@ module _ {K V : Type 0} (eq : K → K → Bool) (laws : IsEquivalence eq) where
   lookup-cache_put q es cap k v d c t =
       let zs = put eq es k v (length es) in
       let long = length-put eq es k v (length es) in
+      let few = length-last_entries zs cap in
       lookup-put_remaining eq laws q es k v (take (length zs - cap) zs) (last_entries zs cap) d
-      (sym (last_entries-end zs cap)) (last_entries-some zs cap c (omega arith)) t
+      (sym (last_entries-end zs cap)) (omega arith) t
 
   pub lookup_entry-cache_put : (q : K) (es : List (K × V)) (cap : ℕ) (k : K) (v : V) (e : K × V)
       → IsEntries eq es → eq k q ≡ false → lookup_entry (eq q) (cache_put eq es cap k v) ≡ Some e
@@ -139,27 +118,7 @@ module _ {K V : Type 0} (eq : K → K → Bool) (laws : IsEquivalence eq) where
 
   -- ---- a use: of a key that is there a move, of any other an insert
 
-  pub IsEntries-cache_get : (es : List (K × V)) (k : K) → IsEntries eq es → IsEntries eq (cache_get eq es k)
-  IsEntries-cache_get es k d = IsEntries-moved eq laws es k (length es) d
-
   pub IsEntries-cache_use : (es : List (K × V)) (cap : ℕ) (k : K) (v : V) → IsEntries eq es
       → IsEntries eq (cache_use eq es cap k v)
   IsEntries-cache_use es cap k v d =
-      grind (arith, IsEntries-cache_put eq laws es cap k v d, IsEntries-cache_get es k d)
-
-  pub lookup-cache_use : (q : K) (es : List (K × V)) (cap : ℕ) (k : K) (v : V) → IsEntries eq es → 1 ≤ cap
-      → eq k q ≡ true → lookup (eq q) (cache_use eq es cap k v) ≡ Some (unwrap_or (lookup (eq k) es) v)
-  lookup-cache_use q es cap k v d c t =
-      elim (lookup (eq k) es) as (λ o. lookup (eq k) es ≡ o → lookup (eq q)
-      (option_map_or (λ w. cache_get eq es k) o (cache_put eq es cap k v)) ≡ Some (unwrap_or o v)) [
-        | None ↦ λ l. lookup-cache_put q es cap k v d c t
-        | Some w ↦ λ l. lookup-moved eq laws q es k (length es) d ∙ sym (lookup-equal eq laws k q es t) ∙ l
-      ] refl
-
-  pub lookup_entry-cache_use : (q : K) (es : List (K × V)) (cap : ℕ) (k : K) (v : V) (e : K × V)
-      → IsEntries eq es → eq k q ≡ false → lookup_entry (eq q) (cache_use eq es cap k v) ≡ Some e
-      → lookup_entry (eq q) es ≡ Some e
-  lookup_entry-cache_use q es cap k v e d t f =
-      let apart : (w : V) → lookup_entry (eq q) (put eq es k w (length es)) ≡ lookup_entry (eq q) es
-      = λ w. lookup_entry-put_other eq laws q es k w (length es) d t in
-      grind (arith, lookup_entry-cache_put q es cap k v e d t, apart, moved_is eq es k (length es))
+      grind (arith, IsEntries-cache_put eq laws es cap k v d, IsEntries-moved eq laws es k (length es) d)

@@ -1,10 +1,6 @@
 -- What is made of clones of the entries.
-use Rattle.std.proofs.Common.{◌≡◌, Bool, true, ◌&&◌, List, [], ◌∷◌, refl, sym, ap, ap₂, ◌∙◌}
-use Rattle.std.specs.Cmp.{IsEquivalence}
-use Rattle.std.specs.List.{AllZip}
-use Rattle.std.proofs.lemmas.Map.{NonePasses}
-use Rattle.hashlink_model.specs.Entries.{IsEntries, extended}
-use Rattle.hashlink_model.specs.Compare.{entries_eq}
+use Rattle.hashlink_model.proofs.Names.{◌≡◌, Bool, true, ◌&&◌, List, [], ◌∷◌, refl, sym, ap, ap₂, ◌∙◌}
+use Rattle.hashlink_model.proofs.Names.{IsEquivalence, AllZip, NonePasses, IsEntries, extended, entries_eq}
 use Rattle.hashlink_model.proofs.Distinct.{answers_alike, IsEntries-cons, IsEntries-head, IsEntries-tail}
 use Rattle.hashlink_model.proofs.Distinct.{none_equal}
 use Rattle.hashlink_model.proofs.Extends.{extended-own}

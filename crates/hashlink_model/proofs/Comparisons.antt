@@ -10,6 +10,17 @@ use Rattle.std.specs.declared.cmp.Ordering.{Ordering}
 use Rattle.hashlink_model.specs.Compare.{entries_eq, entries_cmp, entries_partial_cmp, entries_hash_input}
 use Rattle.hashlink_model.specs.Compare.{elements_eq, elements_hash_input}
 
+module _ {T : Type 0} where
+  pub elements_alike : {W : Type 0} (eq : T → T → Bool) (hash : T → List W)
+      → ((x y : T) → eq x y ≡ true → hash x ≡ hash y) → (xs ys : List T) → elements_eq eq xs ys ≡ true
+      → elements_hash_input hash xs ≡ elements_hash_input hash ys
+  elements_alike eq hash a [] [] e = refl
+  elements_alike eq hash a [] (y ∷ ys) e = absurd (true≢false (sym e))
+  elements_alike eq hash a (x ∷ xs) [] e = absurd (true≢false (sym e))
+  elements_alike eq hash a (x ∷ xs) (y ∷ ys) e =
+      let parts = and_parts (eq x y) (elements_eq eq xs ys) e in
+      ap₂ ◌++◌ (a x y parts.0) (elements_alike eq hash a xs ys parts.1)
+
 module _ {K V : Type 0} where
   pub entries_eq_equiv : (eqk : K → K → Bool) (eqv : V → V → Bool) → IsEquivalence eqk → IsEquivalence eqv
       → IsEquivalence (entries_eq eqk eqv)
@@ -46,14 +57,10 @@ module _ {K V : Type 0} where
       → ((x y : K) → eqk x y ≡ true → hashk x ≡ hashk y) → ((x y : V) → eqv x y ≡ true → hashv x ≡ hashv y)
       → (xs ys : List (K × V)) → entries_eq eqk eqv xs ys ≡ true
       → entries_hash_input hashk hashv xs ≡ entries_hash_input hashk hashv ys
-  entries_alike eqk eqv hashk hashv a b [] [] e = refl
-  entries_alike eqk eqv hashk hashv a b [] (y ∷ ys) e = absurd (true≢false (sym e))
-  entries_alike eqk eqv hashk hashv a b (x ∷ xs) [] e = absurd (true≢false (sym e))
-  entries_alike eqk eqv hashk hashv a b (x ∷ xs) (y ∷ ys) e =
-      let parts = and_parts (eqk x.0 y.0 && eqv x.1 y.1) (entries_eq eqk eqv xs ys) e in
-      let pair = and_parts (eqk x.0 y.0) (eqv x.1 y.1) parts.0 in
-      ap₂ ◌++◌ (ap₂ ◌++◌ (a x.0 y.0 pair.0) (b x.1 y.1 pair.1))
-      (entries_alike eqk eqv hashk hashv a b xs ys parts.1)
+  entries_alike eqk eqv hashk hashv a b =
+      elements_alike (λ p q. eqk p.0 q.0 && eqv p.1 q.1) (λ e. hashk e.0 ++ hashv e.1) (λ x y e.
+      let parts = and_parts (eqk x.0 y.0) (eqv x.1 y.1) e in
+      ap₂ ◌++◌ (a x.0 y.0 parts.0) (b x.1 y.1 parts.1))
 
   -- where the tests decide `≡`, so does that of the entries
   pub entries_eq_same : (eqk : K → K → Bool) (eqv : V → V → Bool) → ((x y : K) → eqk x y ≡ true → x ≡ y)
@@ -76,14 +83,3 @@ module _ {K V : Type 0} where
   entries_partial partk partv cmpk cmpv a b (x ∷ xs) [] = refl
   entries_partial partk partv cmpk cmpv a b (x ∷ xs) (y ∷ ys) =
       grind (arith, a x.0 y.0, b x.1 y.1, entries_partial partk partv cmpk cmpv a b xs ys)
-
-module _ {T : Type 0} where
-  pub elements_alike : {W : Type 0} (eq : T → T → Bool) (hash : T → List W)
-      → ((x y : T) → eq x y ≡ true → hash x ≡ hash y) → (xs ys : List T) → elements_eq eq xs ys ≡ true
-      → elements_hash_input hash xs ≡ elements_hash_input hash ys
-  elements_alike eq hash a [] [] e = refl
-  elements_alike eq hash a [] (y ∷ ys) e = absurd (true≢false (sym e))
-  elements_alike eq hash a (x ∷ xs) [] e = absurd (true≢false (sym e))
-  elements_alike eq hash a (x ∷ xs) (y ∷ ys) e =
-      let parts = and_parts (eq x y) (elements_eq eq xs ys) e in
-      ap₂ ◌++◌ (a x y parts.0) (elements_alike eq hash a xs ys parts.1)

@@ -1,10 +1,7 @@
 -- Entries whose keys are pairwise unequal, taken apart and put together at one entry.
-use Rattle.std.proofs.Common.{◌≡◌, Bool, true, false, List, [], ◌∷◌, ◌++◌, sym, ◌∙◌}
-use Rattle.std.specs.Cmp.{IsEquivalence}
-use Rattle.std.specs.List.{IsDistinct, AllByRecursion}
-use Rattle.std.specs.Map.{keys_of}
-use Rattle.std.proofs.lemmas.Map.{NonePasses}
-use Rattle.hashlink_model.specs.Entries.{IsEntries}
+use Rattle.hashlink_model.proofs.Names.{◌≡◌, Bool, true, false, List, [], ◌∷◌, ◌++◌, sym, ◌∙◌, IsEquivalence}
+use Rattle.hashlink_model.proofs.Names.{AllByRecursion, keys_of, NonePasses, IsEntries}
+use Rattle.std.specs.List.{IsDistinct}
 
 module _ {X : Type 0} (P : X → Type 0) where
   pub each-middle : (xs : List X) (y : X) (ys : List X) → AllByRecursion P (xs ++ y ∷ ys)

@@ -1,7 +1,6 @@
 -- What stands after many inserts at the end.
-use Rattle.std.proofs.Common.{◌≡◌, Bool, List, [], ◌∷◌, ◌++◌, length, sym, ap, ◌∙◌, append_assoc, append-nil}
-use Rattle.std.specs.Cmp.{IsEquivalence}
-use Rattle.hashlink_model.specs.Entries.{IsEntries, put, extended}
+use Rattle.hashlink_model.proofs.Names.{◌≡◌, Bool, List, [], ◌∷◌, ◌++◌, length, sym, ap, ◌∙◌, append_assoc}
+use Rattle.hashlink_model.proofs.Names.{append-nil, IsEquivalence, IsEntries, put, extended}
 use Rattle.hashlink_model.proofs.Distinct.{none_others, each-left}
 use Rattle.hashlink_model.proofs.Puts.{IsEntries-put, put_back_absent}
 

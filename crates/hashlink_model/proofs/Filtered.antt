@@ -1,8 +1,6 @@
 -- A retain by a predicate, as a step of a map: what is left is a filter of what there was.
-use Rattle.std.proofs.Common.{◌≡◌, Bool, filter, subst}
-use Rattle.hashlink_model.specs.MapState.{MapState}
+use Rattle.hashlink_model.proofs.Names.{◌≡◌, Bool, filter, subst, MapState, KeepsOnly}
 use Rattle.hashlink_model.specs.Retain.{RetainsInOrder}
-use Rattle.hashlink_model.specs.Steps.{KeepsOnly}
 use Rattle.hashlink_model.proofs.Retains.{keeps_in_order_is_filter}
 
 pub retained_by_predicate : {F K V S : Type 0} (T : F → K → V → Bool → V → F → Type 0) (p : K × V → Bool)

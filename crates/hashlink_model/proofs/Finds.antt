@@ -1,18 +1,9 @@
 -- What a look-up finds: at the key of an entry, and at every other key.
-use Rattle.std.proofs.Common.{◌≡◌, Bool, true, false, cond, List, [], ◌∷◌, ◌++◌, Option, None, Some, refl, ap}
-use Rattle.std.proofs.Common.{arith}
-use Rattle.std.specs.Option.{option_map}
-use Rattle.std.specs.Cmp.{IsEquivalence}
-use Rattle.std.specs.Map.{lookup, lookup_entry, lookup_key}
-use Rattle.std.proofs.lemmas.Map.{NonePasses}
-use Rattle.hashlink_model.specs.Entries.{IsEntries, without, stored_key}
+use Rattle.hashlink_model.proofs.Names.{◌≡◌, Bool, true, cond, List, [], ◌∷◌, ◌++◌, None, Some, refl, ap}
+use Rattle.hashlink_model.proofs.Names.{arith, option_map, IsEquivalence, lookup, lookup_entry, lookup_key}
+use Rattle.hashlink_model.proofs.Names.{NonePasses, IsEntries, without, stored_key}
 use Rattle.hashlink_model.proofs.Splits.{lookup_entry-none}
 use Rattle.hashlink_model.proofs.Distinct.{none_equal, IsEntries-head, IsEntries-tail}
-
-pub option_map-cond : {X Y : Type 0} (f : X → Y) (b : Bool) (x y : Option X)
-    → option_map f (cond b x y) ≡ cond b (option_map f x) (option_map f y)
-option_map-cond f true x y = refl
-option_map-cond f false x y = refl
 
 module _ {K V : Type 0} (test : K → Bool) where
   pub lookup_is : (es : List (K × V)) → lookup test es ≡ option_map (λ e. e.1) (lookup_entry test es)
@@ -29,11 +20,6 @@ module _ {K V : Type 0} (eq : K → K → Bool) (laws : IsEquivalence eq) where
   stored_key-equal k (e ∷ es) = grind (arith, stored_key-equal k es)
 
   -- an equal key is asked for alike
-  pub lookup_entry-equal : (k q : K) (es : List (K × V)) → eq k q ≡ true
-      → lookup_entry (eq k) es ≡ lookup_entry (eq q) es
-  lookup_entry-equal k q [] t = refl
-  lookup_entry-equal k q (x ∷ es) t = grind (arith, laws.congr k q x.0 t, lookup_entry-equal k q es t)
-
   pub lookup-equal : (k q : K) (es : List (K × V)) → eq k q ≡ true → lookup (eq k) es ≡ lookup (eq q) es
   lookup-equal k q [] t = refl
   lookup-equal k q (x ∷ es) t = grind (arith, laws.congr k q x.0 t, lookup-equal k q es t)

@@ -1,10 +1,10 @@
 -- Many items in a row.
-use Rattle.std.proofs.Common.{◌≡◌, ℕ, ◌+◌, ◌-◌, ◌^◌, ◌≤◌, ◌<◌, Bool, List, [], ◌∷◌, ◌++◌, length, Option}
-use Rattle.std.proofs.Common.{None, Some, Result, Ok, ap, ◌∙◌, subst, arith, length-append}
-use Rattle.hashlink_model.specs.Entries.{put, extended}
-use Rattle.hashlink_model.specs.MapState.{MapState}
+use Rattle.hashlink_model.proofs.Names.{◌≡◌, ℕ, ◌+◌, ◌≤◌, ◌<◌, Bool, List, [], ◌∷◌, ◌++◌, length, Option}
+use Rattle.hashlink_model.proofs.Names.{None, Some, Result, Ok, ap, ◌∙◌, subst, arith, length-append}
+use Rattle.hashlink_model.proofs.Names.{extended, MapState, InsertsPair}
 use Rattle.hashlink_model.specs.Steps.{Drains}
-use Rattle.hashlink_model.specs.Many.{AcceptsAll, StopsAt, InsertsPair}
+use Rattle.hashlink_model.proofs.CacheSteps.{put_entries}
+use Rattle.hashlink_model.specs.Many.{AcceptsAll, StopsAt}
 
 module _ {State Item A : Type 0} (step : State → State → Item → Result A Item → Type 0) where
   pub accepts_in_parts : (a b c : State) (xs ys : List Item) → AcceptsAll step a xs b → AcceptsAll step b ys c
@@ -13,16 +13,11 @@ module _ {State Item A : Type 0} (step : State → State → Item → Result A I
   accepts_in_parts a b c (x ∷ xs) ys s t = (s.0, s.1, s.2, accepts_in_parts s.0 b c xs ys s.3 t)
 
 module _ {K V S : Type 0} (eq : K → K → Bool) where
-  inserted : (old new : MapState K V S) (p : K × V) (w : Option V) → InsertsPair eq old new p (Ok w)
-      → new.entries ≡ put eq old.entries p.0 p.1 (length old.entries)
-  inserted old new p None s = s.adds.entries
-  inserted old new p (Some v) s = s.puts.entries
-
   pub accepts_entries : (old new : MapState K V S) (items : List (K × V))
       → AcceptsAll (InsertsPair eq) old items new → new.entries ≡ extended eq old.entries items
   accepts_entries old new [] s = ap (λ m. m.entries) s
   accepts_entries old new (p ∷ items) s =
-      accepts_entries s.0 new items s.3 ∙ ap (λ es. extended eq es items) (inserted old s.0 p s.1 s.2)
+      accepts_entries s.0 new items s.3 ∙ ap (λ es. extended eq es items) (put_entries eq old s.0 p.0 p.1 s.1 s.2)
 
   -- each item uses one spare node at most
   spare_inserted : (old new : MapState K V S) (p : K × V) (w : Option V) → InsertsPair eq old new p (Ok w)
@@ -40,12 +35,6 @@ module _ {K V S : Type 0} (eq : K → K → Bool) where
       (s : StopsAt (InsertsPair eq) old items new taken back left) where
     pub stops_entries : new.entries ≡ extended eq old.entries s.before
     stops_entries = s.refused.grows.entries ∙ accepts_entries old s.between s.before s.accepted
-
-    pub stops_handed_back : back ≡ s.item
-    stops_handed_back = s.refused.handed_back
-
-    pub stops_taken : (taken ≤ 2 ^ 64 - 1) × (length s.before < 2 ^ 64 → taken ≡ length s.before)
-    stops_taken = (omega arith, λ l. omega arith)
 
     -- only where the spare nodes are used up
     pub stops_late : old.spare < length items

@@ -1,12 +1,9 @@
 -- No step gives a node back but a clear and a shrink, and none makes one beyond need.
 use Rattle.std.proofs.Common.{◌≡◌, ℕ, ◌≤◌, ◌<◌, List, length, Bool, Option, None, Some, Result, Ok, Err, ap}
 use Rattle.std.proofs.Common.{arith}
-use Rattle.std.proofs.lemmas.Map.{length-set_value}
 use Rattle.hashlink_model.specs.MapState.{MapState, node_count, KeepsNodes, Changes, Inserts}
-use Rattle.hashlink_model.specs.Steps.{KeepsOnly, Replaces, Moves, MovesAndWrites, RemovesKey, PopsFront}
-use Rattle.hashlink_model.specs.Steps.{PopsBack, Clears}
+use Rattle.hashlink_model.specs.Steps.{KeepsOnly, Replaces, Moves, RemovesKey, PopsFront, PopsBack, Clears}
 use Rattle.hashlink_model.proofs.NodeCounts.{node_count-puts, writes_nodes, moves_nodes}
-use Rattle.hashlink_model.proofs.Afterwards.{length-moved}
 
 module _ {K V S : Type 0} (old new : MapState K V S) where
   pub kept-changes : (es : List (K × V)) (most : ℕ) → Changes old new es most → length es ≡ length old.entries
@@ -39,11 +36,6 @@ module _ {K V S : Type 0} (old new : MapState K V S) where
 
     pub kept-moves : (b : ℕ) (r : Option V) → Moves eq old new k b r → KeepsNodes old new
     kept-moves b r s = omega (arith, moves_nodes eq old new k b r s)
-
-    pub kept-moves_and_writes : (b : ℕ) (w : V) → MovesAndWrites eq old new k b w → KeepsNodes old new
-    kept-moves_and_writes b w s =
-        let written = length-set_value (eq k) s.between.entries w in
-        omega (arith, length-moved eq old.entries k b, ap node_count s.writes, ap length s.moves.entries)
 
     pub kept-removes_key : (r : Option (K × V)) → RemovesKey eq old new k r → KeepsNodes old new
     kept-removes_key None s = omega (arith, ap node_count s.step)

@@ -1,10 +1,8 @@
 -- What a lazy walk over two sets gives, and its size hints.
-use Rattle.std.proofs.Common.{◌≡◌, ◌+◌, ◌≤◌, Bool, true, false, not, cond, List, [], ◌∷◌, ◌++◌, length}
-use Rattle.std.proofs.Common.{filter, Option, None, Some, refl, ap, arith, length-append, le_refl}
+use Rattle.std.proofs.Common.{◌≡◌, ◌+◌, ◌≤◌, Bool, true, List, [], ◌∷◌, ◌++◌, length, filter, Option, None}
+use Rattle.std.proofs.Common.{Some, refl, ap, arith, length-append, le_refl}
 use Rattle.std.specs.Map.Iter.{TakesFirst}
-use Rattle.std.specs.Set.{is_member}
 use Rattle.hashlink_model.specs.Algebra.{PairWalk, first_passing, left_to_give, left_or_right, pair_step}
-use Rattle.hashlink_model.specs.Algebra.{union_of, difference_of, symmetric_difference_of}
 
 module _ {T : Type 0} where
   pub filter-all : (xs : List T) → filter (λ _. true) xs ≡ xs
@@ -14,10 +12,7 @@ module _ {T : Type 0} where
   pub first_passing-takes : (p : T → Bool) (xs : List T)
       → TakesFirst (λ y. y) (filter p xs) (first_passing p xs).0 (filter p (first_passing p xs).1)
   first_passing-takes p [] = (refl, refl)
-  first_passing-takes p (x ∷ xs) = elim (p x)
-      as (λ b. TakesFirst (λ y. y) (cond b (x ∷ filter p xs) (filter p xs))
-      (cond b (Some x, xs) (first_passing p xs)).0 (filter p (cond b (Some x, xs) (first_passing p xs)).1))
-      [ true ↦ refl | false ↦ first_passing-takes p xs ]
+  first_passing-takes p (x ∷ xs) = grind (arith, first_passing-takes p xs)
 
   step_by : (p q : T → Bool) (ls ys : List T) (o : Option T) (xs : List T)
       → TakesFirst (λ y. y) (filter p ls) o (filter p xs)
@@ -32,17 +27,6 @@ module _ {T : Type 0} where
   pair_step-takes p q w =
       step_by p q w.left w.right (first_passing p w.left).0 (first_passing p w.left).1
       (first_passing-takes p w.left)
-
-  -- ---- the four walks begin with all that they give
-
-  module _ (eq : T → T → Bool) (xs ys : List T) where
-    pub union_walk : left_to_give (λ _. true) (λ y. not (is_member eq xs y))
-        (record { left = xs; right = ys }) ≡ union_of eq xs ys
-    union_walk = ap (λ r. r ++ difference_of eq ys xs) (filter-all xs)
-
-    pub symmetric_difference_walk : left_to_give (λ x. not (is_member eq ys x)) (λ y. not (is_member eq xs y))
-        (record { left = xs; right = ys }) ≡ symmetric_difference_of eq xs ys
-    symmetric_difference_walk = refl
 
   -- ---- size hints
 

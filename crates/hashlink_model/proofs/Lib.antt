@@ -1,4 +1,5 @@
 -- Lemmas on the definitions, which the crates above cite too.
+pub mod Names
 pub mod Splits
 pub mod Distinct
 pub mod Filtered

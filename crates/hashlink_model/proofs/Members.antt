@@ -2,14 +2,13 @@
 use Rattle.std.proofs.Common.{◌≡◌, Bool, true, false, not, ◌&&◌, ◌||◌, cond, List, [], ◌∷◌, ◌++◌, filter, sym}
 use Rattle.std.proofs.Common.{refl, ap, ap₂, ◌∙◌, true≢false, arith}
 use Rattle.std.specs.Cmp.{IsEquivalence}
-use Rattle.std.specs.List.{IsDistinct, AllByRecursion}
-use Rattle.std.specs.Set.{is_member, IsUnion, IsIntersection, IsDifference, IsSymmetricDifference}
+use Rattle.std.specs.List.{AllByRecursion, IsDistinct}
+use Rattle.std.specs.Set.{is_member, IsIntersection, IsDifference}
+use Rattle.hashlink_model.specs.Algebra.{difference_of, intersection_of, union_of, symmetric_difference_of}
+use Rattle.hashlink_model.specs.Algebra.{is_nil}
 use Rattle.std.proofs.lemmas.Map.Made.{is_member-filter, All-is_member}
-use Rattle.std.proofs.lemmas.Bool.{both_ways}
 use Rattle.std.proofs.lemmas.List.Elements.{recursion_from_All, filter_passes}
 use Rattle.hashlink_model.proofs.Distinct.{each-append, each-weaker}
-use Rattle.hashlink_model.specs.Algebra.{difference_of, intersection_of, union_of, symmetric_difference_of}
-use Rattle.hashlink_model.specs.Algebra.{is_nil, is_subset, is_disjoint}
 
 module _ {T : Type 0} (eq : T → T → Bool) (laws : IsEquivalence eq) where
   -- equal elements are members alike
@@ -31,16 +30,6 @@ module _ {T : Type 0} (eq : T → T → Bool) (laws : IsEquivalence eq) where
   pub intersection_members : (xs ys : List T) → IsIntersection eq xs ys (intersection_of eq xs ys)
   intersection_members xs ys q = is_member-filter laws (λ x. is_member eq ys x) q
       (λ x t. is_member-equal ys q x t) xs
-
-  pub union_members : (xs ys : List T) → IsUnion eq xs ys (union_of eq xs ys)
-  union_members xs ys q =
-      grind (arith, is_member-append xs (difference_of eq ys xs) q, difference_members ys xs q)
-
-  pub symmetric_difference_members : (xs ys : List T)
-      → IsSymmetricDifference eq xs ys (symmetric_difference_of eq xs ys)
-  symmetric_difference_members xs ys q =
-      let both = is_member-append (difference_of eq xs ys) (difference_of eq ys xs) q in
-      grind (arith, both, difference_members xs ys q, difference_members ys xs q)
 
   -- ---- elements stay pairwise unequal
 
@@ -84,53 +73,30 @@ module _ {T : Type 0} (eq : T → T → Bool) (laws : IsEquivalence eq) where
   IsDistinct-intersection xs ys d = IsDistinct-filter (λ x. is_member eq ys x)
       (λ x y t. is_member-equal ys x y t) xs d
 
-  beyond_left : (xs ys : List T) (x : T) → is_member eq xs x ≡ true
-      → is_member eq (difference_of eq ys xs) x ≡ false
-  beyond_left xs ys x m = grind (arith, difference_members ys xs x)
-
   pub IsDistinct-union : (xs ys : List T) → IsDistinct eq xs → IsDistinct eq ys
       → IsDistinct eq (union_of eq xs ys)
   IsDistinct-union xs ys d e =
       IsDistinct-append xs (difference_of eq ys xs) d (IsDistinct-difference ys xs e)
-      (each-weaker _ _ (λ x m. beyond_left xs ys x m) xs (recursion_from_All _ xs (All-is_member laws xs)))
-
-  outside : (ys zs : List T) (x : T) → not (is_member eq ys x) ≡ true
-      → is_member eq (difference_of eq ys zs) x ≡ false
-  outside ys zs x m = grind (arith, difference_members ys zs x)
+      (each-weaker _ _
+      (λ x (m : is_member eq xs x ≡ true). grind (arith, difference_members ys xs x)) xs
+      (recursion_from_All _ xs (All-is_member laws xs)))
 
   pub IsDistinct-symmetric_difference : (xs ys : List T) → IsDistinct eq xs → IsDistinct eq ys
       → IsDistinct eq (symmetric_difference_of eq xs ys)
   IsDistinct-symmetric_difference xs ys d e =
       IsDistinct-append (difference_of eq xs ys) (difference_of eq ys xs) (IsDistinct-difference xs ys d)
-      (IsDistinct-difference ys xs e) (each-weaker _ _ (λ x m. outside ys xs x m) (difference_of eq xs ys)
+      (IsDistinct-difference ys xs e) (each-weaker _ _
+      (λ x (m : not (is_member eq ys x) ≡ true). grind (arith, difference_members ys xs x))
+      (difference_of eq xs ys)
       (recursion_from_All _ _ (filter_passes (λ x. not (is_member eq ys x)) xs)))
 
   -- ---- subset and disjoint, by membership
 
-  nil_has_none : (zs : List T) → is_nil zs ≡ true → (q : T) → is_member eq zs q ≡ false
+  pub nil_has_none : (zs : List T) → is_nil zs ≡ true → (q : T) → is_member eq zs q ≡ false
   nil_has_none [] n q = refl
   nil_has_none (z ∷ zs) n q = absurd (true≢false (sym n))
 
-  nil_from_none : (zs : List T) → ((q : T) → is_member eq zs q ≡ false) → is_nil zs ≡ true
+  pub nil_from_none : (zs : List T) → ((q : T) → is_member eq zs q ≡ false) → is_nil zs ≡ true
   nil_from_none [] f = refl
   nil_from_none (z ∷ zs) f =
-      absurd (both_ways (is_member eq (z ∷ zs) z) (f z) (ap (λ b. b || is_member eq zs z) (laws.refl z)))
-
-  pub subset_is : (xs ys : List T) → is_subset eq xs ys ≡ true → (q : T) → is_member eq xs q ≡ true
-      → is_member eq ys q ≡ true
-  subset_is xs ys s q m = grind (arith, difference_members xs ys q, nil_has_none (difference_of eq xs ys) s q)
-
-  pub subset_from : (xs ys : List T) → ((q : T) → is_member eq xs q ≡ true → is_member eq ys q ≡ true)
-      → is_subset eq xs ys ≡ true
-  subset_from xs ys f =
-      nil_from_none (difference_of eq xs ys) (λ q. grind (arith, difference_members xs ys q, f q))
-
-  pub disjoint_is : (xs ys : List T) → is_disjoint eq xs ys ≡ true → (q : T) → is_member eq xs q ≡ true
-      → is_member eq ys q ≡ false
-  disjoint_is xs ys s q m =
-      grind (arith, intersection_members xs ys q, nil_has_none (intersection_of eq xs ys) s q)
-
-  pub disjoint_from : (xs ys : List T) → ((q : T) → is_member eq xs q ≡ true → is_member eq ys q ≡ false)
-      → is_disjoint eq xs ys ≡ true
-  disjoint_from xs ys f =
-      nil_from_none (intersection_of eq xs ys) (λ q. grind (arith, intersection_members xs ys q, f q))
+      grind (arith, f z, laws.refl z)

@@ -1,12 +1,8 @@
 -- A key that moved last, through which the value that stands was written.
-use Rattle.std.specs.Prelude.{◌≡◌, Bool, Some, length}
-use Rattle.std.specs.Cmp.{IsEquivalence}
-use Rattle.std.specs.Map.{lookup}
-use Rattle.std.proofs.Common.{ap, sym, subst, ◌∙◌}
-use Rattle.std.proofs.lemmas.Map.Steps.{set_value_same}
-use Rattle.hashlink_model.specs.Entries.{IsEntries, IsKeyTest, moved}
-use Rattle.hashlink_model.specs.MapState.{MapState, Changes}
-use Rattle.hashlink_model.specs.Steps.{Moves, MovesAndWrites, MovesMatch, MovesMatchAndWrites}
+use Rattle.hashlink_model.proofs.Names.{◌≡◌, Bool, Some, length, IsEquivalence, lookup, ap, sym, subst, ◌∙◌}
+use Rattle.hashlink_model.proofs.Names.{IsEntries, IsKeyTest, moved, MapState, Changes, Moves, MovesMatch}
+use Rattle.hashlink_model.proofs.Names.{set_value_same}
+use Rattle.hashlink_model.specs.Steps.{MovesAndWrites, MovesMatchAndWrites}
 use Rattle.hashlink_model.proofs.Afterwards.{lookup-moved}
 use Rattle.hashlink_model.proofs.Splits.{key_from_lookup}
 

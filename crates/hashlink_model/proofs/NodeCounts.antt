@@ -1,25 +1,14 @@
 -- What follows from the steps between two states of a map.
-use Rattle.std.proofs.Common.{◌≡◌, ℕ, max, sym, List, length, Bool}
-use Rattle.std.proofs.Common.{Option, None, Some, Result, Ok, Err, ap, ◌∙◌, arith}
-use Rattle.std.specs.Map.{set_value}
-use Rattle.std.proofs.lemmas.Map.{length-set_value}
-use Rattle.hashlink_model.specs.Entries.{put, moved}
-use Rattle.hashlink_model.specs.MapState.{MapState, node_count, HasRoom, Changes, Adds, Removes}
-use Rattle.hashlink_model.specs.MapState.{PutsEntry, Inserts}
-use Rattle.hashlink_model.specs.Steps.{KeepsOnly, WritesEntry, Moves, MovesMatch, Shrinks}
-use Rattle.hashlink_model.proofs.Afterwards.{length-put_there, length-moved, moved-absent}
-use Rattle.hashlink_model.proofs.Afterwards.{length-moved_match}
+use Rattle.hashlink_model.proofs.Names.{◌≡◌, ℕ, sym, List, length, Bool, Option, None, Some, Result, Ok, Err}
+use Rattle.hashlink_model.proofs.Names.{ap, ◌∙◌, arith, set_value, length-set_value, put, moved, MapState}
+use Rattle.hashlink_model.proofs.Names.{node_count, Changes, Inserts, KeepsOnly, Moves, MovesMatch}
+use Rattle.hashlink_model.specs.MapState.{HasRoom, Removes, PutsEntry}
+use Rattle.hashlink_model.specs.Steps.{WritesEntry, Shrinks}
+use Rattle.hashlink_model.proofs.Afterwards.{length-put_there, length-moved, moved-absent, length-moved_match}
 
 module _ {K V S : Type 0} (old new : MapState K V S) where
-  pub node_count-adds : (es : List (K × V)) → Adds old new es
-      → node_count new ≡ max (node_count old) (length new.entries)
-  node_count-adds es s = omega (arith, ap length s.entries)
-
   pub node_count-removes : (es : List (K × V)) → Removes old new es → node_count new ≡ node_count old
   node_count-removes es s = omega (arith, ap length s.entries)
-
-  pub node_count-keeps : (es : List (K × V)) → KeepsOnly old new es → node_count new ≡ node_count old
-  node_count-keeps es s = omega (arith, ap length s.entries)
 
   pub node_count-changes : (es : List (K × V)) (most : ℕ) → Changes old new es most → length es
       ≡ length old.entries → node_count new ≡ node_count old

@@ -1,33 +1,20 @@
 -- What stands after the steps on an occupied entry.
-use Rattle.std.specs.Prelude.{insert, remove, zero, suc, ◌<◌, MatchOption, Option}
-use Rattle.std.proofs.Common.{arith, take, drop, length-append, length-take, length-drop, ◌≡◌, ℕ, ◌+◌, Bool}
-use Rattle.std.proofs.Common.{true, cond, List, [], ◌∷◌, ◌++◌, length, slice_get, None, Some, refl, sym, ap}
-use Rattle.std.proofs.Common.{ap₂, ◌∙◌, subst}
-use Rattle.std.specs.Cmp.{IsEquivalence}
-use Rattle.std.specs.Option.{option_map_or}
-use Rattle.std.specs.Map.{lookup, lookup_entry}
-use Rattle.std.proofs.lemmas.Map.{NonePasses}
-use Rattle.std.proofs.lemmas.List.{append-nil}
-use Rattle.hashlink_model.specs.Entries.{IsEntries, place_of, place_left, put, moved, moved_at, without}
-use Rattle.hashlink_model.specs.Entries.{set_value_at, set_key_at}
-use Rattle.hashlink_model.specs.Entry.{EntryState, IsEntry, IsRawEntry, raw_entry_of, insert_value}
-use Rattle.hashlink_model.specs.Entry.{insert_entry, or_insert, replace_entry}
-use Rattle.hashlink_model.specs.MapState.{MapState}
+use Rattle.hashlink_model.proofs.Names.{insert, remove, zero, suc, ◌<◌, MatchOption, Option, arith, take}
+use Rattle.hashlink_model.proofs.Names.{drop, length-append, length-take, length-drop, ◌≡◌, ℕ, Bool}
+use Rattle.hashlink_model.proofs.Names.{true, cond, List, [], ◌∷◌, ◌++◌, length, slice_get, None, Some, refl}
+use Rattle.hashlink_model.proofs.Names.{sym, ap, ap₂, ◌∙◌, subst, IsEquivalence, option_map_or, lookup_entry}
+use Rattle.hashlink_model.proofs.Names.{NonePasses, append-nil, IsEntries, place_of, place_left, put}
+use Rattle.hashlink_model.proofs.Names.{moved_at, without, set_value_at, set_key_at, MapState}
+use Rattle.hashlink_model.specs.Entry.{IsRawEntry, raw_entry_of, insert_value, insert_entry, replace_entry}
 use Rattle.hashlink_model.proofs.Distinct.{none_equal, none_others, IsEntries-middle, IsEntries-insert}
-use Rattle.hashlink_model.proofs.Finds.{lookup_entry-middle, lookup_entry-without}
-use Rattle.hashlink_model.proofs.Puts.{none_without, IsEntries-without}
-use Rattle.hashlink_model.proofs.Places.{slice_get_here, split_at, place_of_its_key}
+use Rattle.hashlink_model.proofs.Finds.{lookup_entry-middle}
+use Rattle.hashlink_model.proofs.Puts.{none_without}
+use Rattle.hashlink_model.proofs.Places.{split_at, place_of_its_key}
 use Rattle.hashlink_model.proofs.ByPlace.{set_value_at-here, set_key_at-here, remove-here, moved_at-last}
-use Rattle.hashlink_model.proofs.ByPlace.{moved_at-put, moved-there, remove-place, length-set_value_at}
+use Rattle.hashlink_model.proofs.ByPlace.{moved_at-put, remove-place, length-set_value_at}
 use Rattle.hashlink_model.proofs.Splits.{stands_from_place}
 
 module _ {K V : Type 0} where
-  pub or_insert-there : (eq : K → K → Bool) (es : List (K × V)) (k : K) (v w : V) → lookup (eq k) es ≡ Some w
-      → or_insert eq es k v ≡ moved eq es k (length es)
-  or_insert-there eq es k v w l =
-      ap (λ o. put eq es k (option_map_or (λ x. x) o v) (length es)) l
-      ∙ sym (moved-there eq es k (length es) w l)
-
   -- in a list taken apart at the entry
   pub replace_entry-here : (xs : List (K × V)) (e : K × V) (ys : List (K × V)) (h : K) (v : V)
       → replace_entry (xs ++ e ∷ ys) (length xs) h v ≡ xs ++ (h, v) ∷ ys
@@ -37,17 +24,15 @@ module _ {K V : Type 0} where
   -- a key or a value alone is the entry with the other part as it was
   pub set_key_at-entry : (es : List (K × V)) (j : ℕ) (e : K × V) (k : K) → slice_get es j ≡ Some e
       → set_key_at es j k ≡ replace_entry es j k e.1
-  set_key_at-entry es j e k at =
-      let s = split_at es j e at in
-      ap₂ (λ zs i. set_key_at zs i k) s.2 (sym s.3) ∙ set_key_at-here s.0 e s.1 k
-      ∙ sym (replace_entry-here s.0 e s.1 k e.1) ∙ ap₂ (λ zs i. replace_entry zs i k e.1) (sym s.2) s.3
+  set_key_at-entry [] j e k at = refl
+  set_key_at-entry (x ∷ es) zero e k at = grind (arith, at)
+  set_key_at-entry (x ∷ es) (suc j) e k at = ap (λ zs. x ∷ zs) (set_key_at-entry es j e k at)
 
   pub set_value_at-entry : (es : List (K × V)) (j : ℕ) (e : K × V) (v : V) → slice_get es j ≡ Some e
       → set_value_at es j v ≡ replace_entry es j e.0 v
-  set_value_at-entry es j e v at =
-      let s = split_at es j e at in
-      ap₂ (λ zs i. set_value_at zs i v) s.2 (sym s.3) ∙ set_value_at-here s.0 e s.1 v
-      ∙ sym (replace_entry-here s.0 e s.1 e.0 v) ∙ ap₂ (λ zs i. replace_entry zs i e.0 v) (sym s.2) s.3
+  set_value_at-entry [] j e v at = refl
+  set_value_at-entry (x ∷ es) zero e v at = grind (arith, at)
+  set_value_at-entry (x ∷ es) (suc j) e v at = ap (λ zs. x ∷ zs) (set_value_at-entry es j e v at)
 
 module _ {K V : Type 0} (eq : K → K → Bool) (laws : IsEquivalence eq) where
   -- the entry at j leaves, and h stands last with the value
@@ -63,27 +48,11 @@ module _ {K V : Type 0} (eq : K → K → Bool) (laws : IsEquivalence eq) where
       (sym (remove-here s.0 e s.1) ∙ ap₂ remove (sym s.2) s.3
       ∙ remove-place (eq e.0) es j (place_of_its_key eq laws es j e e.0 d at (laws.refl e.0)))
 
-  none_last : (es : List (K × V)) (e : K × V) (h : K) → IsEntries eq es → eq h e.0 ≡ true
+  pub none_last : (es : List (K × V)) (e : K × V) (h : K) → IsEntries eq es → eq h e.0 ≡ true
       → NonePasses (eq h) (without eq es e.0 ++ [])
   none_last es e h d t =
       rw (append-nil (without eq es e.0))
       (none_equal eq laws e.0 h (without eq es e.0) (laws.symm e.0 h ∙ t) (none_without eq laws es e.0 d))
-
-  pub IsEntries-insert_entry : (es : List (K × V)) (j : ℕ) (e : K × V) (h : K) (v : V) → IsEntries eq es
-      → slice_get es j ≡ Some e → eq h e.0 ≡ true → IsEntries eq (insert_entry es j h v)
-  IsEntries-insert_entry es j e h v d at t =
-      rw (insert_entry-last es j e h v d at)
-      (IsEntries-insert eq laws (without eq es e.0) (h, v) [] (none_last es e h d t)
-      (rw (append-nil (without eq es e.0)) (IsEntries-without eq laws es e.0 d)))
-
-  pub lookup_entry-insert_entry : (q : K) (es : List (K × V)) (j : ℕ) (e : K × V) (h : K) (v : V)
-      → IsEntries eq es → slice_get es j ≡ Some e → eq h e.0 ≡ true
-      → lookup_entry (eq q) (insert_entry es j h v) ≡ cond (eq h q) (Some (h, v)) (lookup_entry (eq q) es)
-  lookup_entry-insert_entry q es j e h v d at t =
-      let last = ap (lookup_entry (eq q)) (insert_entry-last es j e h v d at) in
-      let found = lookup_entry-middle eq laws q (h, v) [] (without eq es e.0) (none_last es e h d t) in
-      let same = ap (lookup_entry (eq q)) (append-nil (without eq es e.0)) in
-      grind (arith, last, found, same, lookup_entry-without eq laws q e.0 es d, laws.congr h e.0 q t)
 
   -- ---- h in the place of e
 
@@ -138,10 +107,6 @@ module _ {K V : Type 0} where
   length-set_key_at (e ∷ es) zero k = refl
   length-set_key_at (e ∷ es) (suc j) k = ap suc (length-set_key_at es j k)
 
-  length-inserted : (es : List (K × V)) (b : ℕ) (e : K × V) → length (insert es b e) ≡ length es + 1
-  length-inserted es b e =
-      omega (arith, length-append (take b es) (e ∷ drop b es), length-take b es, length-drop b es)
-
   pub length-moved_at : (es : List (K × V)) (j b : ℕ) → length (moved_at es j b) ≡ length es
   length-moved_at es j b = by (slice_get es j) refl
     where
@@ -150,9 +115,17 @@ module _ {K V : Type 0} where
       by None at = refl
       by (Some e) at =
           let s = split_at es j e at in
-          length-inserted (remove es j) (place_left j b) e
-          ∙ ap (λ zs. length zs + 1) (ap₂ remove s.2 (sym s.3) ∙ remove-here s.0 e s.1)
-          ∙ omega (arith, length-append s.0 s.1, length-append s.0 (e ∷ s.1), ap length s.2)
+          let zs = remove es j in
+          let n = place_left j b in
+          let rest = ap length (ap₂ remove s.2 (sym s.3) ∙ remove-here s.0 e s.1) in
+          let whole = ap length s.2 ∙ length-append s.0 (e ∷ s.1) in
+          omega (
+            arith,
+            rest ∙ length-append s.0 s.1,
+            length-append (take n zs) (e ∷ drop n zs),
+            length-take n zs,
+            length-drop n zs,
+          )
 
   pub length-replace_entry : (es : List (K × V)) (j : ℕ) (h : K) (v : V)
       → length (replace_entry es j h v) ≡ length es
@@ -170,12 +143,6 @@ module _ {K V : Type 0} where
 -- ---- where an entry stands
 
 module _ {K V S : Type 0} (eq : K → K → Bool) where
-  pub entry_stands : (e : EntryState K V S) (j : ℕ) → IsEntry eq e → e.place ≡ Some j
-      → (x : K × V) × (slice_get e.map.entries j ≡ Some x) × (eq e.key x.0 ≡ true)
-  entry_stands e j i p =
-      let s = stands_from_place (eq e.key) e.map.entries j (sym i ∙ p) in
-      (s.1, ap₂ slice_get s.3.is (sym s.4) ∙ slice_get_here s.0 s.1 s.2, s.3.passes)
-
   pub raw_entry_stands : (m : MapState K V S) (k : K) → IsRawEntry (raw_entry_of eq m k)
   raw_entry_stands m k = by (place_of (eq k) m.entries) refl
     where

@@ -1,11 +1,8 @@
 -- Entries by their places.
-use Rattle.std.proofs.Common.{◌≡◌, ℕ, zero, suc, Bool, true, List, [], ◌∷◌, ◌++◌, length, slice_get, Some, ap}
-use Rattle.std.proofs.Common.{refl, ◌∙◌, subst, arith}
-use Rattle.std.specs.Cmp.{IsEquivalence}
-use Rattle.std.specs.Map.{lookup_entry}
-use Rattle.std.proofs.lemmas.Map.{NonePasses}
-use Rattle.std.proofs.lemmas.Option.{none-some, same_Some}
-use Rattle.hashlink_model.specs.Entries.{IsEntries, place_of, place_or_end, stored_key}
+use Rattle.hashlink_model.proofs.Names.{◌≡◌, ℕ, zero, suc, Bool, true, List, [], ◌∷◌, ◌++◌, length, slice_get}
+use Rattle.hashlink_model.proofs.Names.{Some, ap, refl, ◌∙◌, subst, arith, IsEquivalence, lookup_entry}
+use Rattle.hashlink_model.proofs.Names.{NonePasses, none-some, same_Some, IsEntries, place_of, place_or_end}
+use Rattle.hashlink_model.proofs.Names.{stored_key}
 use Rattle.hashlink_model.proofs.Splits.{place_of-here, lookup_entry-here}
 use Rattle.hashlink_model.proofs.Distinct.{none_equal, none_others, each-left}
 use Rattle.hashlink_model.proofs.Finds.{lookup_key_is}

@@ -1,26 +1,13 @@
 -- The first and the last entry taken out, and cursors and entries of a map's state.
-use Rattle.std.proofs.Common.{◌≡◌, ℕ, ◌+◌, ◌≤◌, Bool, List, [], ◌∷◌, ◌++◌, length, None, Some, Err, refl, sym}
-use Rattle.std.proofs.Common.{ap, ◌∙◌, subst, append-nil, arith}
-use Rattle.std.specs.Cmp.{IsEquivalence}
-use Rattle.std.specs.Map.{lookup}
-use Rattle.hashlink_model.specs.Entries.{IsEntries, without, place_of}
-use Rattle.hashlink_model.specs.MapState.{MapState}
-use Rattle.std.specs.Map.Iter.{TakesFirst, TakesLast}
-use Rattle.hashlink_model.specs.Steps.{PopsFront, PopsBack}
-use Rattle.hashlink_model.specs.Walk.{after_first_of, before_last_of}
-use Rattle.hashlink_model.proofs.Walks.{takes_first, takes_last}
-use Rattle.hashlink_model.specs.Cursor.{CursorState, CursorInserts, place_kept}
-use Rattle.hashlink_model.proofs.Splits.{remove_entry-here}
-use Rattle.hashlink_model.proofs.Places.{none_before}
+use Rattle.hashlink_model.proofs.Names.{ap₂, option_to_list, cons_option, ◌≡◌, ℕ, ◌+◌, ◌≤◌, Bool, List, []}
+use Rattle.hashlink_model.proofs.Names.{◌∷◌, ◌++◌, length, None, Some, Err, refl, sym, ap, ◌∙◌, arith}
+use Rattle.hashlink_model.proofs.Names.{IsEquivalence, lookup, IsEntries, place_of, MapState, PopsFront}
+use Rattle.hashlink_model.proofs.Names.{PopsBack, place_kept}
+use Rattle.hashlink_model.proofs.Walks.{first_splits, last_splits}
+use Rattle.hashlink_model.specs.Cursor.{CursorState, CursorInserts}
 use Rattle.hashlink_model.proofs.Cursors.{place_kept-same}
 
 module _ {K V : Type 0} (eq : K → K → Bool) (laws : IsEquivalence eq) where
-  pub without-last : (es : List (K × V)) (e : K × V) → IsEntries eq (es ++ e ∷ [])
-      → without eq (es ++ e ∷ []) e.0 ≡ es
-  without-last es e d =
-      remove_entry-here (eq e.0) e [] (laws.refl e.0) es (none_before eq laws es e [] e.0 d (laws.refl e.0))
-      ∙ append-nil es
-
   pub vacant : (k : K) (es : List (K × V)) → place_of (eq k) es ≡ None → lookup (eq k) es ≡ None
   vacant k [] p = refl
   vacant k (e ∷ es) p = grind (arith, vacant k es)
@@ -43,15 +30,11 @@ module _ {K V : Type 0} (eq : K → K → Bool) (laws : IsEquivalence eq) where
 module _ {K V S : Type 0} (old new : MapState K V S) (e : K × V) where
   pub pops_front : PopsFront old new (Some e) → (old.entries ≡ e ∷ new.entries) × (new.spare ≡ old.spare + 1)
   pops_front s =
-      let taken : TakesFirst (λ x. x) old.entries (Some e) (after_first_of old.entries)
-      = subst (λ o. TakesFirst (λ x. x) old.entries o (after_first_of old.entries)) (sym s.answer)
-      (takes_first old.entries) in
-      (taken ∙ ap (λ r. e ∷ r) (sym s.step.entries), s.step.spare)
+      (sym (first_splits old.entries) ∙ ap₂ cons_option (sym s.answer) (sym s.step.entries), s.step.spare)
 
   pub pops_back : PopsBack old new (Some e) → (old.entries ≡ new.entries ++ e ∷ [])
       × (new.spare ≡ old.spare + 1)
-  pops_back s =
-      let taken : TakesLast (λ x. x) old.entries (Some e) (before_last_of old.entries)
-      = subst (λ o. TakesLast (λ x. x) old.entries o (before_last_of old.entries)) (sym s.answer)
-      (takes_last old.entries) in
-      (taken ∙ ap (λ r. r ++ e ∷ []) (sym s.step.entries), s.step.spare)
+  pops_back s = (
+    sym (last_splits old.entries) ∙ ap₂ (λ es o. es ++ option_to_list o) (sym s.step.entries) (sym s.answer),
+    s.step.spare,
+  )

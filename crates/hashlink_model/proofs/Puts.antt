@@ -1,19 +1,16 @@
 -- The entries after a key is put at a place.
-use Rattle.std.proofs.Common.{◌≡◌, ℕ, ◌+◌, ◌-◌, Bool, true, false, cond, List, [], ◌∷◌, ◌++◌, length, Some}
-use Rattle.std.proofs.Common.{refl, ◌∙◌, ◌⊎◌, inl, inr, subst, arith, take, drop}
-use Rattle.std.specs.Prelude.{insert, nat_lt}
-use Rattle.std.specs.Cmp.{IsEquivalence}
-use Rattle.std.specs.Map.{lookup_entry, set_value}
-use Rattle.std.proofs.lemmas.Map.{NonePasses}
-use Rattle.std.proofs.lemmas.List.{take-append-drop, take_at, drop_at}
-use Rattle.std.proofs.lemmas.List.Edits.{insert_end}
-use Rattle.hashlink_model.specs.Entries.{IsEntries, place_of, place_without, without, stored_key, put}
+use Rattle.hashlink_model.proofs.Names.{◌≡◌, ℕ, ◌+◌, ◌-◌, Bool, true, false, cond, List, [], ◌∷◌, ◌++◌}
+use Rattle.hashlink_model.proofs.Names.{length, Some, refl, ◌∙◌, ◌⊎◌, inl, inr, subst, arith, take, drop}
+use Rattle.hashlink_model.proofs.Names.{insert, IsEquivalence, lookup_entry, set_value, NonePasses}
+use Rattle.hashlink_model.proofs.Names.{take-append-drop, insert_end, IsEntries, place_of, place_without}
+use Rattle.hashlink_model.proofs.Names.{without, stored_key, put, nat_tests}
+use Rattle.std.specs.Prelude.{nat_lt}
+use Rattle.std.proofs.lemmas.List.{take_at, drop_at}
 use Rattle.hashlink_model.proofs.Splits.{StandsAt, Stands, splits, stands_from_place, place_of-none}
 use Rattle.hashlink_model.proofs.Splits.{place_of-here, lookup_key-none, lookup_key-here, remove_entry-none}
 use Rattle.hashlink_model.proofs.Splits.{remove_entry-here, set_value-here}
 use Rattle.hashlink_model.proofs.Distinct.{none_equal, none_others, IsEntries-middle, IsEntries-insert}
 use Rattle.hashlink_model.proofs.Finds.{stored_key-equal, lookup_entry-middle, lookup_entry-without}
-use Rattle.std.proofs.lemmas.Bool.Decides.{nat_tests}
 
 module _ {K V : Type 0} (eq : K → K → Bool) where
   -- an absent key goes in at the place
@@ -36,9 +33,6 @@ module _ {K V : Type 0} (eq : K → K → Bool) where
   place_without-end [] k = refl
   place_without-end (e ∷ es) k = grind (arith, nat_tests, place_without-end es k)
 
-  pub place_without-front : (es : List (K × V)) (k : K) → place_without eq es k 0 ≡ 0
-  place_without-front es k = grind (arith, nat_tests)
-
   -- put at the end is last, with the key object that was there
   pub put_back : (es : List (K × V)) (k : K) (v : V)
       → put eq es k v (length es) ≡ without eq es k ++ (stored_key eq es k, v) ∷ []
@@ -47,7 +41,7 @@ module _ {K V : Type 0} (eq : K → K → Bool) where
   -- put at 0 is first
   pub put_front : (es : List (K × V)) (k : K) (v : V) → put eq es k v 0
       ≡ (stored_key eq es k, v) ∷ without eq es k
-  put_front es k v = rw (place_without-front es k) refl
+  put_front es k v = grind (arith, nat_tests)
 
   -- put where the key stands, or directly after it, changes the value alone
   kept_by : (es : List (K × V)) (k : K) (v : V) (j b : ℕ) → (b ≡ j) ⊎ (b ≡ j + 1)

@@ -1,10 +1,7 @@
 -- What a look-up finds where only an end of the entries remains.
-use Rattle.std.proofs.Common.{◌≡◌, ◌≤◌, Bool, true, false, List, [], ◌∷◌, ◌++◌, length, drop, Some, sym, ap}
-use Rattle.std.proofs.Common.{◌∙◌, subst, arith, append_assoc, None}
-use Rattle.std.specs.Cmp.{IsEquivalence}
-use Rattle.std.specs.Map.{lookup, lookup_entry}
-use Rattle.std.proofs.lemmas.List.{length-append}
-use Rattle.hashlink_model.specs.Entries.{IsEntries, put, without, stored_key}
+use Rattle.hashlink_model.proofs.Names.{◌≡◌, ◌≤◌, Bool, true, false, List, [], ◌∷◌, ◌++◌, length, drop, Some}
+use Rattle.hashlink_model.proofs.Names.{sym, ap, ◌∙◌, subst, arith, append_assoc, None, IsEquivalence, lookup}
+use Rattle.hashlink_model.proofs.Names.{lookup_entry, length-append, IsEntries, put, without, stored_key}
 use Rattle.hashlink_model.proofs.Splits.{lookup_entry-none, lookup-here}
 use Rattle.hashlink_model.proofs.Distinct.{each-right, none_equal, IsEntries-head, IsEntries-tail}
 use Rattle.hashlink_model.proofs.Finds.{stored_key-equal}

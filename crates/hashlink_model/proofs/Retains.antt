@@ -1,18 +1,14 @@
 -- What a retain leaves: in the list's own order, with keys pairwise unequal, and a filter where the closure
 -- is a predicate.
-use Rattle.std.proofs.Common.{◌≡◌, Bool, true, false, cond, List, [], ◌∷◌, ◌++◌, Option, None, Some, filter}
-use Rattle.std.proofs.Common.{Contains, refl, sym, ap, ap₂, ◌∙◌, subst, IsPermutation, arith}
-use Rattle.std.specs.Cmp.{IsEquivalence}
-use Rattle.std.specs.List.{AllByRecursion, cons_option}
-use Rattle.std.specs.Map.{lookup_entry, keys_of}
-use Rattle.std.specs.Map.Calls.{RetainsPairs}
-use Rattle.std.proofs.lemmas.Map.{NonePasses}
+use Rattle.hashlink_model.proofs.Names.{recursion_from_All, keys_of, ◌≡◌, Bool, true, false, cond, List, []}
+use Rattle.hashlink_model.proofs.Names.{◌∷◌, ◌++◌, Option, None, Some, filter, refl, sym, ap, ap₂, ◌∙◌, subst}
+use Rattle.hashlink_model.proofs.Names.{arith, IsEquivalence, AllByRecursion, cons_option, lookup_entry}
+use Rattle.hashlink_model.proofs.Names.{NonePasses, none-some, IsEntries}
 use Rattle.std.proofs.lemmas.Map.Keys.{IsDistinct-IsPermutation}
-use Rattle.std.proofs.lemmas.Map.Entries.{filter_from_retain_pairs}
-use Rattle.std.proofs.lemmas.List.Elements.{recursion_from_All, All-contains_itself, filter-append}
-use Rattle.std.proofs.lemmas.List.Sorted.{IsPermutation-map, Contains-permutation, IsPermutation-refl}
-use Rattle.std.proofs.lemmas.Option.{slice_get-get_or, none-some}
-use Rattle.hashlink_model.specs.Entries.{IsEntries}
+use Rattle.std.proofs.lemmas.List.Elements.{All-contains_itself, filter-append}
+use Rattle.std.proofs.lemmas.List.Sorted.{IsPermutation-map, Contains-permutation}
+use Rattle.std.proofs.Common.{Contains}
+use Rattle.std.proofs.lemmas.Option.{slice_get-get_or}
 use Rattle.hashlink_model.specs.Retain.{KeepsInSomeOrder, KeepsInOrder, in_order_of}
 use Rattle.hashlink_model.proofs.Distinct.{IsEntries-cons, IsEntries-head, IsEntries-tail, each-append}
 use Rattle.hashlink_model.proofs.Distinct.{each-left, each-right, each-weaker, none_equal, none_others}
@@ -20,11 +16,14 @@ use Rattle.hashlink_model.proofs.Splits.{lookup_entry-none, lookup_entry-here}
 use Rattle.hashlink_model.proofs.Places.{split_at}
 
 module _ {F K V : Type 0} (T : F → K → V → Bool → V → F → Type 0) where
-  -- the calls along a list, without the state in which they leave the closure
-  pub retains-called : (f : F) (es kept : List (K × V)) (g : F) → KeepsInOrder T f es kept g
-      → RetainsPairs T f es kept
-  retains-called f [] kept g r = r.0
-  retains-called f (e ∷ es) kept g r = (r.0, r.1, r.2, r.3, r.4, retains-called r.2 es r.3 g r.5, r.6)
+  pub keeps_in_order_is_filter : (p : K × V → Bool)
+      → ((g : F) (k : K) (v : V) (b : Bool) (w : V) (h : F) → T g k v b w h → (b ≡ p (k, v)) × (w ≡ v))
+      → (f : F) (es new : List (K × V)) (h : F) → KeepsInOrder T f es new h → new ≡ filter p es
+  keeps_in_order_is_filter p says f [] new h r = r.0
+  keeps_in_order_is_filter p says f (e ∷ es) new h r =
+      let call = says f e.0 e.1 r.0 r.1 r.2 r.4 in
+      let rest = keeps_in_order_is_filter p says r.2 es r.3 h r.5 in
+      r.6 ∙ (λ i. cond (call.0 i) ((e.0, call.1 i) ∷ rest i) (rest i))
 
 module _ {K V : Type 0} where
   pub found_passes : (test : K → Bool) (es : List (K × V)) (f : K × V) → lookup_entry test es ≡ Some f
@@ -35,9 +34,7 @@ module _ {K V : Type 0} where
   pub none_filtered : (test : K → Bool) (p : K × V → Bool) (es : List (K × V)) → NonePasses test es
       → NonePasses test (filter p es)
   none_filtered test p [] n = tt
-  none_filtered test p (e ∷ es) n =
-      elim (p e) as (λ b. NonePasses test (cond b (e ∷ filter p es) (filter p es)))
-      [ true ↦ (n.0, none_filtered test p es n.1) | false ↦ none_filtered test p es n.1 ]
+  none_filtered test p (e ∷ es) n = grind (arith, n.0, none_filtered test p es n.1)
 
 module _ {K V : Type 0} (eq : K → K → Bool) (laws : IsEquivalence eq) where
   -- ---- keys stay pairwise unequal
@@ -70,24 +67,17 @@ module _ {K V : Type 0} (eq : K → K → Bool) (laws : IsEquivalence eq) where
 
   -- ---- a predicate
 
-  at_by : (p : K × V → Bool) (us : List (K × V)) (e : K × V) (vs : List (K × V)) (b : Bool)
-      → NonePasses (eq e.0) us → NonePasses (eq e.0) vs
-      → lookup_entry (eq e.0) (filter p us ++ cond b (e ∷ filter p vs) (filter p vs)) ≡ cond b (Some e) None
-  at_by p us e vs true n m =
-      lookup_entry-here (eq e.0) e (filter p vs) (laws.refl e.0) (filter p us) (none_filtered (eq e.0) p us n)
-  at_by p us e vs false n m =
-      lookup_entry-none (eq e.0) (filter p us ++ filter p vs)
-      (each-append _ (filter p us) (filter p vs) (none_filtered (eq e.0) p us n)
-      (none_filtered (eq e.0) p vs m))
-
   lookup_filtered : (p : K × V → Bool) (es : List (K × V)) (e : K × V) → IsEntries eq es → Contains es e
       → lookup_entry (eq e.0) (filter p es) ≡ cond (p e) (Some e) None
   lookup_filtered p es e d c =
       let s = split_at es c.0 e (slice_get-get_or es c.0 e c.1 ∙ ap Some c.2) in
       let apart = none_others eq laws s.0 e s.1 (subst (IsEntries eq) s.2 d) in
+      let us = none_filtered (eq e.0) p s.0 (each-left _ s.0 s.1 apart) in
+      let vs = none_filtered (eq e.0) p s.1 (each-right _ s.0 s.1 apart) in
+      let here = lookup_entry-here (eq e.0) e (filter p s.1) (laws.refl e.0) (filter p s.0) us in
+      let none = lookup_entry-none (eq e.0) (filter p s.0 ++ filter p s.1) (each-append _ _ _ us vs) in
       ap (λ zs. lookup_entry (eq e.0) (filter p zs)) s.2
-      ∙ ap (lookup_entry (eq e.0)) (filter-append p s.0 (e ∷ s.1))
-      ∙ at_by p s.0 e s.1 (p e) (each-left _ s.0 s.1 apart) (each-right _ s.0 s.1 apart)
+      ∙ ap (lookup_entry (eq e.0)) (filter-append p s.0 (e ∷ s.1)) ∙ grind (arith, here, none)
 
   in_order_by : (p : K × V → Bool) (kept es : List (K × V))
       → AllByRecursion (λ e. lookup_entry (eq e.0) kept ≡ cond (p e) (Some e) None) es
@@ -95,43 +85,24 @@ module _ {K V : Type 0} (eq : K → K → Bool) (laws : IsEquivalence eq) where
   in_order_by p kept [] a = refl
   in_order_by p kept (e ∷ es) a = grind (arith, a.0, in_order_by p kept es a.1)
 
-  pub in_order_of-filter : (p : K × V → Bool) (es order : List (K × V)) → IsEntries eq es
-      → IsPermutation es order → in_order_of eq es (filter p order) ≡ filter p es
-  in_order_of-filter p es order d m =
-      let e = IsDistinct-IsPermutation eq laws.symm (keys_of es) (keys_of order)
-      (IsPermutation-map (λ x. x.0) es order m) d in
-      in_order_by p (filter p order) es
-      (each-weaker _ _ (λ x c. lookup_filtered p order x e (Contains-permutation es order x m c)) es
-      (recursion_from_All (Contains es) es (All-contains_itself es)))
-
   pub keeps_is_filter : {F : Type 0} (T : F → K → V → Bool → V → F → Type 0) (p : K × V → Bool)
       → ((g : F) (k : K) (v : V) (b : Bool) (w : V) (h : F) → T g k v b w h → (b ≡ p (k, v)) × (w ≡ v))
       → (f : F) (es new : List (K × V)) (h : F) → IsEntries eq es → KeepsInSomeOrder T eq f es new h
       → new ≡ filter p es
   keeps_is_filter T p says f es new h d r =
-      let kept = filter_from_retain_pairs T (λ _. Unit {0}) p
-      (λ g k v b w h _ t. let s = says g k v b w h t in (s.0, s.1, tt)) f r.order r.kept tt
-      (retains-called T f r.order r.kept h r.called) in
-      r.entries ∙ ap (in_order_of eq es) kept ∙ in_order_of-filter p es r.order d r.each_once
+      let apart = IsDistinct-IsPermutation eq laws.symm (keys_of es) (keys_of r.order)
+      (IsPermutation-map (λ x. x.0) es r.order r.each_once) d in
+      r.entries ∙ ap (in_order_of eq es) (keeps_in_order_is_filter T p says f r.order r.kept h r.called)
+      ∙ in_order_by p (filter p r.order) es
+      (each-weaker _ _ (λ x c. lookup_filtered p r.order x apart (Contains-permutation es r.order x r.each_once c))
+      es (recursion_from_All (Contains es) es (All-contains_itself es)))
 
 module _ {F K V : Type 0} (T : F → K → V → Bool → V → F → Type 0) where
-  pub keeps_in_order_is_filter : (p : K × V → Bool)
-      → ((g : F) (k : K) (v : V) (b : Bool) (w : V) (h : F) → T g k v b w h → (b ≡ p (k, v)) × (w ≡ v))
-      → (f : F) (es new : List (K × V)) (h : F) → KeepsInOrder T f es new h → new ≡ filter p es
-  keeps_in_order_is_filter p says f es new h r =
-      filter_from_retain_pairs T (λ _. Unit {0}) p
-      (λ g k v b w h _ t. let s = says g k v b w h t in (s.0, s.1, tt)) f
-      es new tt (retains-called T f es new h r)
-
   -- no key comes in
   pub none_kept : (test : K → Bool) (f : F) (es new : List (K × V)) (g : F) → KeepsInOrder T f es new g
       → NonePasses test es → NonePasses test new
   none_kept test f [] new g r n = rw r.0 tt
-  none_kept test f (e ∷ es) new g r n = rw r.6 (by r.0 (none_kept test r.2 es r.3 g r.5 n.1))
-    where
-      by : (b : Bool) → NonePasses test r.3 → NonePasses test (cond b ((e.0, r.1) ∷ r.3) r.3)
-      by true h = (n.0, h)
-      by false h = h
+  none_kept test f (e ∷ es) new g r n = rw r.6 (grind (arith, n.0, none_kept test r.2 es r.3 g r.5 n.1))
 
   module _ (eq : K → K → Bool) (laws : IsEquivalence eq) where
     pub IsEntries-keeps_in_order : (f : F) (es new : List (K × V)) (g : F) → IsEntries eq es
@@ -150,32 +121,16 @@ module _ {F K V : Type 0} (T : F → K → V → Bool → V → F → Type 0) wh
     skip x (e ∷ es) kept a =
         ap₂ cons_option (ap (λ b. cond b (Some x) (lookup_entry (eq e.0) kept)) a.0) (skip x es kept a.1)
 
-    in_own_order_by : (e : K × V) (w : V) (b : Bool) (es rest : List (K × V)) → NonePasses (eq e.0) es
-        → NonePasses (eq e.0) rest → in_order_of eq es rest ≡ rest
-        → in_order_of eq (e ∷ es) (cond b ((e.0, w) ∷ rest) rest) ≡ cond b ((e.0, w) ∷ rest) rest
-    in_own_order_by e w b es rest n m h =
-        let skipped = skip (e.0, w) es rest (each-weaker _ _ (λ x a. laws.symm x.0 e.0 ∙ a) es n) in
-        grind (arith, skipped, lookup_entry-none (eq e.0) rest m, h, laws.refl e.0)
-
     pub in_own_order : (f : F) (es new : List (K × V)) (g : F) → IsEntries eq es → KeepsInOrder T f es new g
         → in_order_of eq es new ≡ new
     in_own_order f [] new g d r = sym r.0
     in_own_order f (e ∷ es) new g d r =
         let n = IsEntries-head eq e es d in
+        let m = none_kept (eq e.0) r.2 es r.3 g r.5 n in
+        let skipped = skip (e.0, r.1) es r.3 (each-weaker _ _ (λ x a. laws.symm x.0 e.0 ∙ a) es n) in
+        let rest = in_own_order r.2 es r.3 g (IsEntries-tail eq e es d) r.5 in
         subst (λ zs. in_order_of eq (e ∷ es) zs ≡ zs) (sym r.6)
-        (in_own_order_by e r.1 r.0 es r.3 n (none_kept (eq e.0) r.2 es r.3 g r.5 n)
-        (in_own_order r.2 es r.3 g (IsEntries-tail eq e es d) r.5))
-
-    pub keeps_from_in_order : (f : F) (es new : List (K × V)) (g : F) → IsEntries eq es
-        → KeepsInOrder T f es new g → KeepsInSomeOrder T eq f es new g
-    keeps_from_in_order f es new g d r =
-        record {
-          order = es;
-          kept = new;
-          each_once = IsPermutation-refl es;
-          called = r;
-          entries = sym (in_own_order f es new g d r);
-        }
+        (grind (arith, skipped, lookup_entry-none (eq e.0) r.3 m, rest, laws.refl e.0))
 
 -- ---- how the closure ends
 

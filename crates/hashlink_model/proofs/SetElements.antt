@@ -1,29 +1,22 @@
 -- The elements of a set after the map's steps.
-use Rattle.std.proofs.Common.{◌≡◌, ℕ, Bool, true, false, not, cond, List, [], ◌∷◌, ◌++◌, length, filter, None}
-use Rattle.std.proofs.Common.{slice_get, is_some, Option, Some, Ok, Err, option_map, refl, unwrap_or, sym, ap}
-use Rattle.std.proofs.Common.{ap₂, ◌∙◌, subst, arith}
-use Rattle.std.specs.Cmp.{IsEquivalence}
-use Rattle.std.specs.List.{IsDistinct, AllZip, find}
-use Rattle.std.specs.Map.{keys_of, lookup, lookup_key, lookup_entry, remove_entry}
-use Rattle.std.specs.Set.{is_member, remove_key, swap_key}
+use Rattle.hashlink_model.proofs.Names.{◌≡◌, ℕ, Bool, true, false, not, cond, List, [], ◌∷◌, ◌++◌, length}
+use Rattle.hashlink_model.proofs.Names.{filter, None, slice_get, is_some, Option, Some, Ok, Err, option_map}
+use Rattle.hashlink_model.proofs.Names.{refl, unwrap_or, sym, ap, ap₂, ◌∙◌, subst, arith, zero, suc}
+use Rattle.hashlink_model.proofs.Names.{IsEquivalence, AllZip, find, keys_of, lookup, lookup_key}
+use Rattle.hashlink_model.proofs.Names.{lookup_entry, remove_entry, is_member, swap_key, length-keys_of}
+use Rattle.hashlink_model.proofs.Names.{is_some-lookup, entries_eq, elements_eq, IsEntries, place_of, without}
+use Rattle.hashlink_model.proofs.Names.{stored_key, extended, set_key_at, Inserts, RemovesKey, Moves}
+use Rattle.hashlink_model.proofs.Names.{PopsFront, PopsBack, pairs_of, put_element, replaced, stored_element}
+use Rattle.std.specs.List.{IsDistinct}
+use Rattle.std.specs.Set.{remove_key}
 use Rattle.std.proofs.lemmas.List.{map-append}
-use Rattle.std.proofs.lemmas.Map.{NonePasses}
-use Rattle.std.proofs.lemmas.Map.Entries.{length-keys_of}
-use Rattle.std.proofs.lemmas.Map.Made.{is_some-lookup}
 use Rattle.std.proofs.lemmas.Option.{slice_get-map}
-use Rattle.hashlink_model.specs.Compare.{entries_eq, elements_eq}
-use Rattle.hashlink_model.specs.Entries.{IsEntries, place_of, put, without, stored_key, extended, set_key_at}
-use Rattle.hashlink_model.specs.MapState.{Inserts}
-use Rattle.hashlink_model.specs.Steps.{RemovesKey, Moves, PopsFront, PopsBack}
-use Rattle.hashlink_model.specs.Sets.{SetState, elements_of, pairs_of, put_element, replaced, stored_element}
-use Rattle.hashlink_model.specs.Sets.{SetInserts, SetReplaces}
-use Rattle.hashlink_model.proofs.Splits.{stands_from_place, remove_entry-none, none_from_lookup}
-use Rattle.hashlink_model.proofs.Splits.{lookup_entry-none}
+use Rattle.hashlink_model.specs.Sets.{SetState, elements_of, SetInserts, SetReplaces}
+use Rattle.hashlink_model.proofs.Splits.{remove_entry-none, none_from_lookup, lookup_entry-none}
 use Rattle.hashlink_model.proofs.Finds.{lookup_is, lookup_key_is}
-use Rattle.hashlink_model.proofs.Puts.{put_back, put_front, put_back_absent}
-use Rattle.hashlink_model.proofs.Afterwards.{put_back_twice, put_front_twice}
+use Rattle.hashlink_model.proofs.Puts.{put_back, put_back_absent}
 use Rattle.hashlink_model.proofs.Places.{place_of_its_key, slice_get-place_or_end}
-use Rattle.hashlink_model.proofs.ByPlace.{moved-there, set_key_at-here}
+use Rattle.hashlink_model.proofs.ByPlace.{moved-there}
 use Rattle.hashlink_model.proofs.Pops.{pops_front, pops_back}
 use Rattle.hashlink_model.proofs.SetSteps.{replaced-absent, replaced-there, length_pairs_of}
 use Rattle.hashlink_model.proofs.SetViews.{keys_of-pairs_of, pairs_of-keys_of, keys_of-put}
@@ -44,26 +37,17 @@ module _ {T V : Type 0} (test : T → Bool) where
   keys-filter p [] = refl
   keys-filter p (e ∷ es) = grind (arith, keys-filter p es)
 
-  swap_key-here : (e : T × V) (ys : List (T × V)) (t : T) → test e.0 ≡ true → (xs : List (T × V))
-      → NonePasses test xs → swap_key test (keys_of (xs ++ e ∷ ys)) t ≡ keys_of (xs ++ (t, e.1) ∷ ys)
-  swap_key-here e ys t p [] n = rw p refl
-  swap_key-here e ys t p (x ∷ xs) n = rw n.0 (ap (λ r. x.0 ∷ r) (swap_key-here e ys t p xs n.1))
-
   -- a key that is set at the place of an equal one
   pub keys-set_key_at : (es : List (T × V)) (j : ℕ) (t : T) → place_of test es ≡ Some j
       → keys_of (set_key_at es j t) ≡ swap_key test (keys_of es) t
-  keys-set_key_at es j t p =
-      let s = stands_from_place test es j p in
-      ap₂ (λ zs i. keys_of (set_key_at zs i t)) s.3.is (sym s.4) ∙ ap keys_of (set_key_at-here s.0 s.1 s.2 t)
-      ∙ sym (swap_key-here s.1 s.2 t s.3.passes s.0 s.3.before)
-      ∙ ap (λ zs. swap_key test (keys_of zs) t) (sym s.3.is)
+  keys-set_key_at [] j t p = refl
+  keys-set_key_at (e ∷ es) zero t p = grind (arith, p)
+  keys-set_key_at (e ∷ es) (suc j) t p = grind (arith, p, keys-set_key_at es j t)
 
 module _ {T S : Type 0} (eq : T → T → Bool) (old new : SetState T S) (t : T) where
-  member_none : lookup (eq t) old.entries ≡ None → is_member eq (elements_of old) t ≡ false
-  member_none l = sym (is_some-lookup (eq t) old.entries) ∙ ap is_some l
-
-  member_some : (w : Unit {0}) → lookup (eq t) old.entries ≡ Some w → is_member eq (elements_of old) t ≡ true
-  member_some w l = sym (is_some-lookup (eq t) old.entries) ∙ ap is_some l
+  member_is : (o : Option (Unit {0})) → lookup (eq t) old.entries ≡ o
+      → is_member eq (elements_of old) t ≡ is_some o
+  member_is o l = sym (is_some-lookup (eq t) old.entries) ∙ ap is_some l
 
   module _ (b : ℕ) where
     pub inserts_elements : (w : Option (Unit {0})) → Inserts eq old new t tt b (Ok w)
@@ -73,22 +57,22 @@ module _ {T S : Type 0} (eq : T → T → Bool) (old new : SetState T S) (t : T)
 
     pub inserts_member : (w : Option (Unit {0})) → Inserts eq old new t tt b (Ok w)
         → is_some w ≡ is_member eq (elements_of old) t
-    inserts_member None s = sym (member_none s.absent)
-    inserts_member (Some w) s = sym (member_some w s.old_value)
+    inserts_member None s = sym (member_is None s.absent)
+    inserts_member (Some w) s = sym (member_is (Some w) s.old_value)
 
     pub inserts_refused : (pair : T × Unit {0}) → Inserts eq old new t tt b (Err pair)
         → (elements_of new ≡ elements_of old) × (is_member eq (elements_of old) t ≡ false) × (pair.0 ≡ t)
     inserts_refused pair s =
-        (ap keys_of s.grows.entries, member_none s.may_refuse.absent, ap (λ p. p.0) s.handed_back)
+        (ap keys_of s.grows.entries, member_is None s.may_refuse.absent, ap (λ p. p.0) s.handed_back)
 
     pub moves_elements : (r : Option (Unit {0})) → Moves eq old new t b r
         → (elements_of new ≡ cond (is_some r) (put_element eq (elements_of old) t b) (elements_of old))
         × (is_some r ≡ is_member eq (elements_of old) t)
-    moves_elements None s = (ap elements_of s.step, sym (member_none (sym s.answer)))
+    moves_elements None s = (ap elements_of s.step, sym (member_is None (sym s.answer)))
     moves_elements (Some w) s = (
       ap keys_of (s.step.entries ∙ moved-there eq old.entries t b w (sym s.answer))
           ∙ keys_of-put eq old.entries t b,
-      sym (member_some w (sym s.answer)),
+      sym (member_is (Some w) (sym s.answer)),
     )
 
   found_key : (r : Option (T × Unit {0})) → r ≡ lookup_entry (eq t) old.entries
@@ -110,15 +94,12 @@ module _ {T S : Type 0} (eq : T → T → Bool) (old new : SetState T S) (t : T)
 
   -- ---- the set's own steps
 
-  length_elements : length old.entries ≡ length (elements_of old)
-  length_elements = sym (length-keys_of old.entries)
-
   pub set_inserts : (b : Bool) → SetInserts eq old new t (Ok b)
       → (elements_of new ≡ put_element eq (elements_of old) t (length (elements_of old)))
       × (b ≡ not (is_member eq (elements_of old) t))
   set_inserts b s = (
     inserts_elements (length old.entries) (cond b None (Some tt)) s
-        ∙ ap (put_element eq (elements_of old) t) length_elements,
+        ∙ ap (put_element eq (elements_of old) t) (sym (length-keys_of old.entries)),
     grind (arith, inserts_member (length old.entries) (cond b None (Some tt)) s),
   )
 
@@ -128,7 +109,7 @@ module _ {T S : Type 0} (eq : T → T → Bool) (old new : SetState T S) (t : T)
       let none = none_from_lookup (eq t) old.entries s.absent in (
         ap keys_of (s.adds.entries ∙ put_back_absent eq old.entries t tt none)
             ∙ map-append (λ e. e.0) old.entries ((t, tt) ∷ [])
-            ∙ sym (replaced-absent eq (elements_of old) t (member_none s.absent)),
+            ∙ sym (replaced-absent eq (elements_of old) t (member_is None s.absent)),
         found_key None (sym (lookup_entry-none (eq t) old.entries none)),
       )
   set_replaces (Some x) s =
@@ -155,10 +136,10 @@ module _ {T S : Type 0} (old new : SetState T S) (e : T × Unit {0}) where
 -- ---- where an element is put
 
 module _ {T : Type 0} (eq : T → T → Bool) where
-  removed_pairs : (ts : List T) (t : T) → keys_of (without eq (pairs_of ts) t) ≡ remove_key (eq t) ts
+  pub removed_pairs : (ts : List T) (t : T) → keys_of (without eq (pairs_of ts) t) ≡ remove_key (eq t) ts
   removed_pairs ts t = keys-remove_entry (eq t) (pairs_of ts) ∙ ap (remove_key (eq t)) (keys_of-pairs_of ts)
 
-  stored_pairs : (ts : List T) (t : T) → stored_key eq (pairs_of ts) t ≡ stored_element eq ts t
+  pub stored_pairs : (ts : List T) (t : T) → stored_key eq (pairs_of ts) t ≡ stored_element eq ts t
   stored_pairs ts t = ap (λ o. unwrap_or o t) (find-keys (eq t) (pairs_of ts) ∙ ap (find (eq t))
       (keys_of-pairs_of ts))
 
@@ -169,14 +150,8 @@ module _ {T : Type 0} (eq : T → T → Bool) where
       ∙ map-append (λ e. e.0) (without eq (pairs_of ts) t) ((stored_key eq (pairs_of ts) t, tt) ∷ [])
       ∙ ap₂ (λ xs x. xs ++ x ∷ []) (removed_pairs ts t) (stored_pairs ts t)
 
-  pub put_element_front : (ts : List T) (t : T) → put_element eq ts t 0
-      ≡ stored_element eq ts t ∷ remove_key (eq t) ts
-  put_element_front ts t =
-      ap keys_of (put_front eq (pairs_of ts) t tt)
-      ∙ ap₂ (λ x xs. x ∷ xs) (stored_pairs ts t) (removed_pairs ts t)
-
   module _ (laws : IsEquivalence eq) where
-    entries_of_pairs : (ts : List T) → IsDistinct eq ts → IsEntries eq (pairs_of ts)
+    pub entries_of_pairs : (ts : List T) → IsDistinct eq ts → IsEntries eq (pairs_of ts)
     entries_of_pairs ts d = subst (IsDistinct eq) (sym (keys_of-pairs_of ts)) d
 
     -- an element that stands at j, or is put directly behind itself
@@ -185,27 +160,6 @@ module _ {T : Type 0} (eq : T → T → Bool) where
     place_in_pairs ts j x t d at e =
         place_of_its_key eq laws (pairs_of ts) j (x, tt) t (entries_of_pairs ts d)
         (slice_get-map (λ u. (u, tt)) ts j ∙ ap (option_map (λ u. (u, tt))) at) e
-
-    -- the pairs of what is put are the entries that are put
-    pairs-put : (ts : List T) (t : T) (b : ℕ) → pairs_of (put_element eq ts t b) ≡ put eq (pairs_of ts) t tt b
-    pairs-put ts t b = pairs_of-keys_of (put eq (pairs_of ts) t tt b)
-
-    pub put_element_back_twice : (ts : List T) (t : T) → IsDistinct eq ts
-        → put_element eq (put_element eq ts t (length ts)) t (length (put_element eq ts t (length ts)))
-        ≡ put_element eq ts t (length ts)
-    put_element_back_twice ts t d =
-        let zs = put eq (pairs_of ts) t tt (length (pairs_of ts)) in
-        let same : put_element eq ts t (length ts)
-        ≡ keys_of zs = ap (put_element eq ts t) (sym (length_pairs_of eq ts)) in
-        ap (λ us. put_element eq us t (length us)) same
-        ∙ ap₂ (λ es n. keys_of (put eq es t tt n)) (pairs_of-keys_of zs) (length-keys_of zs)
-        ∙ ap keys_of (put_back_twice eq laws (pairs_of ts) t tt tt (entries_of_pairs ts d)) ∙ sym same
-
-    pub put_element_front_twice : (ts : List T) (t : T) → IsDistinct eq ts
-        → put_element eq (put_element eq ts t 0) t 0 ≡ put_element eq ts t 0
-    put_element_front_twice ts t d =
-        ap (λ es. keys_of (put eq es t tt 0)) (pairs-put ts t 0)
-        ∙ ap keys_of (put_front_twice eq laws (pairs_of ts) t tt tt (entries_of_pairs ts d))
 
     -- ---- many elements
 

@@ -1,25 +1,15 @@
 -- What stands after the steps of a set.
-use Rattle.std.proofs.Common.{◌≡◌, ℕ, zero, suc, ◌+◌, Bool, true, false, cond, ◌||◌, List, [], ◌∷◌, ◌++◌, sym}
-use Rattle.std.proofs.Common.{length, take, drop, slice_get, slice_set, is_some, Some, refl, ap, ap₂, ◌∙◌}
-use Rattle.std.proofs.Common.{subst, arith}
-use Rattle.std.specs.Cmp.{IsEquivalence}
+use Rattle.hashlink_model.proofs.Names.{◌≡◌, ℕ, zero, suc, ◌+◌, Bool, true, false, cond, ◌||◌, List, [], ◌∷◌}
+use Rattle.hashlink_model.proofs.Names.{◌++◌, sym, length, take, drop, slice_get, Some, refl, ap, ap₂, ◌∙◌}
+use Rattle.hashlink_model.proofs.Names.{arith, IsEquivalence, keys_of, is_member, swap_key, is_some-lookup}
+use Rattle.hashlink_model.proofs.Names.{length-keys_of, take-append-drop, none-some, same_Some, place_without}
+use Rattle.hashlink_model.proofs.Names.{without, stored_key, put, pairs_of, put_element, replaced}
 use Rattle.std.specs.List.{IsDistinct}
-use Rattle.std.specs.Map.{keys_of, lookup}
-use Rattle.std.specs.Set.{is_member, swap_key}
-use Rattle.std.proofs.lemmas.Map.Made.{is_some-lookup}
-use Rattle.std.proofs.lemmas.Map.Entries.{length-keys_of}
-use Rattle.std.proofs.lemmas.List.{set_at, take-append-drop}
-use Rattle.std.proofs.lemmas.Option.{none-some, same_Some}
-use Rattle.hashlink_model.specs.Entries.{place_without, without, stored_key, put}
-use Rattle.hashlink_model.specs.Sets.{pairs_of, put_element, replaced}
 use Rattle.hashlink_model.proofs.Distinct.{each-middle, each-weaker}
 use Rattle.hashlink_model.proofs.Finds.{stored_key-equal}
-use Rattle.hashlink_model.proofs.Puts.{IsEntries-put}
 use Rattle.hashlink_model.proofs.Afterwards.{length-put_absent, length-put_there}
-use Rattle.hashlink_model.proofs.Places.{split_at}
-use Rattle.hashlink_model.proofs.Members.{is_member-equal, is_member-append, none_from_is_member}
+use Rattle.hashlink_model.proofs.Members.{none_from_is_member, is_member_from_none}
 use Rattle.hashlink_model.proofs.SetViews.{keys_of-pairs_of}
-use Rattle.hashlink_model.proofs.Members.{is_member_from_none}
 use Rattle.std.proofs.lemmas.Map.Keys.{IsDistinct-push}
 
 module _ {T : Type 0} (eq : T → T → Bool) where
@@ -28,16 +18,11 @@ module _ {T : Type 0} (eq : T → T → Bool) where
   pub length_pairs_of : (ts : List T) → length (pairs_of ts) ≡ length ts
   length_pairs_of ts = sym (length-keys_of (pairs_of ts)) ∙ ap length (keys_of-pairs_of ts)
 
-  -- an element is a member exactly where a look-up finds it
-  is_some-lookup_pairs : (ts : List T) (t : T) → is_some (lookup (eq t) (pairs_of ts)) ≡ is_member eq ts t
-  is_some-lookup_pairs ts t = is_some-lookup (eq t) (pairs_of ts)
-      ∙ ap (λ zs. is_member eq zs t) (keys_of-pairs_of ts)
-
   pub length-put_element : (ts : List T) (t : T) (b : ℕ)
       → length (put_element eq ts t b) ≡ cond (is_member eq ts t) (length ts) (length ts + 1)
   length-put_element ts t b =
       let es = pairs_of ts in
-      let there = is_some-lookup_pairs ts t in
+      let there = is_some-lookup (eq t) es ∙ ap (λ zs. is_member eq zs t) (keys_of-pairs_of ts) in
       let long = length-keys_of (put eq es t tt b) in
       let same = length_pairs_of ts in
       grind (arith, long, there, same, length-put_absent eq es t tt b, length-put_there eq es t tt b)
@@ -55,21 +40,17 @@ module _ {T : Type 0} (eq : T → T → Bool) where
 
   -- ---- every other element stays at its place
 
-  swapped_others : (t x : T) → eq t x ≡ false → (ts : List T) (i : ℕ) → slice_get ts i ≡ Some x
+  pub swapped_others : (t x : T) → eq t x ≡ false → (ts : List T) (i : ℕ) → slice_get ts i ≡ Some x
       → slice_get (swap_key (eq t) ts t) i ≡ Some x
   swapped_others t x f [] i e = absurd (none-some x e)
   swapped_others t x f (y ∷ ts) zero e = rw (ap (eq t) (same_Some y x e) ∙ f) e
   swapped_others t x f (y ∷ ts) (suc i) e = grind (arith, swapped_others t x f ts i e)
 
-  pushed_others : (t x : T) (ts : List T) (i : ℕ) → slice_get ts i ≡ Some x
+  pub pushed_others : (t x : T) (ts : List T) (i : ℕ) → slice_get ts i ≡ Some x
       → slice_get (ts ++ t ∷ []) i ≡ Some x
   pushed_others t x [] i e = absurd (none-some x e)
   pushed_others t x (y ∷ ts) zero e = e
   pushed_others t x (y ∷ ts) (suc i) e = pushed_others t x ts i e
-
-  pub replaced-others : (ts : List T) (t x : T) (i : ℕ) → slice_get ts i ≡ Some x → eq t x ≡ false
-      → slice_get (replaced eq ts t) i ≡ Some x
-  replaced-others ts t x i e f = grind (arith, swapped_others t x f ts i e, pushed_others t x ts i e)
 
 module _ {T : Type 0} (eq : T → T → Bool) (laws : IsEquivalence eq) where
   -- ---- members after an element was put
@@ -95,27 +76,12 @@ module _ {T : Type 0} (eq : T → T → Bool) (laws : IsEquivalence eq) where
         (laws.symm q k0 ∙ sym (laws.congr k k0 q (stored_key-equal eq laws k es))) (take-append-drop j zs)
         ∙ grind (arith, member_without es k)
 
-  pub is_member-put_element : (ts : List T) (t : T) (b : ℕ) (q : T)
-      → is_member eq (put_element eq ts t b) q ≡ (eq t q || is_member eq ts q)
-  is_member-put_element ts t b q =
-      is_member-put q (pairs_of ts) t tt b ∙ ap (λ zs. eq t q || is_member eq zs q) (keys_of-pairs_of ts)
-
-  pub IsDistinct-put_element : (ts : List T) (t : T) (b : ℕ) → IsDistinct eq ts
-      → IsDistinct eq (put_element eq ts t b)
-  IsDistinct-put_element ts t b d = IsEntries-put eq laws (pairs_of ts) t tt b (rw (keys_of-pairs_of ts) d)
-
   -- ---- members after an element was replaced
 
-  member_swap_key : (t q : T) (ts : List T) → is_member eq (swap_key (eq t) ts t) q ≡ is_member eq ts q
+  pub member_swap_key : (t q : T) (ts : List T) → is_member eq (swap_key (eq t) ts t) q ≡ is_member eq ts q
   member_swap_key t q [] = refl
   member_swap_key t q (x ∷ ts) =
       grind (arith, member_swap_key t q ts, laws.symm q t, laws.symm x q, laws.congr t x q)
-
-  pub is_member-replaced : (ts : List T) (t q : T) → is_member eq (replaced eq ts t) q
-      ≡ (eq t q || is_member eq ts q)
-  is_member-replaced ts t q =
-      let pushed = is_member-append eq laws ts (t ∷ []) q in
-      grind (arith, pushed, member_swap_key t q ts, laws.symm q t, is_member-equal eq laws ts t q)
 
   -- ---- replaced elements stay pairwise unequal
 
@@ -138,7 +104,7 @@ module _ {T : Type 0} (eq : T → T → Bool) (laws : IsEquivalence eq) where
 
   -- ---- an element that is equal leaves, and the one given takes its place
 
-  swapped_here : (t x : T) (us vs : List T) → IsDistinct eq (us ++ x ∷ vs) → eq t x ≡ true
+  pub swapped_here : (t x : T) (us vs : List T) → IsDistinct eq (us ++ x ∷ vs) → eq t x ≡ true
       → swap_key (eq t) (us ++ x ∷ vs) t ≡ us ++ t ∷ vs
   unfolding IsDistinct
   swapped_here t x [] vs d e = rw e refl
@@ -146,14 +112,6 @@ module _ {T : Type 0} (eq : T → T → Bool) (laws : IsEquivalence eq) where
       let other : eq t u ≡ false = laws.congr t x u e ∙ laws.symm x u ∙ (each-middle _ us x vs d.0).0 in
       rw other (ap (λ r. u ∷ r) (swapped_here t x us vs d.1 e))
 
-  member_here : (t x : T) (us vs : List T) → eq t x ≡ true → is_member eq (us ++ x ∷ vs) t ≡ true
+  pub member_here : (t x : T) (us vs : List T) → eq t x ≡ true → is_member eq (us ++ x ∷ vs) t ≡ true
   member_here t x [] vs e = rw e refl
   member_here t x (u ∷ us) vs e = grind (arith, member_here t x us vs e)
-
-  pub replaced-at : (ts : List T) (t x : T) (j : ℕ) → IsDistinct eq ts → slice_get ts j
-      ≡ Some x → eq t x ≡ true → replaced eq ts t ≡ slice_set ts j t
-  replaced-at ts t x j d at e =
-      let s = split_at ts j x at in
-      ap (λ zs. replaced eq zs t) s.2 ∙ replaced-there eq (s.0 ++ x ∷ s.1) t (member_here t x s.0 s.1 e)
-      ∙ swapped_here t x s.0 s.1 (subst (IsDistinct eq) s.2 d) e ∙ sym (set_at s.0 x s.1 t (length s.0) refl)
-      ∙ ap₂ (λ zs i. slice_set zs i t) (sym s.2) s.3

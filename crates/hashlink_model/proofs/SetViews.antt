@@ -1,8 +1,6 @@
 -- The elements of a set and its entries.
-use Rattle.std.proofs.Common.{◌≡◌, ℕ, Bool, List, [], ◌∷◌, refl, sym, ap}
-use Rattle.std.specs.Map.{keys_of}
-use Rattle.hashlink_model.specs.Entries.{put}
-use Rattle.hashlink_model.specs.Sets.{pairs_of, put_element}
+use Rattle.hashlink_model.proofs.Names.{◌≡◌, ℕ, Bool, List, [], ◌∷◌, refl, sym, ap, keys_of, put, pairs_of}
+use Rattle.hashlink_model.proofs.Names.{put_element}
 
 module _ {T : Type 0} where
   pub pairs_of-keys_of : (es : List (T × Unit {0})) → pairs_of (keys_of es) ≡ es

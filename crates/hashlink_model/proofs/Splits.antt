@@ -1,12 +1,12 @@
 -- A list of entries at the first key that passes a test: `xs ++ e ∷ ys`, where e passes and none of xs does;
 -- or no key passes.
-use Rattle.std.proofs.Common.{◌≡◌, ℕ, Bool, true, false, List, [], ◌∷◌, ◌++◌, length, None, Some, ◌⊎◌, inl}
-use Rattle.std.proofs.Common.{inr, refl, sym, ap, ◌∙◌, add-one}
-use Rattle.std.specs.Map.{lookup, lookup_entry, lookup_key, remove_entry, set_value}
-use Rattle.std.proofs.lemmas.Map.{NonePasses, none_passes_from_lookup}
-use Rattle.std.proofs.lemmas.Option.{same_Some}
+use Rattle.hashlink_model.proofs.Names.{◌≡◌, ℕ, Bool, true, false, List, [], ◌∷◌, ◌++◌, length, None, Some}
+use Rattle.hashlink_model.proofs.Names.{◌⊎◌, inl, inr, refl, sym, ap, ◌∙◌, lookup, lookup_entry, lookup_key}
+use Rattle.hashlink_model.proofs.Names.{remove_entry, set_value, NonePasses, same_Some, place_of, IsKeyTest}
+use Rattle.std.proofs.Common.{add-one}
+use Rattle.std.proofs.lemmas.Map.{none_passes_from_lookup}
 use Rattle.std.proofs.Math.Path.{fun_ext}
-use Rattle.hashlink_model.specs.Entries.{place_of, IsKeyTest}
+pub use Rattle.std.proofs.lemmas.Map.{lookup-none}
 
 module _ {K V : Type 0} (test : K → Bool) where
   -- e is the first entry of es whose key passes, xs stands before it and ys after it
@@ -45,10 +45,6 @@ module _ {K V : Type 0} (test : K → Bool) where
   pub lookup_key-none : (es : List (K × V)) → NonePasses test es → lookup_key test es ≡ None
   lookup_key-none [] n = refl
   lookup_key-none (x ∷ es) n = rw n.0 (lookup_key-none es n.1)
-
-  pub lookup-none : (es : List (K × V)) → NonePasses test es → lookup test es ≡ None
-  lookup-none [] n = refl
-  lookup-none (x ∷ es) n = rw n.0 (lookup-none es n.1)
 
   pub remove_entry-none : (es : List (K × V)) → NonePasses test es → remove_entry test es ≡ es
   remove_entry-none [] n = refl
@@ -91,7 +87,7 @@ module _ {K V : Type 0} (test : K → Bool) where
   none_from_lookup es l = none_passes_from_lookup test es l
 
   pub stands_from_lookup : (es : List (K × V)) (w : V) → lookup test es ≡ Some w → Stands es
-  stands_from_lookup es w l = elim (splits es) [ inl n ↦ absurd (cc (lookup-none es n)) | inr s ↦ s ]
+  stands_from_lookup es w l = elim (splits es) [ inl n ↦ absurd (cc (lookup-none test es n)) | inr s ↦ s ]
 
   pub stands_from_place : (es : List (K × V)) (j : ℕ) → place_of test es ≡ Some j
       → (xs : List (K × V)) × (e : K × V) × (ys : List (K × V)) × StandsAt es xs e ys × (length xs ≡ j)

@@ -1,9 +1,8 @@
 -- What a walk from both ends gives and leaves.
-use Rattle.std.proofs.Common.{◌≡◌, suc, ◌-◌, List, [], ◌∷◌, ◌++◌, length, Option, None, Some, option_to_list}
-use Rattle.std.proofs.Common.{refl, sym, ap, ◌∙◌, arith, append_assoc}
-use Rattle.std.specs.List.{cons_option}
-use Rattle.std.specs.Map.Iter.{TakesFirst, TakesLast}
-use Rattle.std.proofs.lemmas.List.{append-nil, length-append, length-take, length-drop, nil_from_length}
+use Rattle.hashlink_model.proofs.Names.{◌≡◌, suc, ◌-◌, List, [], ◌∷◌, ◌++◌, length, Option, None, Some}
+use Rattle.hashlink_model.proofs.Names.{option_to_list, refl, sym, ap, ◌∙◌, arith, append_assoc, cons_option}
+use Rattle.hashlink_model.proofs.Names.{TakesFirst, append-nil, length-append, length-take, length-drop}
+use Rattle.std.specs.Map.Iter.{TakesLast}
 use Rattle.hashlink_model.specs.Walk.{End, Front, Back, first_of, after_first_of, last_of, before_last_of}
 use Rattle.hashlink_model.specs.Walk.{step_leaves, walk_leaves, given_front, given_back}
 
@@ -16,28 +15,23 @@ module _ {X : Type 0} where
   first_splits [] = refl
   first_splits (x ∷ xs) = refl
 
-  last_step : (x y : X) (xs : List X) → length (x ∷ y ∷ xs) - 1 ≡ suc (length (y ∷ xs) - 1)
-  last_step x y xs = omega arith
-
   pub last_splits : (xs : List X) → before_last_of xs ++ option_to_list (last_of xs) ≡ xs
   last_splits [] = refl
   last_splits (x ∷ []) = refl
-  last_splits (x ∷ y ∷ xs) = rw (last_step x y xs) (ap (λ r. x ∷ r) (last_splits (y ∷ xs)))
+  last_splits (x ∷ y ∷ xs) =
+      let one : length (x ∷ y ∷ xs) - 1 ≡ suc (length (y ∷ xs) - 1) = omega arith in
+      rw one (ap (λ r. x ∷ r) (last_splits (y ∷ xs)))
 
-  last_none : (xs : List X) → before_last_of xs ++ [] ≡ xs → xs ≡ []
-  last_none xs s =
-      let a = ap length s in
-      let b = length-append (before_last_of xs) [] in
-      let c = length-take (length xs - 1) xs in
-      nil_from_length xs (omega arith)
-
-  last_by : (xs : List X) (o : Option X) → before_last_of xs ++ option_to_list o ≡ xs
-      → TakesLast (λ x. x) xs o (before_last_of xs)
-  last_by xs None s = (last_none xs s, ap before_last_of (last_none xs s))
-  last_by xs (Some x) s = sym s
+  last_by : (x : X) (xs : List X) (o : Option X) → before_last_of (x ∷ xs) ++ option_to_list o ≡ x ∷ xs
+      → TakesLast (λ x. x) (x ∷ xs) o (before_last_of (x ∷ xs))
+  last_by x xs None s =
+      let long = length-append (before_last_of (x ∷ xs)) [] in
+      absurd (omega (arith, ap length s, length-take (length (x ∷ xs) - 1) (x ∷ xs)))
+  last_by x xs (Some y) s = sym s
 
   pub takes_last : (xs : List X) → TakesLast (λ x. x) xs (last_of xs) (before_last_of xs)
-  takes_last xs = last_by xs (last_of xs) (last_splits xs)
+  takes_last [] = (refl, refl)
+  takes_last (x ∷ xs) = last_by x xs (last_of (x ∷ xs)) (last_splits (x ∷ xs))
 
   -- ---- runs of steps
 

@@ -1,17 +1,12 @@
 -- The longest end of the entries that a budget allows.
-use Rattle.std.proofs.Common.{◌≡◌, ℕ, ◌≤◌, Bool, true, false, cond, List, [], ◌∷◌, ◌++◌, length, nat_le, Some}
-use Rattle.std.proofs.Common.{refl, ◌∙◌, ap, arith, le_refl, zero-le, le-leb}
-use Rattle.std.proofs.lemmas.List.{length-append}
-use Rattle.std.specs.Map.{lookup, lookup_entry}
-use Rattle.hashlink_model.specs.Entries.{IsEntries, put, without, stored_key}
+use Rattle.hashlink_model.proofs.Names.{◌≡◌, ℕ, ◌≤◌, Bool, true, false, cond, List, [], ◌∷◌, ◌++◌, length}
+use Rattle.hashlink_model.proofs.Names.{refl, ◌∙◌, ap, arith, le_refl, length-append, IsEntries, without}
+use Rattle.hashlink_model.proofs.Names.{stored_key, Option, nat_tests}
+use Rattle.std.proofs.Common.{zero-le, nat_le, le-leb}
 use Rattle.hashlink_model.proofs.Distinct.{IsEntries-tail}
-use Rattle.std.specs.Cmp.{IsEquivalence}
-use Rattle.hashlink_model.proofs.Puts.{IsEntries-put, put_back}
-use Rattle.hashlink_model.proofs.Remaining.{lookup-put_remaining, lookup_entry-put_remaining}
-use Rattle.std.specs.Prelude.{Option}
+use Rattle.hashlink_model.proofs.Puts.{put_back}
 use Rattle.hashlink_model.specs.Weights.{WeightedState, WeightedInserts, total_weight, fitting, weighted_put}
-use Rattle.hashlink_model.proofs.CacheSteps.{put_entries, put_answer}
-use Rattle.std.proofs.lemmas.Bool.Decides.{nat_tests}
+use Rattle.hashlink_model.proofs.CacheSteps.{put_entries}
 
 module _ {K V : Type 0} where
   pub fitting-fits : (es : List (K × (V × ℕ))) (budget : ℕ) → total_weight (fitting es budget) ≤ budget
@@ -46,16 +41,6 @@ module _ {K V : Type 0} where
       grind (arith, d, IsEntries-fitting eq es budget (IsEntries-tail eq e es d))
 
 module _ {K V : Type 0} (eq : K → K → Bool) where
-  pub IsEntries-weighted_put : IsEquivalence eq → (es : List (K × (V × ℕ))) (budget : ℕ)
-      (k : K) (v : V) (weight : ℕ) → IsEntries eq es → IsEntries eq (weighted_put eq es budget k v weight)
-  IsEntries-weighted_put laws es budget k v weight d =
-      IsEntries-fitting eq (put eq es k (v, weight) (length es)) budget
-      (IsEntries-put eq laws es k (v, weight) (length es) d)
-
-  pub total_weight-weighted_put : (es : List (K × (V × ℕ))) (budget : ℕ) (k : K) (v : V) (weight : ℕ)
-      → total_weight (weighted_put eq es budget k v weight) ≤ budget
-  total_weight-weighted_put es budget k v weight = fitting-fits (put eq es k (v, weight) (length es)) budget
-
   -- a pair that is not too heavy stays
   pub length-weighted_put : (es : List (K × (V × ℕ))) (budget : ℕ) (k : K) (v : V) (weight : ℕ)
       → weight ≤ budget → 1 ≤ length (weighted_put eq es budget k v weight)
@@ -64,25 +49,6 @@ module _ {K V : Type 0} (eq : K → K → Bool) where
       let fits : total_weight last ≤ budget = omega arith in
       rw (put_back eq es k (v, weight))
       (fitting-longest (without eq es k) ((stored_key eq es k, (v, weight)) ∷ []) budget fits)
-
--- ---- look-ups after an insert
-
-module _ {K V : Type 0} (eq : K → K → Bool) (laws : IsEquivalence eq) where
-  pub lookup-weighted_put : (q : K) (es : List (K × (V × ℕ))) (budget : ℕ) (k : K) (v : V) (weight : ℕ)
-      → IsEntries eq es → weight ≤ budget → eq k q ≡ true
-      → lookup (eq q) (weighted_put eq es budget k v weight) ≡ Some (v, weight)
-  lookup-weighted_put q es budget k v weight d l t =
-      let s = fitting-end (put eq es k (v, weight) (length es)) budget in
-      lookup-put_remaining eq laws q es k (v, weight) s.0 (weighted_put eq es budget k v weight) d s.1
-      (length-weighted_put eq es budget k v weight l) t
-
-  pub lookup_entry-weighted_put : (q : K) (es : List (K × (V × ℕ))) (budget : ℕ) (k : K) (v : V) (weight : ℕ)
-      (e : K × (V × ℕ)) → IsEntries eq es → eq k q ≡ false
-      → lookup_entry (eq q) (weighted_put eq es budget k v weight) ≡ Some e → lookup_entry (eq q) es ≡ Some e
-  lookup_entry-weighted_put q es budget k v weight e d t l =
-      let s = fitting-end (put eq es k (v, weight) (length es)) budget in
-      lookup_entry-put_remaining eq laws q es k (v, weight) s.0
-      (weighted_put eq es budget k v weight) d s.1 e t l
 
 -- ---- the steps
 
@@ -93,9 +59,6 @@ module _ {K V S : Type 0} (eq : K → K → Bool) (old new : WeightedState K V S
   weighted_entries s =
       s.keeps.entries ∙ ap (λ es. fitting es old.budget)
       (put_entries eq old.map s.between k (v, weight) w s.inserts)
-
-  pub weighted_answer : WeightedInserts eq old new k v weight w → w ≡ lookup (eq k) old.map.entries
-  weighted_answer s = put_answer eq old.map s.between k (v, weight) w s.inserts
 
   pub weighted_total : WeightedInserts eq old new k v weight w → total_weight new.map.entries ≤ new.budget
   weighted_total s = omega (arith, ap total_weight s.keeps.entries, fitting-fits s.between.entries old.budget)

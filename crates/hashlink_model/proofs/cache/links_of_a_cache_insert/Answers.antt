@@ -1,19 +1,21 @@
-use Rattle.std.proofs.Common.{arith, None, Some}
+use Rattle.std.proofs.Common.{Bool, ℕ, ◌+◌, ◌-◌, ◌*◌, ◌≤◌, Ok, Some, length, ap, le_refl, arith}
+use Rattle.hashlink_model.specs.Cache.{CacheState, CacheInserts}
+use Rattle.hashlink_model.specs.MapState.{StoresAtMost}
+use Rattle.hashlink_model.proofs.Afterwards.{length-put_there}
 use Rattle.hashlink_model.proofs.Caches.{length-last_entries}
-use Rattle.hashlink_model.proofs.CacheBounds.{links-put, store_more}
 use Rattle.hashlink_model.proofs.cache.links_of_a_cache_insert.Goals as goal
 
-pub returns : goal.returns
-returns g c = record {
-  new_key = λ eq old new k v s. links-put eq old new k v None s;
-  there = λ eq old new k v w s. links-put eq old new k v (Some w) s;
-  new_key_drops_one = λ eq old new k v s i.
-      store_more _ _ _ _ (omega arith) (links-put eq old new k v None s);
-  there_drops_one = λ eq old new k v w s i.
-      store_more _ _ _ _ (omega arith) (links-put eq old new k v (Some w) s);
-  with_a_place = λ eq old new k v s l. store_more _ _ _ _ (omega arith) (links-put eq old new k v None s);
-  new_key_then_kept = λ eq a b c k v es kept s. record { grows = omega arith; bound = omega arith };
-  there_then_kept = λ eq a b c k v es kept w s. record { grows = omega arith; bound = omega arith };
-  set_capacity = λ old new n s. store_more _ _ _ _
-      (omega (arith, length-last_entries old.map.entries n)) s.map.link_writes;
-}
+at_most : {K V S : Type 0} (eq : K → K → Bool) (old new : CacheState K V S) (k : K) (v w : V) (n : ℕ)
+    → length old.map.entries - old.cap ≤ n → CacheInserts eq old new k v (Ok (Some w))
+    → StoresAtMost (6 + 3 * n) old.map.link_writes new.map.link_writes
+at_most eq old new k v w n l s =
+    let same = ap length s.map.inserts.puts.entries in
+    let long = length-put_there eq old.map.entries k v (length old.map.entries) w s.map.inserts.old_value in
+    let few = length-last_entries s.map.between.entries old.cap in
+    record { grows = omega arith; bound = omega arith }
+
+pub returns-clause-there : goal.returns-clause-there
+returns-clause-there g c eq old new k v w = at_most eq old new k v w _ (le_refl _)
+
+pub returns-clause-there_drops_one : goal.returns-clause-there_drops_one
+returns-clause-there_drops_one g c eq old new k v w s i = at_most eq old new k v w 1 (omega arith) s

@@ -1,5 +1,4 @@
-use Rattle.std.proofs.Common.{ap, sym, ◌∙◌, length}
-use Rattle.hashlink_model.specs.Entries.{put}
+use Rattle.hashlink_model.proofs.Names.{ap, sym, ◌∙◌, length, put}
 use Rattle.hashlink_model.proofs.Afterwards.{length-put_there, moved_twice, put_back_twice, put_front_twice}
 use Rattle.hashlink_model.proofs.entries.move_twice_is_once.Goals as goal
 

@@ -1,12 +1,16 @@
-use Rattle.std.specs.Prelude.{length}
-use Rattle.hashlink_model.proofs.Puts.{IsEntries-put}
-use Rattle.hashlink_model.proofs.Occupied.{IsEntries-insert_entry, IsEntries-replace_entry, insert_value-put}
-use Rattle.hashlink_model.proofs.Occupied.{set_key_at-entry, set_value_at-entry}
+use Rattle.hashlink_model.proofs.Names.{length, [], append-nil, without}
+use Rattle.hashlink_model.proofs.Distinct.{IsEntries-insert}
+use Rattle.hashlink_model.proofs.Puts.{IsEntries-put, IsEntries-without}
+use Rattle.hashlink_model.proofs.Occupied.{insert_entry-last, none_last, IsEntries-replace_entry}
+use Rattle.hashlink_model.proofs.Occupied.{insert_value-put, set_key_at-entry, set_value_at-entry}
 use Rattle.hashlink_model.proofs.entry.entries_keep_keys_unequal.Goals as goal
 
 pub returns : goal.returns
 returns g c = record {
-  insert_entry = IsEntries-insert_entry;
+  insert_entry = λ eq laws es j e h v d at t.
+      rw (insert_entry-last eq laws es j e h v d at)
+      (IsEntries-insert eq laws (without eq es e.0) (h, v) [] (none_last eq laws es e h d t)
+      (rw (append-nil (without eq es e.0)) (IsEntries-without eq laws es e.0 d)));
   replace_entry = IsEntries-replace_entry;
   insert_value = λ eq laws es j e v d at.
       rw (insert_value-put eq laws es j e v d at) (IsEntries-put eq laws es e.0 v (length es) d);

@@ -1,20 +1,17 @@
-use Rattle.std.proofs.Common.{◌∙◌, sym, ap, length, slice_get, subst, arith, nat_eq, ◌<◌}
-use Rattle.std.specs.Prelude.{MatchOption}
-use Rattle.std.proofs.lemmas.Option.{none-some}
-use Rattle.hashlink_model.proofs.Occupied.{entry_stands, raw_entry_stands}
+use Rattle.hashlink_model.proofs.Splits.{stands_from_place}
+use Rattle.hashlink_model.proofs.Places.{slice_get_here}
+use Rattle.std.proofs.Common.{ap₂, slice_get, ◌∙◌, sym}
+use Rattle.hashlink_model.proofs.Occupied.{raw_entry_stands}
 use Rattle.hashlink_model.proofs.Pops.{vacant}
 use Rattle.hashlink_model.proofs.entry.where_an_entry_stands.Goals as goal
 
-pub returns : goal.returns
-returns g c = record {
-  occupied = entry_stands;
-  vacant = λ eq laws e i p. vacant eq laws e.key e.map.entries (sym i ∙ p);
-  raw = raw_entry_stands;
-  past_the_end = λ e l p i.
-      let s = entry_stands nat_eq e 7 i p in none-some s.0 (sym (ap (λ es. slice_get es 7) l) ∙ s.1);
-  raw_past_the_end = λ r l p i.
-      let below : 7 < length r.map.entries
-      = subst (λ o. MatchOption o (Unit {0}) (λ j. j < length r.map.entries)) p i in
-      let one = ap length l in
-      omega arith;
-}
+pub returns-clause-occupied : goal.returns-clause-occupied
+returns-clause-occupied g c eq e j i p =
+    let s = stands_from_place (eq e.key) e.map.entries j (sym i ∙ p) in
+    (s.1, ap₂ slice_get s.3.is (sym s.4) ∙ slice_get_here s.0 s.1 s.2, s.3.passes)
+
+pub returns-clause-vacant : goal.returns-clause-vacant
+returns-clause-vacant g c eq laws e i p = vacant eq laws e.key e.map.entries (sym i ∙ p)
+
+pub returns-clause-raw : goal.returns-clause-raw
+returns-clause-raw g c = raw_entry_stands

@@ -1,5 +1,4 @@
-use Rattle.std.proofs.Common.{ap, ◌∙◌, refl}
-use Rattle.std.specs.Map.{keys_of}
+use Rattle.hashlink_model.proofs.Names.{ap, ◌∙◌, refl, keys_of}
 use Rattle.hashlink_model.proofs.Retains.{keeps_is_filter, keeps_in_order_is_filter}
 use Rattle.hashlink_model.proofs.SetElements.{keys-filter}
 use Rattle.hashlink_model.proofs.sets.a_set_retained_by_a_predicate.Goals as goal

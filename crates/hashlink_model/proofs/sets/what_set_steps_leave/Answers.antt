@@ -1,6 +1,4 @@
-use Rattle.std.proofs.Common.{ap, length, ◌∙◌, nat_eq}
-use Rattle.std.specs.List.{find}
-use Rattle.hashlink_model.specs.Sets.{put_element, replaced, stored_element}
+use Rattle.hashlink_model.proofs.Names.{ap, length, ◌∙◌, nat_eq, find, put_element, replaced, stored_element}
 use Rattle.hashlink_model.proofs.SetElements.{set_inserts, set_replaces}
 use Rattle.hashlink_model.proofs.sets.what_set_steps_leave.Goals as goal
 

@@ -1,4 +1,5 @@
-use Rattle.std.proofs.Common.{ap, length, arith}
+use Rattle.hashlink_model.proofs.Names.{ap, length, arith, length-set_value, node_count}
+use Rattle.hashlink_model.proofs.Afterwards.{length-moved}
 use Rattle.hashlink_model.proofs.KeptNodes as kept
 use Rattle.hashlink_model.proofs.states.every_node_is_kept.Goals as goal
 
@@ -7,7 +8,9 @@ returns g c = record {
   inserts = kept.kept-inserts;
   replaces = kept.kept-replaces;
   moves = kept.kept-moves;
-  moves_and_writes = kept.kept-moves_and_writes;
+  moves_and_writes = λ old new eq k b w s.
+      let written = length-set_value (eq k) s.between.entries w in
+      omega (arith, length-moved eq old.entries k b, ap node_count s.writes, ap length s.moves.entries);
   changes = kept.kept-changes;
   removes_key = kept.kept-removes_key;
   pops_front = kept.kept-pops_front;

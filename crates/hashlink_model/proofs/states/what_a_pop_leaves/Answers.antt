@@ -1,12 +1,13 @@
-use Rattle.std.proofs.Common.{refl}
-use Rattle.hashlink_model.proofs.Pops.{pops_front, pops_back, without-last}
+use Rattle.std.proofs.Common.{[], ◌∙◌, append-nil}
+use Rattle.hashlink_model.proofs.Splits.{remove_entry-here}
+use Rattle.hashlink_model.proofs.Places.{none_before}
+use Rattle.hashlink_model.proofs.Pops.{pops_back}
 use Rattle.hashlink_model.proofs.states.what_a_pop_leaves.Goals as goal
 
-pub returns : goal.returns
-returns g c = record {
-  front = pops_front;
-  back = pops_back;
-  none = λ old new s. s.step;
-  first_by_key = λ eq laws e es. rw (laws.refl e.0) refl;
-  last_by_key = without-last;
-}
+pub returns-clause-back : goal.returns-clause-back
+returns-clause-back g c = pops_back
+
+pub returns-clause-last_by_key : goal.returns-clause-last_by_key
+returns-clause-last_by_key g c eq laws es e d =
+    let same = laws.refl e.0 in
+    remove_entry-here (eq e.0) e [] same es (none_before eq laws es e [] e.0 d same) ∙ append-nil es

@@ -1,6 +1,5 @@
-use Rattle.std.proofs.Common.{ap, ◌∙◌, is_some, refl}
-use Rattle.std.specs.Map.{keys_of, lookup, lookup_entry}
-use Rattle.std.proofs.lemmas.Map.{keys-set_value, lookup-set_value}
+use Rattle.hashlink_model.proofs.Names.{ap, ◌∙◌, is_some, refl, keys_of, lookup, lookup_entry, keys-set_value}
+use Rattle.std.proofs.lemmas.Map.{lookup-set_value}
 use Rattle.hashlink_model.proofs.Puts.{lookup_entry-set_value_other}
 use Rattle.hashlink_model.proofs.Afterwards.{lookup-moved, IsEntries-moved}
 use Rattle.hashlink_model.proofs.NodeCounts.{writes_nodes, moves_entries, moves_length, moves_nodes}
