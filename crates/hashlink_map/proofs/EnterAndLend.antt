@@ -11,10 +11,7 @@ use Rattle.hashlink_map.proofs.Names.{Lasts, Kepts, Args, alive, on_entry, Meets
 use Rattle.hashlink_map.proofs.Names.{AllGo, Fit, has_of, walk_of, Good, proved_at, leaves, Bor, MutBor, IfOk}
 use Rattle.hashlink_map.proofs.Names.{Keyed, with_value_at, LendsPairOf}
 use Rattle.std.specs.declared.cmp.Eq as equal
-use Rattle.std.specs.declared.cmp.PartialEq as eq
-use Rattle.std.specs.declared.hash.Hash as hash
-use Rattle.std.specs.declared.hash.Hasher as hasher
-use Rattle.std.specs.declared.hash.BuildHasher as builder
+use Rattle.hashlink_map.proofs.Names.{EqGhosts, HashGhosts, HasherGhosts, BuilderGhosts}
 use Rattle.hashlink_map.proofs.PairSteps.{Asks, asks_again, apart_last, joins_last}
 use Rattle.hashlink_map.proofs.PairRows.{Answer, answer_laws, Entered, entered_laws}
 use Rattle.hashlink_map.proofs.PairTies.{Rests, Lends, carries, IsLent, IsHandedOn, IsPairAt}
@@ -66,8 +63,8 @@ module _ {M : Type 1} {𝓤 : Ura M} (𝓛 : Logic 𝓤) where
   }
 
 module _ {M : Type 1} (𝓤 : Ura M) (K V S T : RattleType) (LK : Laws K) (LV : Laws V) (LS : Laws S)
-    (LT : Laws T) (p : eq.Ghosts K.Denot) (h : hash.Ghosts K.Denot) (b : builder.Ghosts S.Denot T.Denot)
-    (w : hasher.Ghosts T.Denot) (κ : Lft) where
+    (LT : Laws T) (p : EqGhosts K.Denot) (h : HashGhosts K.Denot) (b : BuilderGhosts S.Denot T.Denot)
+    (w : HasherGhosts T.Denot) (κ : Lft) where
   abbrev pub Made_at : RattleType
   Made_at = Entered K V LK LV κ S T LS LT p h b w
 
@@ -93,8 +90,8 @@ module _ {M : Type 1} (𝓤 : Ura M) (K V S T : RattleType) (LK : Laws K) (LV : 
 
 module _ {M : Type 1} (𝓤 : Ura M) (𝓛 : Logic 𝓤) (𝓜 : Model 𝓤 𝓛.H) (𝓡 : Running 𝓤 𝓛.H 𝓜)
     (K V S T : RattleType) (LK : Laws K) (LV : Laws V) (LS : Laws S) (LT : Laws T)
-    (e : equal.Ghosts K.Denot) (de : Dict) (p : eq.Ghosts K.Denot) (dp : Dict) (h : hash.Ghosts K.Denot)
-    (dh : Dict) (b : builder.Ghosts S.Denot T.Denot) (db : Dict) (w : hasher.Ghosts T.Denot) (dw dd : Dict)
+    (e : equal.Ghosts K.Denot) (de : Dict) (p : EqGhosts K.Denot) (dp : Dict) (h : HashGhosts K.Denot)
+    (dh : Dict) (b : BuilderGhosts S.Denot T.Denot) (db : Dict) (w : HasherGhosts T.Denot) (dw dd : Dict)
   where
     abbrev pub Made : Lfts 5 → RattleType
     Made κs = Entered K V LK LV κs.0 S T LS LT p h b w

@@ -22,6 +22,7 @@ pub use Rattle.hashlink_core.specs.KeyedLends.{node_row, with_value_at}
 pub use Rattle.hashlink_core.specs.Places.{Holds, IsPlace, IsPlaceAt, Node, place_number, renewed_at}
 pub use Rattle.hashlink_core.specs.Steps.{AddsNode, GrowsRoom, MovesNode}
 pub use Rattle.hashlink_core.specs.Walk.{StandsBetween}
+pub use Rattle.hashlink_map.specs.Bounds.{EqGhosts, HashGhosts, HasherGhosts, BuilderGhosts, NodeGhosts}
 pub use Rattle.hashlink_map.specs.Cloning.{ArePairClones, IsOfPairClones}
 pub use Rattle.hashlink_map.specs.Cursor.{CursorWritten, LentAt, TakesPlace, cursor_map, cursor_node}
 pub use Rattle.hashlink_map.specs.Cursor.{cursor_state, lent_pair}

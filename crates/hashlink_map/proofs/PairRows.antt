@@ -3,10 +3,7 @@ use Rattle.hashlink_map.proofs.Names.{[], ◌∷◌, refl, Lft, named, param, La
 use Rattle.hashlink_map.proofs.Names.{row_shared, copy_shared, mut_ref_shared, RattleType, NamedLft, MutRef}
 use Rattle.hashlink_map.proofs.Names.{ShrRef, shr_ref_field, mut_ref_field, shr_ref_laws, shr_ref_copy}
 use Rattle.hashlink_map.proofs.Names.{mut_ref_laws, Tuple, tuple_laws}
-use Rattle.std.specs.declared.cmp.PartialEq as eq
-use Rattle.std.specs.declared.hash.Hash as hash
-use Rattle.std.specs.declared.hash.Hasher as hasher
-use Rattle.std.specs.declared.hash.BuildHasher as builder
+use Rattle.hashlink_map.proofs.Names.{EqGhosts, HashGhosts, HasherGhosts, BuilderGhosts}
 use Rattle.std.specs.contracts.result.Result as result
 use Rattle.std.proofs.result.Result.TheLaws as result_laws
 use Rattle.hashlink_core.specs.contracts.Node as node
@@ -52,8 +49,8 @@ module _ (K V : RattleType) (LK : Laws K) (LV : Laws V) where
     abbrev pub answer_laws : Laws Answer
     answer_laws = result_laws.the_row_laws Lent Given lent_laws given_laws
 
-    module _ (S T : RattleType) (LS : Laws S) (LT : Laws T) (p : eq.Ghosts K.Denot) (h : hash.Ghosts K.Denot)
-        (b : builder.Ghosts S.Denot T.Denot) (w : hasher.Ghosts T.Denot) where
+    module _ (S T : RattleType) (LS : Laws S) (LT : Laws T) (p : EqGhosts K.Denot) (h : HashGhosts K.Denot)
+        (b : BuilderGhosts S.Denot T.Denot) (w : HasherGhosts T.Denot) where
       abbrev pub Held : RattleType
       Held =
           entry.the_row (at_lft κ) (param 0 K) (param 1 V) (param 2 S) node.the_row

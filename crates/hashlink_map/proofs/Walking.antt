@@ -159,9 +159,6 @@ module _ {K V S : Type 0} where
 pub on-some : {A : Type 0} {r : Option A} {x : A} {P : Type 0} → r ≡ Some x → OnSome r P → P
 on-some {P = P} is told = subst (λ o. OnSome o P) is told
 
-pub on-none : {A : Type 0} {r : Option A} {P : Type 0} → r ≡ None → IfNone r P → P
-on-none {P = P} is told = subst (λ o. IfNone o P) is told
-
 module _ {K V S : Type 0} where
   -- the map ends as the walk has it
   pub walk-ends : {m : Keyed K V S} (seen : Keyed K V S) {state : MapState K V S} → m ≡ seen
@@ -207,8 +204,5 @@ module _ {K V : Type 0} (f : K × V → V) where
 
 -- an entry, by its value that was lent and by the pair that was shown
 module _ {K V : Type 0} {o : Option (K × V)} {e : K × V} where
-  pub lent-value : {v : V} → Some v ≡ option_map (λ x. x.1) o → o ≡ Some e → v ≡ e.1
-  lent-value {v = v} lent at = let same : Some v ≡ Some e.1 = lent ∙ ap (option_map (λ x. x.1)) at in cc
-
   pub shown-entry : {x : K × V} → Some x ≡ o → o ≡ Some e → x ≡ e
   shown-entry {x = x} shown at = let same : Some x ≡ Some e = shown ∙ at in cc

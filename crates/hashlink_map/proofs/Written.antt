@@ -5,19 +5,15 @@ use Rattle.hashlink_map.proofs.Names.{entries_of, state_of, pair_with_value, Nod
 use Rattle.hashlink_map.proofs.Names.{with_value_at, values-renewed_value, place_number-renewed}
 use Rattle.hashlink_map.proofs.Names.{OccupiedEntry, RawOccupiedEntryMut, occupied_place, occupied_with}
 use Rattle.hashlink_map.proofs.Names.{IsWritten, raw_place, raw_with, RawIsWritten}
-use Rattle.std.specs.declared.cmp.PartialEq as eq
-use Rattle.std.specs.declared.hash.Hash as hash
-use Rattle.std.specs.declared.hash.Hasher as hasher
-use Rattle.std.specs.declared.hash.BuildHasher as builder
-use Rattle.hashlink_map.specs.declared.as_node.AsNode as as_node
+use Rattle.hashlink_map.proofs.Names.{EqGhosts, HashGhosts, HasherGhosts, BuilderGhosts, NodeGhosts}
 
 HoldsKey-prop : {K V : Type 0} (eq : K → K → Bool) (ns : List (Node × (K × V))) (k : K) (n : Node)
     → IsProp (HoldsKey eq ns k n)
 HoldsKey-prop eq ns k n = hlevel props
 
-module _ {K V S T : Type 0} {g : eq.Ghosts K} {h : hash.Ghosts K} {b : builder.Ghosts S T}
-    {w : hasher.Ghosts T}
-    {N : Type 0} {n : as_node.Ghosts N} (o : OccupiedEntry K V S N T g h b w n) (v : V) where
+module _ {K V S T : Type 0} {g : EqGhosts K} {h : HashGhosts K} {b : BuilderGhosts S T}
+    {w : HasherGhosts T}
+    {N : Type 0} {n : NodeGhosts N} (o : OccupiedEntry K V S N T g h b w n) (v : V) where
   pub is_written : IsWritten o v (occupied_with o v)
   is_written =
       let m = o.map.now in
@@ -51,9 +47,9 @@ module _ {K V S T : Type 0} {g : eq.Ghosts K} {h : hash.Ghosts K} {b : builder.G
 Holds-prop : {X : Type 0} (ns : List (Node × X)) (n : Node) → IsProp (Holds ns n)
 Holds-prop ns n = hlevel props
 
-module _ {K V S T : Type 0} {g : eq.Ghosts K} {h : hash.Ghosts K} {b : builder.Ghosts S T}
-    {w : hasher.Ghosts T}
-    {N : Type 0} {n : as_node.Ghosts N} (o : RawOccupiedEntryMut K V S N T g h b w n) (v : V) where
+module _ {K V S T : Type 0} {g : EqGhosts K} {h : HashGhosts K} {b : BuilderGhosts S T}
+    {w : HasherGhosts T}
+    {N : Type 0} {n : NodeGhosts N} (o : RawOccupiedEntryMut K V S N T g h b w n) (v : V) where
   pub raw_is_written : RawIsWritten o v (raw_with o v)
   raw_is_written =
       let m = o.map.now in
