@@ -82,8 +82,3 @@ cursor_written m n p i v at =
     (values-renewed_value m.nodes (place_number m.nodes (Some n)) v ∙ ap
     (λ j. set_value_at (entries_of m) j v) at)
     (place_number-renewed (pair_with_value v) m.nodes (place_number m.nodes (Some n)) p)
-
--- a node as what stands for one
-pub same_place : (p : Option Node) → option_map (λ n. n) p ≡ p
-same_place None = refl
-same_place (Some n) = refl
