@@ -7,10 +7,10 @@ use Rattle.hashlink_map.proofs.Names.{Node, IsPlace, place_number, node_row, wit
 use Rattle.hashlink_map.proofs.Names.{cursor_map, cursor_node, cursor_state, CursorWritten, LentAt}
 use Rattle.hashlink_map.proofs.Names.{TakesPlace, lent_pair, cursor_with, LendsAtCursorNode}
 use Rattle.hashlink_map.proofs.Names.{LendsPairFromCursor, IsPlace-prop, param, Laws, NamedLft, CursorState}
-use Rattle.hashlink_map.proofs.Names.{fres, entries_of, at-guard}
+use Rattle.hashlink_map.proofs.Names.{fres, entries_of, at-guard, EqGhosts, HashGhosts, HasherGhosts}
+use Rattle.hashlink_map.proofs.Names.{BuilderGhosts, NodeGhosts}
 use Rattle.std.specs.Prelude.{Option, Some, None}
 use Rattle.std.specs.Borrow.{Fml}
-use Rattle.hashlink_map.proofs.Names.{EqGhosts, HashGhosts, HasherGhosts, BuilderGhosts, NodeGhosts}
 use Rattle.hashlink_map.specs.contracts.as_node.NodeAsNode.TheImpl
 use Rattle.hashlink_map.specs.contracts.cursor.CursorMut as cursor
 use Rattle.hashlink_map.proofs.Written.{cursor_written}

@@ -9,9 +9,9 @@ use Rattle.hashlink_map.proofs.Names.{Are, shows, layout, param, Laws, RattleTyp
 use Rattle.hashlink_map.proofs.Names.{types_at, plain, nothing, peeks, heard, Ended, Clauses, closing, lasts}
 use Rattle.hashlink_map.proofs.Names.{Lasts, Kepts, Args, alive, on_entry, Meets, triple_of, framed, Stays}
 use Rattle.hashlink_map.proofs.Names.{AllGo, Fit, has_of, walk_of, Good, proved_at, leaves, Bor, MutBor, IfOk}
-use Rattle.hashlink_map.proofs.Names.{Keyed, with_value_at, LendsPairOf}
+use Rattle.hashlink_map.proofs.Names.{Keyed, with_value_at, LendsPairOf, EqGhosts, HashGhosts, HasherGhosts}
+use Rattle.hashlink_map.proofs.Names.{BuilderGhosts}
 use Rattle.std.specs.declared.cmp.Eq as equal
-use Rattle.hashlink_map.proofs.Names.{EqGhosts, HashGhosts, HasherGhosts, BuilderGhosts}
 use Rattle.hashlink_map.proofs.PairSteps.{Asks, asks_again, apart_last, joins_last}
 use Rattle.hashlink_map.proofs.PairRows.{Answer, answer_laws, Entered, entered_laws}
 use Rattle.hashlink_map.proofs.PairTies.{Rests, Lends, carries, IsLent, IsHandedOn, IsPairAt}

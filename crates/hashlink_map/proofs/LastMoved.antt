@@ -7,9 +7,9 @@ use Rattle.hashlink_map.proofs.Names.{RefusesEntry, RawEntryState, moved_at-last
 use Rattle.hashlink_map.proofs.Names.{IsEntries-middle, IsEntries-insert, split_at, place_of_its_key, Keyed}
 use Rattle.hashlink_map.proofs.Names.{state_of, entries_of, Node, Holds, place_number, at-node, node-at}
 use Rattle.hashlink_map.proofs.Names.{RawOccupiedEntryMut, raw_occupied_state, raw_occupied_map, raw_place}
-use Rattle.hashlink_map.proofs.Names.{raw_pair, PutsLast, StandsLast, with_value_at}
+use Rattle.hashlink_map.proofs.Names.{raw_pair, PutsLast, StandsLast, with_value_at, EqGhosts, HashGhosts}
+use Rattle.hashlink_map.proofs.Names.{HasherGhosts, BuilderGhosts, NodeGhosts}
 use Rattle.std.specs.Prelude.{Option}
-use Rattle.hashlink_map.proofs.Names.{EqGhosts, HashGhosts, HasherGhosts, BuilderGhosts, NodeGhosts}
 use Rattle.hashlink_map.specs.contracts.as_node.NodeAsNode.TheImpl
 use Rattle.hashlink_map.proofs.AtNode.{adds-written, added-parts, last-moved, moves-and-writes}
 use Rattle.hashlink_map.proofs.PairTies.{IsPairAt, OfEntry}

@@ -2,8 +2,8 @@
 use Rattle.hashlink_map.proofs.Names.{[], ◌∷◌, refl, Lft, named, param, Laws, param_laws, of_field}
 use Rattle.hashlink_map.proofs.Names.{row_shared, copy_shared, mut_ref_shared, RattleType, NamedLft, MutRef}
 use Rattle.hashlink_map.proofs.Names.{ShrRef, shr_ref_field, mut_ref_field, shr_ref_laws, shr_ref_copy}
-use Rattle.hashlink_map.proofs.Names.{mut_ref_laws, Tuple, tuple_laws}
-use Rattle.hashlink_map.proofs.Names.{EqGhosts, HashGhosts, HasherGhosts, BuilderGhosts}
+use Rattle.hashlink_map.proofs.Names.{mut_ref_laws, Tuple, tuple_laws, EqGhosts, HashGhosts, HasherGhosts}
+use Rattle.hashlink_map.proofs.Names.{BuilderGhosts}
 use Rattle.std.specs.contracts.result.Result as result
 use Rattle.std.proofs.result.Result.TheLaws as result_laws
 use Rattle.hashlink_core.specs.contracts.Node as node
@@ -19,6 +19,12 @@ use Rattle.hashlink_map.proofs.raw_entry.vacant.RawVacantEntryMut.TheLaws as emp
 abbrev at_lft : Lft → NamedLft
 at_lft κ = record { mir = named 0; lft = κ }
 
+abbrev pub key_laws : (K : RattleType) → Laws K → (κ : Lft) → Laws (ShrRef (named 0) κ (param 0 K))
+key_laws K LK κ =
+    of_field (shr_ref_field (at_lft κ) (param 0 K) tt) (shr_ref_laws (at_lft κ) (param 0 K) tt) refl
+    (copy_shared (shr_ref_field (at_lft κ) (param 0 K) tt)
+    (shr_ref_copy (at_lft κ) (param 0 K) tt (param_laws 0 K LK).shr_laws))
+
 module _ (K V : RattleType) (LK : Laws K) (LV : Laws V) where
   abbrev pub Given : RattleType
   Given = Tuple (param 0 K ∷ param 1 V ∷ [])
@@ -33,9 +39,7 @@ module _ (K V : RattleType) (LK : Laws K) (LV : Laws V) where
     abbrev pub lent_laws : Laws Lent
     lent_laws =
         tuple_laws (ShrRef (named 0) κ (param 0 K) ∷ MutRef (named 0) κ (param 1 V) ∷ []) (
-          of_field (shr_ref_field (at_lft κ) (param 0 K) tt) (shr_ref_laws (at_lft κ) (param 0 K) tt) refl
-              (copy_shared (shr_ref_field (at_lft κ) (param 0 K) tt)
-              (shr_ref_copy (at_lft κ) (param 0 K) tt (param_laws 0 K LK).shr_laws)),
+          key_laws K LK κ,
           (
             of_field (mut_ref_field (at_lft κ) (param 1 V) tt) (mut_ref_laws (at_lft κ) (param 1 V) tt) refl
                 (mut_ref_shared (at_lft κ) (param 1 V) tt (row_shared (param 1 V) (param_laws 1 V LV))),

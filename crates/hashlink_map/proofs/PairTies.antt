@@ -5,10 +5,10 @@ use Rattle.hashlink_map.proofs.Names.{follows_then, Result, Ok, Err, IfOk, IfErr
 use Rattle.hashlink_map.proofs.Names.{slice_get, Bor, MutBor, RestsIfErr, follows, follows_if, follows_so}
 use Rattle.hashlink_map.proofs.Names.{name_if_ok, IsEquivalence, MapState, AddsEntry, Keyed, state_of, Node}
 use Rattle.hashlink_map.proofs.Names.{with_value_at, RawOccupiedEntryMut, raw_occupied_map}
-use Rattle.hashlink_map.proofs.Names.{raw_occupied_state, raw_place, LendsPairOf}
+use Rattle.hashlink_map.proofs.Names.{raw_occupied_state, raw_place, LendsPairOf, EqGhosts, HashGhosts}
+use Rattle.hashlink_map.proofs.Names.{HasherGhosts, BuilderGhosts}
 use Rattle.std.specs.Prelude.{Some, length}
 use Rattle.std.specs.Borrow.{Fml, ftrue, RattleType}
-use Rattle.hashlink_map.proofs.Names.{EqGhosts, HashGhosts, HasherGhosts, BuilderGhosts}
 use Rattle.hashlink_map.specs.contracts.as_node.NodeAsNode.TheImpl
 use Rattle.hashlink_map.specs.contracts.map.LinkedHashMap.{the_row}
 use Rattle.hashlink_map.proofs.AtNode.{adds-written, added-parts}

@@ -4,8 +4,8 @@ use Rattle.hashlink_map.proofs.Names.{qed, by, done, drop, use0, fact, fact_i, L
 use Rattle.hashlink_map.proofs.Names.{MutBor, IsEquivalence, IfOk, IfErr, OnErr, MatchOption, RawEntryState}
 use Rattle.hashlink_map.proofs.Names.{AddsEntry, RefusesEntry, Keyed, state_of, entries_of, PutsLast}
 use Rattle.hashlink_map.proofs.Names.{raw_occupied_map, raw_occupied_state, raw_pair, raw_place, StandsLast}
-use Rattle.std.specs.Prelude.{length}
 use Rattle.hashlink_map.proofs.Names.{EqGhosts, HashGhosts, HasherGhosts, BuilderGhosts}
+use Rattle.std.specs.Prelude.{length}
 use Rattle.hashlink_map.proofs.EnterAndLend.{Made_at, Lent_at, Entering}
 use Rattle.hashlink_map.proofs.LastMoved.{put_written, put_parts}
 use Rattle.hashlink_map.proofs.PairTies.{ok_carried, err_carried, on_err_carried, IsLent, IsHandedOn}

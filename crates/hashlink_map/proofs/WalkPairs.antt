@@ -9,11 +9,11 @@ use Rattle.hashlink_map.proofs.Names.{IterMut, lent_pair, walk_map, walk_state, 
 use Rattle.hashlink_map.proofs.Names.{LendsAtWalkNode, LendsPairThere, LendsPairFromWalk, LentFrom}
 use Rattle.hashlink_map.proofs.Names.{StaysThere, StepsAndWrites, TakesOff, WritingWalk, StandsIn}
 use Rattle.hashlink_map.proofs.Names.{StandsIn-prop, walk_with, walk_rest, last_place, after_front}
-use Rattle.hashlink_map.proofs.Names.{after_back, param, Laws, NamedLft, fres}
+use Rattle.hashlink_map.proofs.Names.{after_back, param, Laws, NamedLft, fres, EqGhosts, HashGhosts}
+use Rattle.hashlink_map.proofs.Names.{HasherGhosts, BuilderGhosts, NodeGhosts}
 use Rattle.std.proofs.Common.{drop}
 use Rattle.std.specs.Prelude.{Option, Some, None}
 use Rattle.std.specs.Borrow.{Fml}
-use Rattle.hashlink_map.proofs.Names.{EqGhosts, HashGhosts, HasherGhosts, BuilderGhosts, NodeGhosts}
 use Rattle.hashlink_map.specs.contracts.as_node.NodeAsNode.TheImpl
 use Rattle.hashlink_map.specs.contracts.iter_mut.IterMut as walk
 use Rattle.hashlink_map.proofs.Walking.{written-there, first-taken, last-taken}

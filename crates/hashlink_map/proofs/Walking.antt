@@ -6,9 +6,9 @@ use Rattle.hashlink_map.proofs.Names.{option_map, set_value_at, MapState, map_st
 use Rattle.hashlink_map.proofs.Names.{last_of, Keyed, entries_of, state_of, pair_with_value, with_value_at}
 use Rattle.hashlink_map.proofs.Names.{values-renewed_value, length-map, PlacesLeft, WritingWalk, writing_walk}
 use Rattle.hashlink_map.proofs.Names.{walk_with, walk_in, walk_rest, WritesSoFar, after_front, last_place}
-use Rattle.hashlink_map.proofs.Names.{after_back, StandsIn, following_place, preceding_place, Node, Holds, IsPlace}
-use Rattle.hashlink_map.proofs.Names.{IsPlaceAt, place_number, StandsBetween, before-suc, following-within}
-use Rattle.hashlink_map.proofs.Names.{place_number-renewed, within-holds, slice_get-drop}
+use Rattle.hashlink_map.proofs.Names.{after_back, StandsIn, following_place, preceding_place, Node, Holds}
+use Rattle.hashlink_map.proofs.Names.{IsPlace, IsPlaceAt, place_number, StandsBetween, before-suc}
+use Rattle.hashlink_map.proofs.Names.{following-within, place_number-renewed, within-holds, slice_get-drop}
 use Rattle.std.proofs.Common.{drop}
 use Rattle.hashlink_map.specs.WritingWalk.{TakesPlace}
 

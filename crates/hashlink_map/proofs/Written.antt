@@ -4,8 +4,8 @@ use Rattle.hashlink_map.proofs.Names.{props, map_state, with_value_in, set_value
 use Rattle.hashlink_map.proofs.Names.{entries_of, state_of, pair_with_value, Node, Holds, place_number}
 use Rattle.hashlink_map.proofs.Names.{with_value_at, values-renewed_value, place_number-renewed}
 use Rattle.hashlink_map.proofs.Names.{OccupiedEntry, RawOccupiedEntryMut, occupied_place, occupied_with}
-use Rattle.hashlink_map.proofs.Names.{IsWritten, raw_place, raw_with, RawIsWritten}
-use Rattle.hashlink_map.proofs.Names.{EqGhosts, HashGhosts, HasherGhosts, BuilderGhosts, NodeGhosts}
+use Rattle.hashlink_map.proofs.Names.{IsWritten, raw_place, raw_with, RawIsWritten, EqGhosts, HashGhosts}
+use Rattle.hashlink_map.proofs.Names.{HasherGhosts, BuilderGhosts, NodeGhosts}
 
 HoldsKey-prop : {K V : Type 0} (eq : K → K → Bool) (ns : List (Node × (K × V))) (k : K) (n : Node)
     → IsProp (HoldsKey eq ns k n)

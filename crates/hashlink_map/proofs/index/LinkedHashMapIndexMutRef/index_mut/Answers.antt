@@ -1,5 +1,5 @@
-use Rattle.hashlink_map.proofs.Names.{◌≡◌, None, refl, subst, sym, MatchOption, place_of, HoldsKey, entries_of}
-use Rattle.hashlink_map.proofs.Names.{HasKey, stored-value}
+use Rattle.hashlink_map.proofs.Names.{◌≡◌, None, refl, subst, sym, MatchOption, place_of, HoldsKey}
+use Rattle.hashlink_map.proofs.Names.{entries_of, HasKey, stored-value}
 use Rattle.hashlink_map.proofs.Indexing.{found_there, written_there}
 use Rattle.hashlink_map.proofs.index.LinkedHashMapIndexMutRef.index_mut.Goals as goal
 

@@ -1,5 +1,5 @@
-use Rattle.hashlink_map.proofs.Names.{◌≡◌, ◌-◌, ◌∙◌, length, Some, refl, sym, ap, length-values_of}
-use Rattle.hashlink_map.proofs.Names.{slice_get, set_value_at, entries_of, option_map, state_of, place_number}
+use Rattle.hashlink_map.proofs.Names.{◌≡◌, ◌-◌, ◌∙◌, length, Some, refl, sym, ap, length-values_of, slice_get}
+use Rattle.hashlink_map.proofs.Names.{set_value_at, entries_of, option_map, state_of, place_number}
 use Rattle.hashlink_map.proofs.Names.{values-renewed_value}
 use Rattle.hashlink_map.proofs.map.LinkedHashMap.back_value_mut.Goals as goal
 

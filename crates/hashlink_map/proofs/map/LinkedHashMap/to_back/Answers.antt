@@ -1,5 +1,5 @@
-use Rattle.hashlink_map.proofs.Names.{length, refl, sym, le_refl, entries_of, guard-number}
-use Rattle.hashlink_map.proofs.Names.{moved-found, lent-moved, moved-value, lookup-unplaced}
+use Rattle.hashlink_map.proofs.Names.{length, refl, sym, le_refl, entries_of, guard-number, moved-found}
+use Rattle.hashlink_map.proofs.Names.{lent-moved, moved-value, lookup-unplaced}
 use Rattle.hashlink_map.proofs.map.LinkedHashMap.to_back.Goals as goal
 
 pub value_mut-requires : goal.value_mut-requires

@@ -1,5 +1,5 @@
-use Rattle.hashlink_map.proofs.Names.{length, refl, sym, arith, following_place-guard}
-use Rattle.hashlink_map.proofs.Names.{moved-found, lent-moved, moved-value, lookup-unplaced}
+use Rattle.hashlink_map.proofs.Names.{length, refl, sym, arith, following_place-guard, moved-found}
+use Rattle.hashlink_map.proofs.Names.{lent-moved, moved-value, lookup-unplaced}
 use Rattle.hashlink_map.proofs.map.LinkedHashMap.to_front.Goals as goal
 
 pub value_mut-requires : goal.value_mut-requires
