@@ -12,7 +12,7 @@ use Rattle.hashlink_map.proofs.Names.{AllGo, Fit, has_of, walk_of, Good, proved_
 use Rattle.hashlink_map.proofs.Names.{Keyed, with_value_at, LendsPairOf, EqGhosts, HashGhosts, HasherGhosts}
 use Rattle.hashlink_map.proofs.Names.{BuilderGhosts}
 use Rattle.std.specs.declared.cmp.Eq as equal
-use Rattle.hashlink_map.proofs.PairSteps.{Asks, asks_again, apart_last, joins_last}
+use Rattle.hashlink_map.proofs.PairSteps.{Asks, asks_again, apart_last, joins_last, ended, clauses}
 use Rattle.hashlink_map.proofs.PairRows.{Answer, answer_laws, Entered, entered_laws}
 use Rattle.hashlink_map.proofs.PairTies.{Rests, Lends, carries, IsLent, IsHandedOn, IsPairAt}
 use Rattle.hashlink_map.specs.contracts.raw_entry.occupied.RawOccupiedEntryMut+K+V+S.pair_of as lends
@@ -202,33 +202,23 @@ module _ {M : Type 1} (𝓤 : Ura M) (𝓛 : Logic 𝓤) (𝓜 : Model 𝓤 𝓛
         (hs : Stays ss ks)
         (bounds : (κs : Lfts n) → AllOutlive n O κs
         → AllOutlive 5 (lends.signature K V S T e de p dp h dh b db w dw dd).outlives (l.five κs)) where
-      abbrev giving : (Lfts n → RattleType) → Ended
-      giving R = record {
-        signature = record { lifetimes = n; outlives = O; params = ss; result = plain R };
-        kept = ks;
-      }
-
       abbrev First : Ended
-      First = giving (λ κs. Made (l.five κs))
+      First = ended n O ss ks (λ κs. Made (l.five κs))
 
       abbrev pub Both : Ended
-      Both = giving (λ κs. Lent_out (l.five κs))
+      Both = ended n O ss ks (λ κs. Lent_out (l.five κs))
 
       module _ (s : (κs : Lfts n) → Args Both.signature κs → Enters (l.five κs))
           (Rest : (κs : Lfts n) → Args Both.signature κs → SProp 𝓤) where
         abbrev enters : Clauses 𝓤 First
-        enters κs a = record {
-          ghost = Unit {0};
-          requires = λ _. asks (l.five κs) (Rest κs a);
-          ensures = λ _ x end. sep 𝓤 (sem 𝓛 (rests (l.five κs) (s κs a) x)) ((s κs a).Says x);
-        }
+        enters =
+            clauses 𝓤 First (λ κs a. asks (l.five κs) (Rest κs a))
+            (λ κs a x. sep 𝓤 (sem 𝓛 (rests (l.five κs) (s κs a) x)) ((s κs a).Says x))
 
         abbrev enters_and_lends : Clauses 𝓤 Both
-        enters_and_lends κs a = record {
-          ghost = Unit {0};
-          requires = λ _. asks (l.five κs) (Rest κs a);
-          ensures = λ _ r end. sep 𝓤 (sem 𝓛 (lent (l.five κs) (s κs a) r)) ((s κs a).Tells r);
-        }
+        enters_and_lends =
+            clauses 𝓤 Both (λ κs a. asks (l.five κs) (Rest κs a))
+            (λ κs a r. sep 𝓤 (sem 𝓛 (lent (l.five κs) (s κs a) r)) ((s κs a).Tells r))
 
         pub entered_and_lent : (go : AllGo 𝓛 n ss ks hs) (ws : (κs : Lfts n) (a : Args Both.signature κs)
             → Lasts Both κs a) → ((κs : Lfts n) (a : Args Both.signature κs) → Fit Both hs κs a (ws κs a))

@@ -23,7 +23,7 @@ use Rattle.std.specs.contracts.option.Option as option
 use Rattle.hashlink_core.proofs.Node.TheLaws as node_laws
 use Rattle.hashlink_core.specs.contracts.Node.{the_row as node_row}
 use Rattle.hashlink_map.proofs.PairRows.{Lent}
-use Rattle.hashlink_map.proofs.PairSteps.{Asks}
+use Rattle.hashlink_map.proofs.PairSteps.{Asks, ended, clauses}
 use Rattle.hashlink_map.proofs.PairValues.{valued, some_had, none_had}
 use Rattle.hashlink_map.proofs.StepAndLend.{At_place, Borrower, Ref, Mid, Out, lending}
 
@@ -77,15 +77,9 @@ module _ (K V : RattleType) (LK : Laws K) (LV : Laws V) (Row : NamedLft → Ratt
 
   -- the call that lends at a node
   abbrev at_node : List (Outlives 6) → Ended
-  at_node O = record {
-    signature = record {
-      lifetimes = 6;
-      outlives = O;
-      params = mut_ref_to (0 ∷ []) tt (plain (Borrower K V LK LV Row)) ∷ plain (λ κs. node_row) ∷ [];
-      result = plain Pair_at;
-    };
-    kept = (no, (yes, tt));
-  }
+  at_node O =
+      ended 6 O (mut_ref_to (0 ∷ []) tt (plain (Borrower K V LK LV Row)) ∷ plain (λ κs. node_row) ∷ [])
+      (no, (yes, tt)) Pair_at
 
   -- what is ensured: at a node, and at a place
   pub record LendingAt {M : Type 1} {𝓤 : Ura M} (𝓛 : Logic 𝓤) : Type 1 where
@@ -118,18 +112,14 @@ module _ {M : Type 1} (𝓤 : Ura M) (𝓛 : Logic 𝓤) (𝓜 : Model 𝓤 𝓛
       (fact 𝓤 (s.Stands κs q))
 
   abbrev lends_at_node : (O : List (Outlives 6)) → Clauses 𝓤 (Node_lender O)
-  lends_at_node O κs a = record {
-    ghost = Unit {0};
-    requires = λ _. asks κs (a.0, Some a.1.0);
-    ensures = λ _ q end. sep 𝓤 (sem 𝓛 (s.NodeTies κs a.0 a.1.0 q)) (fact 𝓤 (s.NodePair κs a.0 a.1.0 q));
-  }
+  lends_at_node O =
+      clauses 𝓤 (Node_lender O) (λ κs a. asks κs (a.0, Some a.1.0))
+      (λ κs a q. sep 𝓤 (sem 𝓛 (s.NodeTies κs a.0 a.1.0 q)) (fact 𝓤 (s.NodePair κs a.0 a.1.0 q)))
 
   abbrev lends : (O : List (Outlives 6)) → Clauses 𝓤 (Lender O)
-  lends O κs a = record {
-    ghost = Unit {0};
-    requires = λ _. asks κs (a.0, a.1.0);
-    ensures = λ _ o end. sep 𝓤 (sem 𝓛 (s.Ties κs (a.0, a.1.0) o)) (fact 𝓤 (s.Pair κs (a.0, a.1.0) o));
-  }
+  lends O =
+      clauses 𝓤 (Lender O) (λ κs a. asks κs (a.0, a.1.0))
+      (λ κs a o. sep 𝓤 (sem 𝓛 (s.Ties κs (a.0, a.1.0) o)) (fact 𝓤 (s.Pair κs (a.0, a.1.0) o)))
 
   pub lends_at_place : (O : List (Outlives 6)) (n : Names)
       → Meets 𝓛 (Node_lender O).signature ((tables 𝓤 𝓛.H 𝓜 𝓡 𝓡.env).C n.pair_at_node)

@@ -19,7 +19,7 @@ use Rattle.hashlink_core.specs.contracts.Node.{the_row as node_row}
 use Rattle.hashlink_map.specs.contracts.as_node.NodeAsNode.TheImpl
 use Rattle.hashlink_map.specs.contracts.map.LinkedHashMap as map
 use Rattle.hashlink_map.specs.contracts.raw_entry.occupied.RawOccupiedEntryMut as entry
-use Rattle.hashlink_map.proofs.PairSteps.{word_had, node_made, Asks, adds_fact}
+use Rattle.hashlink_map.proofs.PairSteps.{word_had, node_made, Asks, adds_fact, ended, clauses}
 
 -- what no walk reads of the code
 pub record Names : Type 0 where
@@ -76,43 +76,23 @@ module _ {M : Type 1} (𝓤 : Ura M) (𝓛 : Logic 𝓤) (𝓜 : Model 𝓤 𝓛
     (Says : (κs : Lfts 5) → (Ref K V S T p h b w κs).Denot → Node → (R κs).Denot → SProp 𝓤) where
   -- the call at the node, and the function
   abbrev Lender : List (Outlives 5) → Ended
-  Lender O = record {
-    signature = record {
-      lifetimes = 5;
-      outlives = O;
-      params = mut_ref_to (0 ∷ []) tt (plain (λ κs. Map K V S T p h b w)) ∷ plain (λ κs. node_row) ∷ [];
-      result = plain R;
-    };
-    kept = (no, (yes, tt));
-  }
+  Lender O =
+      ended 5 O (mut_ref_to (0 ∷ []) tt (plain (λ κs. Map K V S T p h b w)) ∷ plain (λ κs. node_row) ∷ [])
+      (no, (yes, tt)) R
 
   abbrev Ending : List (Outlives 5) → Ended
-  Ending O = record {
-    signature = record {
-      lifetimes = 5;
-      outlives = O;
-      params = plain (Entry K V S T p h b w) ∷ [];
-      result = plain R;
-    };
-    kept = (no, tt);
-  }
+  Ending O = ended 5 O (plain (Entry K V S T p h b w) ∷ []) (no, tt) R
 
   abbrev asks : Lfts 5 → SProp 𝓤 → SProp 𝓤
   asks κs = Asks 𝓤 (κs.1.0 ⊑ K.lives) (κs.1.1.0 ⊑ V.lives) (κs.1.1.1.0 ⊑ S.lives) (κs.1.1.1.1.0 ⊑ T.lives)
 
   abbrev lends : (O : List (Outlives 5)) → Clauses 𝓤 (Lender O)
-  lends O κs a = record {
-    ghost = Unit {0};
-    requires = λ _. asks κs (fact 𝓤 (Holds a.0.now.nodes a.1.0));
-    ensures = λ _ q end. Says κs a.0 a.1.0 q;
-  }
+  lends O =
+      clauses 𝓤 (Lender O) (λ κs a. asks κs (fact 𝓤 (Holds a.0.now.nodes a.1.0)))
+      (λ κs a q. Says κs a.0 a.1.0 q)
 
   abbrev ends : (O : List (Outlives 5)) → Clauses 𝓤 (Ending O)
-  ends O κs a = record {
-    ghost = Unit {0};
-    requires = λ _. asks κs (emp 𝓤);
-    ensures = λ _ q end. Says κs a.0.map a.0.node q;
-  }
+  ends O = clauses 𝓤 (Ending O) (λ κs a. asks κs (emp 𝓤)) (λ κs a q. Says κs a.0.map a.0.node q)
 
   pub lends_for_good : (O : List (Outlives 5)) (n : Names)
       → Meets 𝓛 (Lender O).signature ((tables 𝓤 𝓛.H 𝓜 𝓡 𝓡.env).C n.lends) (closing 𝓛 (Lender O) (lends O))

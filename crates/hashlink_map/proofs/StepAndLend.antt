@@ -20,7 +20,7 @@ use Rattle.std.specs.contracts.option.Option as option
 use Rattle.hashlink_core.proofs.Node.TheLaws as node_laws
 use Rattle.hashlink_core.specs.contracts.Node.{the_row as node_row}
 use Rattle.hashlink_map.proofs.PairRows.{Lent, lent_laws}
-use Rattle.hashlink_map.proofs.PairSteps.{Asks, adds_fact, asks_again}
+use Rattle.hashlink_map.proofs.PairSteps.{Asks, adds_fact, asks_again, ended, clauses}
 use Rattle.hashlink_map.proofs.PairValues.{valued}
 
 abbrev pub At_place : RattleType
@@ -82,27 +82,13 @@ module _ (K V : RattleType) (LK : Laws K) (LV : Laws V) (Row : NamedLft → Ratt
 
   -- a step, the call that lends at a place, and the two in turn
   abbrev taking : List (Outlives 6) → Ended
-  taking O = record {
-    signature = record { lifetimes = 6; outlives = O; params = self ∷ []; result = plain Mid };
-    kept = (no, tt);
-  }
+  taking O = ended 6 O (self ∷ []) (no, tt) Mid
 
   abbrev pub lending : List (Outlives 6) → Ended
-  lending O = record {
-    signature = record {
-      lifetimes = 6;
-      outlives = O;
-      params = self ∷ plain (λ κs. At_place) ∷ [];
-      result = plain Out;
-    };
-    kept = (no, (yes, tt));
-  }
+  lending O = ended 6 O (self ∷ plain (λ κs. At_place) ∷ []) (no, (yes, tt)) Out
 
   abbrev giving : List (Outlives 6) → Ended
-  giving O = record {
-    signature = record { lifetimes = 6; outlives = O; params = self ∷ []; result = plain Out };
-    kept = (no, tt);
-  }
+  giving O = ended 6 O (self ∷ []) (no, tt) Out
 
   -- what is ensured: of a step, at a place, and by the two in turn
   pub record Lending {M : Type 1} {𝓤 : Ura M} (𝓛 : Logic 𝓤) : Type 1 where
@@ -135,25 +121,17 @@ module _ {M : Type 1} (𝓤 : Ura M) (𝓛 : Logic 𝓤) (𝓜 : Model 𝓤 𝓛
       Asks 𝓤 (κs.1.1.0 ⊑ K.lives) (κs.1.1.1.0 ⊑ V.lives) (κs.1.1.1.1.0 ⊑ S.lives) (κs.1.1.1.1.1.0 ⊑ T.lives)
 
   abbrev takes : (O : List (Outlives 6)) → Clauses 𝓤 (Taking O)
-  takes O κs a = record {
-    ghost = Unit {0};
-    requires = λ _. asks κs (emp 𝓤);
-    ensures = λ _ q end. fact 𝓤 (s.Takes κs a.0 q);
-  }
+  takes O = clauses 𝓤 (Taking O) (λ κs a. asks κs (emp 𝓤)) (λ κs a q. fact 𝓤 (s.Takes κs a.0 q))
 
   abbrev lends : (O : List (Outlives 6)) → Clauses 𝓤 (Lender O)
-  lends O κs a = record {
-    ghost = Unit {0};
-    requires = λ _. asks κs (fact 𝓤 (s.Stands κs (a.0, a.1.0)));
-    ensures = λ _ o end. sep 𝓤 (sem 𝓛 (s.Ties κs (a.0, a.1.0) o)) (fact 𝓤 (s.Pair κs (a.0, a.1.0) o));
-  }
+  lends O =
+      clauses 𝓤 (Lender O) (λ κs a. asks κs (fact 𝓤 (s.Stands κs (a.0, a.1.0))))
+      (λ κs a o. sep 𝓤 (sem 𝓛 (s.Ties κs (a.0, a.1.0) o)) (fact 𝓤 (s.Pair κs (a.0, a.1.0) o)))
 
   abbrev gives : (O : List (Outlives 6)) → Clauses 𝓤 (Giving O)
-  gives O κs a = record {
-    ghost = Unit {0};
-    requires = λ _. asks κs (emp 𝓤);
-    ensures = λ _ o end. sep 𝓤 (sem 𝓛 (s.Lends κs a.0 o)) (fact 𝓤 (s.Gives κs a.0 o));
-  }
+  gives O =
+      clauses 𝓤 (Giving O) (λ κs a. asks κs (emp 𝓤))
+      (λ κs a o. sep 𝓤 (sem 𝓛 (s.Lends κs a.0 o)) (fact 𝓤 (s.Gives κs a.0 o)))
 
   pub steps_and_lends : (O : List (Outlives 6)) (n : Names)
       → Meets 𝓛 (Taking O).signature ((tables 𝓤 𝓛.H 𝓜 𝓡 𝓡.env).C n.step) (closing 𝓛 (Taking O) (takes O))
