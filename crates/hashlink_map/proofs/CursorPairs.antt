@@ -1,21 +1,21 @@
 -- What a cursor is once a value was written through a key and a value that it lent, and what it lends at its
 -- place and at the places beside it. Assumes `Logic`.
 use Rattle.hashlink_map.proofs.Names.{◌≡◌, ℕ, [], ◌∷◌, refl, ap, ◌∙◌, sym, subst, Ura, ent, SProp, id⊢, named}
-use Rattle.hashlink_map.proofs.Names.{Logic, sem, ‵, ◌$◌, ◌∵◌, !, qed, fpack, done, follows_by, such_by}
-use Rattle.hashlink_map.proofs.Names.{RattleType, OnSome, slice_get, Bor, MutBor, follows_if, name_if_some}
-use Rattle.hashlink_map.proofs.Names.{Node, IsPlace, place_number, node_row, with_value_at, CursorMut}
-use Rattle.hashlink_map.proofs.Names.{cursor_map, cursor_node, cursor_state, CursorWritten, LentAt}
-use Rattle.hashlink_map.proofs.Names.{TakesPlace, lent_pair, cursor_with, LendsAtCursorNode}
-use Rattle.hashlink_map.proofs.Names.{LendsPairFromCursor, IsPlace-prop, param, Laws, NamedLft, CursorState}
-use Rattle.hashlink_map.proofs.Names.{fres, entries_of, at-guard, EqGhosts, HashGhosts, HasherGhosts}
-use Rattle.hashlink_map.proofs.Names.{BuilderGhosts, NodeGhosts}
+use Rattle.hashlink_map.proofs.Names.{Logic, sem, follows_by, such_by, RattleType, OnSome, slice_get, Bor}
+use Rattle.hashlink_map.proofs.Names.{MutBor, follows_if, Node, IsPlace, place_number, node_row}
+use Rattle.hashlink_map.proofs.Names.{with_value_at, CursorMut, cursor_node, lent_pair, IsPlace-prop, param}
+use Rattle.hashlink_map.proofs.Names.{Laws, NamedLft, CursorState, fres, entries_of, at-guard}
 use Rattle.std.specs.Prelude.{Option, Some, None}
-use Rattle.std.specs.Borrow.{Fml}
+use Rattle.std.specs.Borrow.{Fml, name_if_some}
 use Rattle.hashlink_map.specs.contracts.as_node.NodeAsNode.TheImpl
 use Rattle.hashlink_map.specs.contracts.cursor.CursorMut as cursor
 use Rattle.hashlink_map.proofs.Written.{cursor_written}
 use Rattle.hashlink_map.proofs.StepAndLend.{Lending}
 use Rattle.hashlink_map.proofs.LendAtPlace.{LendingAt}
+use types.Kit.{‵, ◌$◌, ◌∵◌, !, qed, fpack, done}
+use Rattle.hashlink_map.specs.Cursor.{cursor_map, cursor_state, CursorWritten, LentAt, TakesPlace}
+use Rattle.hashlink_map.specs.CursorLends.{cursor_with, LendsAtCursorNode, LendsPairFromCursor}
+use Rattle.hashlink_map.specs.Bounds.{EqGhosts, HashGhosts, HasherGhosts, BuilderGhosts, NodeGhosts}
 
 module _ {K V S T : Type 0} {g : EqGhosts K} {h : HashGhosts K} {b : BuilderGhosts S T}
     {w : HasherGhosts T}

@@ -1,21 +1,19 @@
 -- An entry is made, and then its pair is lent. The inserts of raw entries go so. Assumes `Logic`.
-use Rattle.hashlink_map.proofs.Names.{◌≡◌, ℕ, List, [], ◌∷◌, sym, subst, Ura, Fml, Lft, flft, SProp, ent, sep}
-use Rattle.hashlink_map.proofs.Names.{ex, emp, id⊢, via, emp∗, comm∗, fst∗, Fn, Callee, Dict, Val, Model}
-use Rattle.hashlink_map.proofs.Names.{WpFn, Closed, Logic, sem, Item, Goal, Seq, Soaks, ‵, raw, ◌⊛◌, some}
-use Rattle.hashlink_map.proofs.Names.{later, ◌$◌, ◌∵◌, !, qed, by, move, drop, split, join, fjoin, pick}
-use Rattle.hashlink_map.proofs.Names.{await, updating, now, use0, use1, use2, done, ◌⊑◌, Lfts, Shares}
-use Rattle.hashlink_map.proofs.Names.{Outlives, AllOutlive, toks, fact, fact_i, Running, tables, Is, Ises}
-use Rattle.hashlink_map.proofs.Names.{Are, shows, layout, param, Laws, RattleType, Valss, flat, Slot}
-use Rattle.hashlink_map.proofs.Names.{types_at, plain, nothing, peeks, heard, Ended, Clauses, closing, lasts}
-use Rattle.hashlink_map.proofs.Names.{Lasts, Kepts, Args, alive, on_entry, Meets, triple_of, framed, Stays}
-use Rattle.hashlink_map.proofs.Names.{AllGo, Fit, has_of, walk_of, Good, proved_at, leaves, Bor, MutBor, IfOk}
-use Rattle.hashlink_map.proofs.Names.{Keyed, with_value_at, LendsPairOf, EqGhosts, HashGhosts, HasherGhosts}
-use Rattle.hashlink_map.proofs.Names.{BuilderGhosts}
+use Rattle.hashlink_map.proofs.Names
+use Names.{◌≡◌, ℕ, List, [], ◌∷◌, sym, subst, Ura, Fml, Lft, flft, SProp, ent, sep, ex, emp, id⊢, via, emp∗}
+use Names.{comm∗, fst∗, Fn, Callee, Dict, Val, Model, WpFn, Closed, Logic, sem, ◌⊑◌, Lfts, Shares, Outlives}
+use Names.{AllOutlive, toks, fact, fact_i, Running, tables, Is, Ises, Are, shows, layout, param, Laws}
+use Names.{RattleType, Valss, flat, Slot, types_at, plain, nothing, peeks, heard, Ended, Clauses, closing}
+use Names.{lasts, Lasts, Kepts, Args, alive, on_entry, Meets, triple_of, framed, Stays, AllGo, Fit, has_of}
+use Names.{walk_of, Good, proved_at, leaves, Bor, MutBor, IfOk, Keyed, with_value_at, LendsPairOf}
 use Rattle.std.specs.declared.cmp.Eq as equal
 use Rattle.hashlink_map.proofs.PairSteps.{Asks, asks_again, apart_last, joins_last, ended, clauses}
 use Rattle.hashlink_map.proofs.PairRows.{Answer, answer_laws, Entered, entered_laws}
 use Rattle.hashlink_map.proofs.PairTies.{Rests, Lends, carries, IsLent, IsHandedOn, IsPairAt}
 use Rattle.hashlink_map.specs.contracts.raw_entry.occupied.RawOccupiedEntryMut+K+V+S.pair_of as lends
+use types.Kit.{Item, Goal, Seq, Soaks, ‵, raw, ◌⊛◌, some, later, ◌$◌, ◌∵◌, !, qed, by, move, drop, split}
+use types.Kit.{join, fjoin, pick, await, updating, now, use0, use1, use2, done}
+use Rattle.hashlink_map.specs.Bounds.{EqGhosts, HashGhosts, HasherGhosts, BuilderGhosts}
 
 -- a value of R is returned, and Q holds of it
 abbrev pub then_with : {M : Type 1} {𝓤 : Ura M} (𝓛 : Logic 𝓤) → RattleType → (Val → SProp 𝓤) → Val → SProp 𝓤

@@ -1,18 +1,17 @@
 -- An entry that stands last: it moved there, or its pair went in there.
-use Rattle.hashlink_map.proofs.Names.{◌≡◌, ℕ, ◌-◌, List, [], ◌∷◌, ◌++◌, Bool, None, Some, length, refl, sym}
-use Rattle.hashlink_map.proofs.Names.{ap, ap₂, subst, ◌∙◌, append-nil, slice_get, Result, Ok, Err, IfOk}
-use Rattle.hashlink_map.proofs.Names.{IfErr, OnErr, MatchOption, Bor, MutBor, IsEquivalence, IsEntries}
-use Rattle.hashlink_map.proofs.Names.{moved_at, place_of, MapState, MovesAt, AddsEntry, PutsEntry}
-use Rattle.hashlink_map.proofs.Names.{RefusesEntry, RawEntryState, moved_at-last, none_others}
-use Rattle.hashlink_map.proofs.Names.{IsEntries-middle, IsEntries-insert, split_at, place_of_its_key, Keyed}
-use Rattle.hashlink_map.proofs.Names.{state_of, entries_of, Node, Holds, place_number, at-node, node-at}
-use Rattle.hashlink_map.proofs.Names.{RawOccupiedEntryMut, raw_occupied_state, raw_occupied_map, raw_place}
-use Rattle.hashlink_map.proofs.Names.{raw_pair, PutsLast, StandsLast, with_value_at, EqGhosts, HashGhosts}
-use Rattle.hashlink_map.proofs.Names.{HasherGhosts, BuilderGhosts, NodeGhosts}
+use Rattle.hashlink_map.proofs.Names
+use Names.{◌≡◌, ℕ, ◌-◌, List, [], ◌∷◌, ◌++◌, Bool, None, Some, length, refl, sym, ap, ap₂, subst, ◌∙◌}
+use Names.{append-nil, slice_get, Result, Ok, Err, IfOk, IfErr, OnErr, MatchOption, Bor, MutBor}
+use Names.{IsEquivalence, IsEntries, moved_at, place_of, MapState, MovesAt, AddsEntry, PutsEntry}
+use Names.{RefusesEntry, RawEntryState, moved_at-last, split_at, place_of_its_key, Keyed, state_of}
+use Names.{entries_of, Node, Holds, place_number, at-node, node-at, RawOccupiedEntryMut, raw_occupied_state}
+use Names.{raw_occupied_map, raw_place, raw_pair, PutsLast, StandsLast, with_value_at}
 use Rattle.std.specs.Prelude.{Option}
 use Rattle.hashlink_map.specs.contracts.as_node.NodeAsNode.TheImpl
 use Rattle.hashlink_map.proofs.AtNode.{adds-written, added-parts, last-moved, moves-and-writes}
 use Rattle.hashlink_map.proofs.PairTies.{IsPairAt, OfEntry}
+use Rattle.hashlink_model.proofs.Distinct.{none_others, IsEntries-middle, IsEntries-insert}
+use Rattle.hashlink_map.specs.Bounds.{EqGhosts, HashGhosts, HasherGhosts, BuilderGhosts, NodeGhosts}
 
 module _ {K V : Type 0} (eq : K → K → Bool) (laws : IsEquivalence eq) where
   -- no two keys were equal, since none are where it stands now

@@ -1,28 +1,25 @@
 -- A raw entry is taken apart, and a call at its node lends for as long as its map is borrowed. Assumes `Logic`.
-use Rattle.hashlink_map.proofs.Names.{◌≡◌, ℕ, List, [], ◌∷◌, ◌++◌, refl, sym, subst, ◌∙◌, Ura, SProp, ent}
-use Rattle.hashlink_map.proofs.Names.{id⊢, via, emp, ftrue, fsep, Fn, Ty, Sym, Callee, Kind, named, erased}
-use Rattle.hashlink_map.proofs.Names.{mut, ty_ptr, ty_ref, ty_struct, tcons, tnil, local, value_local, place}
-use Rattle.hashlink_map.proofs.Names.{deref, field, seq, assign, call, return, addr_of, copy, rv_opd, Val}
-use Rattle.hashlink_map.proofs.Names.{of_list, vptr, vstruct, Model, WpFn, Closed, Logic, sem, ‵, raw, ◌⊛◌}
-use Rattle.hashlink_map.proofs.Names.{some, later, ◌$◌, ◌∵◌, !, qed, by, move, keep, drop, split, join}
-use Rattle.hashlink_map.proofs.Names.{fsplit, fjoin, fpick, feq_l, pick, await, rewrite, use0, use1, suffices}
-use Rattle.hashlink_map.proofs.Names.{done, whole, sub, stop, fld, of_opd, addr, and_then, no_more, returns}
-use Rattle.hashlink_map.proofs.Names.{enter, alloc_all, pass_all, free_all, look_at, get, get_in, through}
-use Rattle.hashlink_map.proofs.Names.{sets, lands_as, ◌⊑◌, fact, Lfts, Outlives, Running, tables, no, yes, Is}
-use Rattle.hashlink_map.proofs.Names.{shows, layout, param, RattleType, owns, MutRef, mut_vals, mut_Tells}
-use Rattle.hashlink_map.proofs.Names.{types_at, plain, mut_ref_to, named_lft, nothing, peeks, as_fields}
-use Rattle.hashlink_map.proofs.Names.{calls_at, Ended, Clauses, closing, lasts, Lasts, alive, Meets}
-use Rattle.hashlink_map.proofs.Names.{triple_of, framed, Stays, stay_dropped, walk_of, proved_at, leaves}
-use Rattle.hashlink_map.proofs.Names.{Good, word, word_ty, word-Good, Node, Holds, EqGhosts, HashGhosts}
-use Rattle.hashlink_map.proofs.Names.{HasherGhosts, BuilderGhosts}
+use Rattle.hashlink_map.proofs.Names
+use Names.{◌≡◌, ℕ, List, [], ◌∷◌, ◌++◌, refl, sym, subst, ◌∙◌, Ura, SProp, ent, id⊢, via, emp, ftrue, fsep}
+use Names.{Fn, Ty, Sym, Callee, Kind, named, erased, mut, ty_ptr, ty_ref, ty_struct, tcons, tnil, local}
+use Names.{value_local, place, deref, field, seq, assign, call, return, addr_of, copy, rv_opd, Val, of_list}
+use Names.{vptr, vstruct, Model, WpFn, Closed, Logic, sem, whole, sub, stop, fld, of_opd, addr, and_then}
+use Names.{no_more, returns, enter, alloc_all, pass_all, free_all, look_at, get, get_in, through, sets}
+use Names.{lands_as, ◌⊑◌, fact, Lfts, Outlives, Running, tables, no, yes, Is, shows, layout, param}
+use Names.{RattleType, owns, MutRef, mut_vals, mut_Tells, types_at, plain, mut_ref_to, named_lft, nothing}
+use Names.{peeks, as_fields, calls_at, Ended, Clauses, closing, lasts, Lasts, alive, Meets, triple_of, framed}
+use Names.{Stays, stay_dropped, walk_of, proved_at, leaves, Good, word, word_ty, word-Good, Node, Holds}
 use Rattle.hashlink_core.specs.contracts.Node.{the_row as node_row}
 use Rattle.hashlink_map.specs.contracts.as_node.NodeAsNode.TheImpl
 use Rattle.hashlink_map.specs.contracts.map.LinkedHashMap as map
 use Rattle.hashlink_map.specs.contracts.raw_entry.occupied.RawOccupiedEntryMut as entry
 use Rattle.hashlink_map.proofs.PairSteps.{word_had, node_made, Asks, adds_fact, ended, clauses}
+use types.Kit.{‵, raw, ◌⊛◌, some, later, ◌$◌, ◌∵◌, !, qed, by, move, keep, drop, split, join, fsplit, fjoin}
+use types.Kit.{fpick, feq_l, pick, await, rewrite, use0, use1, suffices, done}
+use Rattle.hashlink_map.specs.Bounds.{EqGhosts, HashGhosts, HasherGhosts, BuilderGhosts}
 
 -- what no walk reads of the code
-pub record Names : Type 0 where
+pub record Unread : Type 0 where
   pub lifetimes : ℕ
   pub outlives : List (ℕ × ℕ)
   pub ty_params : List Kind
@@ -35,7 +32,7 @@ pub record Names : Type 0 where
   pub lends : Callee
 
 -- `let RawOccupiedEntryMut { map, node } = self; map.lends(node)`
-abbrev pub taking_apart : Names → Ty → Fn
+abbrev pub taking_apart : Unread → Ty → Fn
 taking_apart n τ = record {
   lifetimes = n.lifetimes;
   outlives = n.outlives;
@@ -94,7 +91,7 @@ module _ {M : Type 1} (𝓤 : Ura M) (𝓛 : Logic 𝓤) (𝓜 : Model 𝓤 𝓛
   abbrev ends : (O : List (Outlives 5)) → Clauses 𝓤 (Ending O)
   ends O = clauses 𝓤 (Ending O) (λ κs a. asks κs (emp 𝓤)) (λ κs a q. Says κs a.0.map a.0.node q)
 
-  pub lends_for_good : (O : List (Outlives 5)) (n : Names)
+  pub lends_for_good : (O : List (Outlives 5)) (n : Unread)
       → Meets 𝓛 (Lender O).signature ((tables 𝓤 𝓛.H 𝓜 𝓡 𝓡.env).C n.lends) (closing 𝓛 (Lender O) (lends O))
       → Closed 𝓤 𝓛.H (tables 𝓤 𝓛.H 𝓜 𝓡 𝓡.env).C (tables 𝓤 𝓛.H 𝓜 𝓡 𝓡.env).Λ n.self (taking_apart n τ)
       → Meets 𝓛 (Ending O).signature ((tables 𝓤 𝓛.H 𝓜 𝓡 𝓡.env).C n.self) (closing 𝓛 (Ending O) (ends O))

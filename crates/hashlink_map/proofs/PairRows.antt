@@ -1,9 +1,7 @@
 -- The types that a raw entry's pair passes through, each with its laws.
 use Rattle.hashlink_map.proofs.Names.{[], ◌∷◌, refl, Lft, named, param, Laws, param_laws, of_field}
 use Rattle.hashlink_map.proofs.Names.{row_shared, copy_shared, mut_ref_shared, RattleType, NamedLft, MutRef}
-use Rattle.hashlink_map.proofs.Names.{ShrRef, shr_ref_field, mut_ref_field, shr_ref_laws, shr_ref_copy}
-use Rattle.hashlink_map.proofs.Names.{mut_ref_laws, Tuple, tuple_laws, EqGhosts, HashGhosts, HasherGhosts}
-use Rattle.hashlink_map.proofs.Names.{BuilderGhosts}
+use Rattle.hashlink_map.proofs.Names.{ShrRef, shr_ref_laws, shr_ref_copy, mut_ref_laws, Tuple, tuple_laws}
 use Rattle.std.specs.contracts.result.Result as result
 use Rattle.std.proofs.result.Result.TheLaws as result_laws
 use Rattle.hashlink_core.specs.contracts.Node as node
@@ -15,6 +13,8 @@ use Rattle.hashlink_map.specs.contracts.raw_entry.vacant.RawVacantEntryMut as va
 use Rattle.hashlink_map.proofs.raw_entry.RawEntryMut.TheLaws as place_laws
 use Rattle.hashlink_map.proofs.raw_entry.occupied.RawOccupiedEntryMut.TheLaws as entry_laws
 use Rattle.hashlink_map.proofs.raw_entry.vacant.RawVacantEntryMut.TheLaws as empty_laws
+use denote.Struct.Field.{shr_ref_field, mut_ref_field}
+use Rattle.hashlink_map.specs.Bounds.{EqGhosts, HashGhosts, HasherGhosts, BuilderGhosts}
 
 abbrev at_lft : Lft → NamedLft
 at_lft κ = record { mir = named 0; lft = κ }

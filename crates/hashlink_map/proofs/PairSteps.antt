@@ -2,11 +2,11 @@
 -- `Logic`.
 use denote.Triple.Entry.{Res}
 use Rattle.hashlink_map.proofs.Names.{◌≡◌, List, [], ◌∷◌, ◌++◌, refl, subst, Ura, Val, vstruct, of_list, Fml}
-use Rattle.hashlink_map.proofs.Names.{ftrue, SProp, ent, sep, emp, mono_r, fact, fact_i, Logic, sem, Item, ℕ}
-use Rattle.hashlink_map.proofs.Names.{Outlives, Slot, Kepts, Lfts, Ended, Clauses, Args, plain, Goal, Seq, ‵}
-use Rattle.hashlink_map.proofs.Names.{raw, ◌⊛◌, ◌$◌, ◌∵◌, !, qed, move, drop, split, join, use0, fsplit}
-use Rattle.hashlink_map.proofs.Names.{fpick, feq_l, done, RattleType, Ptr, RawPtr, ptr_val, makes_shadow}
-use Rattle.hashlink_map.proofs.Names.{nothing, heard, Shape, Struct, word}
+use Rattle.hashlink_map.proofs.Names.{ftrue, SProp, ent, sep, emp, mono_r, fact, fact_i, Logic, sem, ℕ}
+use Rattle.hashlink_map.proofs.Names.{Outlives, Slot, Kepts, Lfts, Ended, Clauses, Args, plain, RattleType}
+use Rattle.hashlink_map.proofs.Names.{Ptr, RawPtr, ptr_val, makes_shadow, nothing, heard, Shape, Struct, word}
+use types.Kit.{Item, Goal, Seq, ‵, raw, ◌⊛◌, ◌$◌, ◌∵◌, !, qed, move, drop, split, join, use0, fsplit, fpick}
+use types.Kit.{feq_l, done}
 
 abbrev one_field : Shape
 one_field = record { name = []; args = []; types = []; fields = RawPtr ∷ [] }

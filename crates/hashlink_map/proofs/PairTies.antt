@@ -1,17 +1,16 @@
 -- What the map ends as, from the entry that it went into and the pair that the entry lent. Assumes `Logic`.
-use Rattle.hashlink_map.proofs.Names.{◌≡◌, [], ◌∷◌, sym, subst, Ura, ent, sep, Logic, sem, ‵, ◌$◌, ◌∵◌, ! }
-use Rattle.hashlink_map.proofs.Names.{qed, drop, move, use2, fpick, fpack, done, follows_by, such_by}
-use Rattle.hashlink_map.proofs.Names.{follows_then, Result, Ok, Err, IfOk, IfErr, OnErr, MatchResult}
-use Rattle.hashlink_map.proofs.Names.{slice_get, Bor, MutBor, RestsIfErr, follows, follows_if, follows_so}
-use Rattle.hashlink_map.proofs.Names.{name_if_ok, IsEquivalence, MapState, AddsEntry, Keyed, state_of, Node}
-use Rattle.hashlink_map.proofs.Names.{with_value_at, RawOccupiedEntryMut, raw_occupied_map}
-use Rattle.hashlink_map.proofs.Names.{raw_occupied_state, raw_place, LendsPairOf, EqGhosts, HashGhosts}
-use Rattle.hashlink_map.proofs.Names.{HasherGhosts, BuilderGhosts}
+use Rattle.hashlink_map.proofs.Names.{◌≡◌, [], ◌∷◌, sym, subst, Ura, ent, sep, Logic, sem, follows_by}
+use Rattle.hashlink_map.proofs.Names.{such_by, follows_then, Result, Ok, Err, IfOk, IfErr, OnErr, MatchResult}
+use Rattle.hashlink_map.proofs.Names.{slice_get, Bor, MutBor, follows_if, IsEquivalence, MapState, AddsEntry}
+use Rattle.hashlink_map.proofs.Names.{Keyed, state_of, Node, with_value_at, RawOccupiedEntryMut}
+use Rattle.hashlink_map.proofs.Names.{raw_occupied_map, raw_occupied_state, raw_place, LendsPairOf}
 use Rattle.std.specs.Prelude.{Some, length}
-use Rattle.std.specs.Borrow.{Fml, ftrue, RattleType}
+use Rattle.std.specs.Borrow.{Fml, ftrue, RattleType, RestsIfErr, follows, follows_so, name_if_ok}
 use Rattle.hashlink_map.specs.contracts.as_node.NodeAsNode.TheImpl
 use Rattle.hashlink_map.specs.contracts.map.LinkedHashMap.{the_row}
 use Rattle.hashlink_map.proofs.AtNode.{adds-written, added-parts}
+use types.Kit.{‵, ◌$◌, ◌∵◌, !, qed, drop, move, use2, fpick, fpack, done}
+use Rattle.hashlink_map.specs.Bounds.{EqGhosts, HashGhosts, HasherGhosts, BuilderGhosts}
 
 module _ {K V S T : Type 0} {g : EqGhosts K} {h : HashGhosts K} {b : BuilderGhosts S T}
     {w : HasherGhosts T} where

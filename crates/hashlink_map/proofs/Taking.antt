@@ -2,9 +2,9 @@
 use Rattle.hashlink_map.proofs.Names.{◌≡◌, arith, List, [], Option, None, Some, refl, ap, sym, subst, ◌∙◌}
 use Rattle.hashlink_map.proofs.Names.{TakesFirst, TakesLast, GivesInOrder, GivesInReverse, MatchOption, as_is}
 use Rattle.hashlink_map.proofs.Names.{as_is_back, in-order, in-reverse, MapState, Removes, PopsFront}
-use Rattle.hashlink_map.proofs.Names.{PopsBack, KeepsOnly, after_first_of, before_last_of, keeps_twice}
-use Rattle.hashlink_map.proofs.Names.{removes_keeps, takes_first, takes_last}
-use Rattle.hashlink_model.specs.Steps.{Drains}
+use Rattle.hashlink_map.proofs.Names.{PopsBack, after_first_of, before_last_of, takes_first, takes_last}
+use Rattle.hashlink_model.specs.Steps.{Drains, KeepsOnly}
+use Rattle.hashlink_model.proofs.NodeCounts.{keeps_twice, removes_keeps}
 
 module _ {K V S : Type 0} (old new : MapState K V S) where
   pub pop-takes_first : (r : Option (K × V)) → PopsFront old new r

@@ -1,24 +1,25 @@
 -- What a walk is once a value was written through a key and a value that it lent, and what it lends where it
 -- takes a place off. Assumes `Logic`.
 use Rattle.hashlink_map.proofs.Names.{◌≡◌, ℕ, [], ◌∷◌, take, refl, sym, ap, ap₂, subst, ◌∙◌, List, Ura, ent}
-use Rattle.hashlink_map.proofs.Names.{named, Logic, sem, ‵, ◌$◌, ◌∵◌, !, qed, fpick, fpack, rewrite, done}
-use Rattle.hashlink_map.proofs.Names.{follows_by, such_by, RattleType, OnSome, IfNone, slice_get, option_map}
-use Rattle.hashlink_map.proofs.Names.{GName, Bor, MutBor, follows_if, name_if_some, Node, Holds, IsPlace}
+use Rattle.hashlink_map.proofs.Names.{named, Logic, sem, follows_by, such_by, RattleType, OnSome, IfNone}
+use Rattle.hashlink_map.proofs.Names.{slice_get, option_map, Bor, MutBor, follows_if, Node, Holds, IsPlace}
 use Rattle.hashlink_map.proofs.Names.{place_number, entries_of, first_of, last_of, node_row, with_value_at}
-use Rattle.hashlink_map.proofs.Names.{IterMut, lent_pair, walk_map, walk_state, walk_with_value}
-use Rattle.hashlink_map.proofs.Names.{LendsAtWalkNode, LendsPairThere, LendsPairFromWalk, LentFrom}
-use Rattle.hashlink_map.proofs.Names.{StaysThere, StepsAndWrites, TakesOff, WritingWalk, StandsIn}
-use Rattle.hashlink_map.proofs.Names.{StandsIn-prop, walk_with, walk_rest, last_place, after_front}
-use Rattle.hashlink_map.proofs.Names.{after_back, param, Laws, NamedLft, fres, EqGhosts, HashGhosts}
-use Rattle.hashlink_map.proofs.Names.{HasherGhosts, BuilderGhosts, NodeGhosts}
+use Rattle.hashlink_map.proofs.Names.{IterMut, lent_pair, WritingWalk, StandsIn, walk_with, walk_rest}
+use Rattle.hashlink_map.proofs.Names.{last_place, after_front, after_back, param, Laws, NamedLft, fres}
 use Rattle.std.proofs.Common.{drop}
 use Rattle.std.specs.Prelude.{Option, Some, None}
-use Rattle.std.specs.Borrow.{Fml}
+use Rattle.std.specs.Borrow.{Fml, GName, name_if_some}
 use Rattle.hashlink_map.specs.contracts.as_node.NodeAsNode.TheImpl
 use Rattle.hashlink_map.specs.contracts.iter_mut.IterMut as walk
 use Rattle.hashlink_map.proofs.Walking.{written-there, first-taken, last-taken}
 use Rattle.hashlink_map.proofs.StepAndLend.{Lending}
 use Rattle.hashlink_map.proofs.LendAtPlace.{LendingAt}
+use types.Kit.{‵, ◌$◌, ◌∵◌, !, qed, fpick, fpack, rewrite, done}
+use Rattle.hashlink_map.specs.IterMut.{walk_map, walk_state}
+use Rattle.hashlink_map.specs.IterMutLends.{walk_with_value, LendsAtWalkNode, LendsPairThere}
+use Rattle.hashlink_map.specs.IterMutLends.{LendsPairFromWalk, LentFrom, StaysThere, StepsAndWrites, TakesOff}
+use Rattle.hashlink_map.specs.WritingWalk.{StandsIn-prop}
+use Rattle.hashlink_map.specs.Bounds.{EqGhosts, HashGhosts, HasherGhosts, BuilderGhosts, NodeGhosts}
 
 module _ {K V S T : Type 0} {g : EqGhosts K} {h : HashGhosts K} {b : BuilderGhosts S T}
     {w : HasherGhosts T}

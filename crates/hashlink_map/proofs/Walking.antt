@@ -1,15 +1,13 @@
 -- Where a walk that lends values stands, by its places.
-use Rattle.hashlink_map.proofs.Names.{◌≡◌, ◌≢◌, ℕ, zero, suc, ◌+◌, ◌-◌, ◌<◌, ◌≤◌, List, [], ◌∷◌, length, ◌++◌}
-use Rattle.hashlink_map.proofs.Names.{map, take, Option, None, Some, refl, ap, ap₂, sym, subst, add-one}
-use Rattle.hashlink_map.proofs.Names.{length-drop, length-take-le, ◌∙◌, arith, slice_get, OnSome, IfNone}
-use Rattle.hashlink_map.proofs.Names.{option_map, set_value_at, MapState, map_state, with_value, first_of}
-use Rattle.hashlink_map.proofs.Names.{last_of, Keyed, entries_of, state_of, pair_with_value, with_value_at}
-use Rattle.hashlink_map.proofs.Names.{values-renewed_value, length-map, PlacesLeft, WritingWalk, writing_walk}
-use Rattle.hashlink_map.proofs.Names.{walk_with, walk_in, walk_rest, WritesSoFar, after_front, last_place}
-use Rattle.hashlink_map.proofs.Names.{after_back, StandsIn, following_place, preceding_place, Node, Holds}
-use Rattle.hashlink_map.proofs.Names.{IsPlace, IsPlaceAt, place_number, StandsBetween, before-suc}
-use Rattle.hashlink_map.proofs.Names.{following-within, place_number-renewed, within-holds, slice_get-drop}
-use Rattle.std.proofs.Common.{drop}
+use Rattle.hashlink_map.proofs.Names
+use Names.{◌≡◌, ◌≢◌, ℕ, zero, suc, ◌+◌, ◌-◌, ◌<◌, ◌≤◌, List, [], ◌∷◌, length, ◌++◌, map, take, Option, None}
+use Names.{Some, refl, ap, ap₂, sym, subst, length-take-le, ◌∙◌, arith, slice_get, OnSome, IfNone, option_map}
+use Names.{set_value_at, MapState, map_state, with_value, first_of, last_of, Keyed, entries_of, state_of}
+use Names.{pair_with_value, with_value_at, values-renewed_value, length-map, PlacesLeft, WritingWalk}
+use Names.{writing_walk, walk_with, walk_in, walk_rest, WritesSoFar, after_front, last_place, after_back}
+use Names.{StandsIn, following_place, preceding_place, Node, Holds, IsPlace, IsPlaceAt, place_number}
+use Names.{StandsBetween, before-suc, following-within, place_number-renewed, within-holds, slice_get-drop}
+use Rattle.std.proofs.Common.{drop, add-one, length-drop}
 use Rattle.hashlink_map.specs.WritingWalk.{TakesPlace}
 
 -- a place, and what stands for one

@@ -1,11 +1,10 @@
 -- What an entry is once its value was written.
-use Rattle.hashlink_map.proofs.Names.{◌≡◌, ◌∙◌, ℕ, Bool, List, Option, None, Some, refl, ap, ap₂, option_map}
-use Rattle.hashlink_map.proofs.Names.{props, map_state, with_value_in, set_value_at, Keyed, HoldsKey}
-use Rattle.hashlink_map.proofs.Names.{entries_of, state_of, pair_with_value, Node, Holds, place_number}
-use Rattle.hashlink_map.proofs.Names.{with_value_at, values-renewed_value, place_number-renewed}
-use Rattle.hashlink_map.proofs.Names.{OccupiedEntry, RawOccupiedEntryMut, occupied_place, occupied_with}
-use Rattle.hashlink_map.proofs.Names.{IsWritten, raw_place, raw_with, RawIsWritten, EqGhosts, HashGhosts}
-use Rattle.hashlink_map.proofs.Names.{HasherGhosts, BuilderGhosts, NodeGhosts}
+use Rattle.hashlink_map.proofs.Names
+use Names.{◌≡◌, ◌∙◌, ℕ, Bool, List, Option, None, Some, refl, ap, ap₂, option_map, props, map_state}
+use Names.{with_value_in, set_value_at, Keyed, HoldsKey, entries_of, state_of, pair_with_value, Node, Holds}
+use Names.{place_number, with_value_at, values-renewed_value, place_number-renewed, OccupiedEntry}
+use Names.{RawOccupiedEntryMut, occupied_place, occupied_with, IsWritten, raw_place, raw_with, RawIsWritten}
+use Rattle.hashlink_map.specs.Bounds.{EqGhosts, HashGhosts, HasherGhosts, BuilderGhosts, NodeGhosts}
 
 HoldsKey-prop : {K V : Type 0} (eq : K → K → Bool) (ns : List (Node × (K × V))) (k : K) (n : Node)
     → IsProp (HoldsKey eq ns k n)

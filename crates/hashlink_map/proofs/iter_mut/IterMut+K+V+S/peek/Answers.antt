@@ -1,7 +1,7 @@
 use Rattle.hashlink_map.proofs.Names.{◌≡◌, ap, arith, sym, ◌∙◌, slice_get, entries_of, place_number}
-use Rattle.hashlink_map.proofs.Names.{walk_state}
 use Rattle.hashlink_map.proofs.Walking.{first-of_part, first-placed, same-place}
 use Rattle.hashlink_map.proofs.iter_mut.IterMut+K+V+S.peek.Goals as goal
+use Rattle.hashlink_map.specs.IterMut.{walk_state}
 
 pub pair_at_place-requires : goal.pair_at_place-requires
 pair_at_place-requires g c =

@@ -1,5 +1,5 @@
-use Rattle.hashlink_map.proofs.Names.{shrinks}
 use Rattle.hashlink_map.proofs.map.LinkedHashMap.shrink_to_fit.Goals as goal
+use Rattle.hashlink_core.proofs.AtKeyNode.{shrinks}
 
 pub returns : goal.returns
 returns g c =
