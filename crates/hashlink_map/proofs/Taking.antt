@@ -1,10 +1,9 @@
 -- What a step that takes an entry out of a map gives and leaves, as a step of a walk.
-use Rattle.hashlink_map.proofs.Names.{◌≡◌, arith, List, [], Option, None, Some, refl, ap, sym, subst, ◌∙◌}
-use Rattle.hashlink_map.proofs.Names.{TakesFirst, TakesLast, GivesInOrder, GivesInReverse, MatchOption, as_is}
-use Rattle.hashlink_map.proofs.Names.{as_is_back, in-order, in-reverse, MapState, Removes, PopsFront}
+use Rattle.hashlink_map.proofs.Names.{Option, None, Some, ap, sym, subst, ◌∙◌}
+use Rattle.hashlink_map.proofs.Names.{TakesFirst, TakesLast, GivesInOrder, GivesInReverse, as_is}
+use Rattle.hashlink_map.proofs.Names.{as_is_back, in-order, in-reverse, MapState, PopsFront}
 use Rattle.hashlink_map.proofs.Names.{PopsBack, after_first_of, before_last_of, takes_first, takes_last}
-use Rattle.hashlink_model.specs.Steps.{Drains, KeepsOnly}
-use Rattle.hashlink_model.proofs.NodeCounts.{keeps_twice, removes_keeps}
+use Rattle.hashlink_model.specs.Steps.{KeepsOnly}
 
 module _ {K V S : Type 0} (old new : MapState K V S) where
   pub pop-takes_first : (r : Option (K × V)) → PopsFront old new r

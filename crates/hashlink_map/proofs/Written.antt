@@ -1,6 +1,6 @@
 -- What an entry is once its value was written.
 use Rattle.hashlink_map.proofs.Names
-use Names.{◌≡◌, ◌∙◌, ℕ, Bool, List, Option, None, Some, refl, ap, ap₂, option_map, props, map_state}
+use Names.{◌≡◌, ◌∙◌, ℕ, Bool, List, Option, Some, ap, ap₂, props, map_state}
 use Names.{with_value_in, set_value_at, Keyed, HoldsKey, entries_of, state_of, pair_with_value, Node, Holds}
 use Names.{place_number, with_value_at, values-renewed_value, place_number-renewed, OccupiedEntry}
 use Names.{RawOccupiedEntryMut, occupied_place, occupied_with, IsWritten, raw_place, raw_with, RawIsWritten}
