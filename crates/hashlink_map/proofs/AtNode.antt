@@ -1,20 +1,18 @@
 -- Where a node stands after a step at it, and steps in a row.
-use Rattle.hashlink_map.proofs.Names.{[], ◌∷◌, ap₂, ◌++◌, length-append, ◌≡◌, ℕ, ◌+◌, ◌-◌, ◌≤◌, Bool, true}
-use Rattle.hashlink_map.proofs.Names.{List, length, None, Some, refl, sym, ap, subst, ◌∙◌, arith, slice_get}
-use Rattle.hashlink_map.proofs.Names.{insert, remove, unwrap_or, Result, Ok, Err, IfOk, IfErr, OnErr}
-use Rattle.hashlink_map.proofs.Names.{MatchOption, MatchResult, option_map, IsEquivalence, lookup}
-use Rattle.hashlink_map.proofs.Names.{slice_get-map, length-values_of, place_of, place_left, moved_at, put}
-use Rattle.hashlink_map.proofs.Names.{stored_key, set_value_at, MapState, AddsEntry, PutsEntry, RefusesEntry}
-use Rattle.hashlink_map.proofs.Names.{MovesAt, RoomFor, with_value, key_at, value_at, VacantInserts, split_at}
-use Rattle.hashlink_map.proofs.Names.{slice_get_here, set_value_at-here, moved_at-last, moved_at-put}
-use Rattle.hashlink_map.proofs.Names.{lookup_key_is, put-absent, none_from_lookup, stands_from_place}
-use Rattle.hashlink_map.proofs.Names.{lookup_entry-none, Keyed, entries_of, state_of, HoldsKey, EqualsKeyAt}
-use Rattle.hashlink_map.proofs.Names.{IsKeyed, Node, Holds, place_number, renewed_at, with_value_at, AddsNode}
-use Rattle.hashlink_map.proofs.Names.{GrowsRoom, length-inserted, length-removed, slice_get-inserted}
-use Rattle.hashlink_map.proofs.Names.{moved_at-is, place_left-before, place_left-past, passes-at, number-at}
-use Rattle.hashlink_map.proofs.Names.{holds-at, holds_key-at, equals-stored, values-renewed_value, IsNodeAt}
-use Rattle.hashlink_map.proofs.Names.{node-at, renewed_at-is, StaysHeld, added, refused, lookup-place}
-use Rattle.hashlink_map.proofs.Names.{lookup_entry-place, none_passes_from_place, some_from_part}
+use Rattle.hashlink_map.proofs.Names
+use Names.{[], ◌∷◌, ap₂, ◌++◌, length-append, ◌≡◌, ℕ, ◌+◌, ◌-◌, ◌≤◌, Bool, true, List, length, None, Some}
+use Names.{refl, sym, ap, subst, ◌∙◌, arith, slice_get, insert, remove, unwrap_or, Result, Ok, Err, IfOk}
+use Names.{IfErr, OnErr, MatchOption, MatchResult, option_map, IsEquivalence, lookup, slice_get-map}
+use Names.{length-values_of, place_of, place_left, moved_at, put, stored_key, set_value_at, MapState}
+use Names.{AddsEntry, PutsEntry, RefusesEntry, MovesAt, RoomFor, with_value, key_at, value_at, VacantInserts}
+use Names.{split_at, slice_get_here, set_value_at-here, moved_at-last, moved_at-put, lookup_key_is}
+use Names.{put-absent, Keyed, entries_of, state_of, HoldsKey, EqualsKeyAt, IsKeyed, Node, Holds, place_number}
+use Names.{renewed_at, with_value_at, AddsNode, GrowsRoom, number-at, holds-at, holds_key-at, equals-stored}
+use Names.{values-renewed_value, IsNodeAt, node-at, renewed_at-is, StaysHeld, added, refused, lookup-place}
+use Names.{lookup_entry-place, none_passes_from_place, some_from_part}
+use Rattle.hashlink_model.proofs.Splits.{none_from_lookup, stands_from_place, lookup_entry-none}
+use Rattle.hashlink_core.proofs.Edits.{length-inserted, length-removed, slice_get-inserted, moved_at-is}
+use Rattle.hashlink_core.proofs.Edits.{place_left-before, place_left-past, passes-at}
 
 module _ {K V S : Type 0} {eq : K → K → Bool} (laws : IsEquivalence eq) where
   -- ---- a step at a node that is held

@@ -1,7 +1,7 @@
 -- What an iterator of copies gave and read, said of the items that it copied.
 use Rattle.hashlink_map.proofs.Names.{◌≡◌, List, [], ◌∷◌, map, Option, None, Some, refl, ap, ap₂, sym, subst}
-use Rattle.hashlink_map.proofs.Names.{Called, Mut, Yields, map_source, map_callee, map_steps, Map, GivesAll}
-use Rattle.hashlink_map.proofs.Names.{GivesSome, ReadsAll, ReadsSome}
+use Rattle.hashlink_map.proofs.Names.{Called, Mut, Yields, Map, GivesAll, GivesSome, ReadsAll, ReadsSome}
+use Rattle.std.specs.Iterator.Adapters.{map_source, map_callee, map_steps}
 
 module _ {It Raw Item Given : Type 0} (nexts : It → Option Raw → It → Type 0) (f : Raw → Item)
     (becomes : Given → It → Type 0)

@@ -1,29 +1,25 @@
 -- What a cursor is once a value was written through a key and a value that it lent, and what it lends at its
 -- place and at the places beside it. Assumes `Logic`.
 use Rattle.hashlink_map.proofs.Names.{◌≡◌, ℕ, [], ◌∷◌, refl, ap, ◌∙◌, sym, subst, Ura, ent, SProp, id⊢, named}
-use Rattle.hashlink_map.proofs.Names.{Logic, sem, ‵, ◌$◌, ◌∵◌, !, qed, fpack, done, follows_by, such_by}
-use Rattle.hashlink_map.proofs.Names.{RattleType, OnSome, slice_get, Bor, MutBor, follows_if, name_if_some}
-use Rattle.hashlink_map.proofs.Names.{Node, IsPlace, place_number, node_row, with_value_at, CursorMut}
-use Rattle.hashlink_map.proofs.Names.{cursor_map, cursor_node, cursor_state, CursorWritten, LentAt}
-use Rattle.hashlink_map.proofs.Names.{TakesPlace, lent_pair, cursor_with, LendsAtCursorNode}
-use Rattle.hashlink_map.proofs.Names.{LendsPairFromCursor, IsPlace-prop, param, Laws, NamedLft, CursorState}
-use Rattle.hashlink_map.proofs.Names.{fres, entries_of, at-guard}
+use Rattle.hashlink_map.proofs.Names.{Logic, sem, follows_by, such_by, RattleType, OnSome, slice_get, Bor}
+use Rattle.hashlink_map.proofs.Names.{MutBor, follows_if, Node, IsPlace, place_number, node_row}
+use Rattle.hashlink_map.proofs.Names.{with_value_at, CursorMut, cursor_node, lent_pair, IsPlace-prop, param}
+use Rattle.hashlink_map.proofs.Names.{Laws, NamedLft, CursorState, fres, entries_of, at-guard}
 use Rattle.std.specs.Prelude.{Option, Some, None}
-use Rattle.std.specs.Borrow.{Fml}
-use Rattle.std.specs.declared.cmp.PartialEq as eq
-use Rattle.std.specs.declared.hash.Hash as hash
-use Rattle.std.specs.declared.hash.Hasher as hasher
-use Rattle.std.specs.declared.hash.BuildHasher as builder
+use Rattle.std.specs.Borrow.{Fml, name_if_some}
 use Rattle.hashlink_map.specs.contracts.as_node.NodeAsNode.TheImpl
 use Rattle.hashlink_map.specs.contracts.cursor.CursorMut as cursor
-use Rattle.hashlink_map.specs.declared.as_node.AsNode as as_node
 use Rattle.hashlink_map.proofs.Written.{cursor_written}
 use Rattle.hashlink_map.proofs.StepAndLend.{Lending}
 use Rattle.hashlink_map.proofs.LendAtPlace.{LendingAt}
+use types.Kit.{‵, ◌$◌, ◌∵◌, !, qed, fpack, done}
+use Rattle.hashlink_map.specs.Cursor.{cursor_map, cursor_state, CursorWritten, LentAt, TakesPlace}
+use Rattle.hashlink_map.specs.CursorLends.{cursor_with, LendsAtCursorNode, LendsPairFromCursor}
+use Rattle.hashlink_map.specs.Bounds.{EqGhosts, HashGhosts, HasherGhosts, BuilderGhosts, NodeGhosts}
 
-module _ {K V S T : Type 0} {g : eq.Ghosts K} {h : hash.Ghosts K} {b : builder.Ghosts S T}
-    {w : hasher.Ghosts T}
-    {N : Type 0} {n : as_node.Ghosts N} (c : CursorMut K V S N T g h b w n) (at : Node) (v : V) where
+module _ {K V S T : Type 0} {g : EqGhosts K} {h : HashGhosts K} {b : BuilderGhosts S T}
+    {w : HasherGhosts T}
+    {N : Type 0} {n : NodeGhosts N} (c : CursorMut K V S N T g h b w n) (at : Node) (v : V) where
   -- whatever shows that its place is still of the list
   pub cursor_with-is : (p : IsPlace (with_value_at c.map.now at v).nodes (cursor_node c))
       → record { map = record c.map { now = with_value_at c.map.now at v }; place = c.place; within = p }
@@ -33,9 +29,9 @@ module _ {K V S T : Type 0} {g : eq.Ghosts K} {h : hash.Ghosts K} {b : builder.G
       (IsPlace-prop (with_value_at c.map.now at v).nodes (cursor_node c) p (cursor_with c at v).within)
 
 -- the pair of a node is the pair of its place, and at the guard the cursor stays as it was
-module _ (K V S T : RattleType) {g : eq.Ghosts K.Denot} {h : hash.Ghosts K.Denot}
-    {b : builder.Ghosts S.Denot T.Denot}
-    {w : hasher.Ghosts T.Denot}
+module _ (K V S T : RattleType) {g : EqGhosts K.Denot} {h : HashGhosts K.Denot}
+    {b : BuilderGhosts S.Denot T.Denot}
+    {w : HasherGhosts T.Denot}
     (c : MutBor (CursorMut K.Denot V.Denot S.Denot Node T.Denot g h b w TheImpl.ghosts)) where
   abbrev Row : RattleType
   Row = cursor.the_row (record { mir = named 1; lft = [] }) K V S node_row T g h b w TheImpl.ghosts
@@ -72,8 +68,8 @@ module _ (K V S T : RattleType) {g : eq.Ghosts K.Denot} {h : hash.Ghosts K.Denot
         qed 𝓛 (‵ (fres c.ghost_name (Row.coded.code c.now)) ∷ []) ∵ fpack ! (Chosen i None) (Follows i None)
         (((λ u. c.now), c.now), (λ u. tt), (refl, refl, refl)) $ done !
 
-module _ (K V S T : RattleType) (LK : Laws K) (LV : Laws V) (p : eq.Ghosts K.Denot) (h : hash.Ghosts K.Denot)
-    (b : builder.Ghosts S.Denot T.Denot) (w : hasher.Ghosts T.Denot) where
+module _ (K V S T : RattleType) (LK : Laws K) (LV : Laws V) (p : EqGhosts K.Denot) (h : HashGhosts K.Denot)
+    (b : BuilderGhosts S.Denot T.Denot) (w : HasherGhosts T.Denot) where
   abbrev pub Cursor : NamedLft → RattleType
   Cursor ℓ =
       cursor.the_row ℓ (param 0 K) (param 1 V) (param 2 S) node_row (param 3 T) p h b w TheImpl.ghosts

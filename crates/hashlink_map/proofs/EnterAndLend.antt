@@ -1,24 +1,19 @@
 -- An entry is made, and then its pair is lent. The inserts of raw entries go so. Assumes `Logic`.
-use Rattle.hashlink_map.proofs.Names.{◌≡◌, ℕ, List, [], ◌∷◌, sym, subst, Ura, Fml, Lft, flft, SProp, ent, sep}
-use Rattle.hashlink_map.proofs.Names.{ex, emp, id⊢, via, emp∗, comm∗, fst∗, Fn, Callee, Dict, Val, Model}
-use Rattle.hashlink_map.proofs.Names.{WpFn, Closed, Logic, sem, Item, Goal, Seq, Soaks, ‵, raw, ◌⊛◌, some}
-use Rattle.hashlink_map.proofs.Names.{later, ◌$◌, ◌∵◌, !, qed, by, move, drop, split, join, fjoin, pick}
-use Rattle.hashlink_map.proofs.Names.{await, updating, now, use0, use1, use2, done, ◌⊑◌, Lfts, Shares}
-use Rattle.hashlink_map.proofs.Names.{Outlives, AllOutlive, toks, fact, fact_i, Running, tables, Is, Ises}
-use Rattle.hashlink_map.proofs.Names.{Are, shows, layout, param, Laws, RattleType, Valss, flat, Slot}
-use Rattle.hashlink_map.proofs.Names.{types_at, plain, nothing, peeks, heard, Ended, Clauses, closing, lasts}
-use Rattle.hashlink_map.proofs.Names.{Lasts, Kepts, Args, alive, on_entry, Meets, triple_of, framed, Stays}
-use Rattle.hashlink_map.proofs.Names.{AllGo, Fit, has_of, walk_of, Good, proved_at, leaves, Bor, MutBor, IfOk}
-use Rattle.hashlink_map.proofs.Names.{Keyed, with_value_at, LendsPairOf}
+use Rattle.hashlink_map.proofs.Names
+use Names.{◌≡◌, ℕ, List, [], ◌∷◌, sym, subst, Ura, Fml, Lft, flft, SProp, ent, sep, ex, emp, id⊢, via, emp∗}
+use Names.{comm∗, fst∗, Fn, Callee, Dict, Val, Model, WpFn, Closed, Logic, sem, ◌⊑◌, Lfts, Shares, Outlives}
+use Names.{AllOutlive, toks, fact, fact_i, Running, tables, Is, Ises, Are, shows, layout, param, Laws}
+use Names.{RattleType, Valss, flat, Slot, types_at, nothing, peeks, heard, Ended, Clauses, closing}
+use Names.{lasts, Lasts, Kepts, Args, alive, on_entry, Meets, triple_of, framed, Stays, AllGo, Fit, has_of}
+use Names.{walk_of, Good, proved_at, leaves, Bor, MutBor, IfOk, Keyed, with_value_at, LendsPairOf}
 use Rattle.std.specs.declared.cmp.Eq as equal
-use Rattle.std.specs.declared.cmp.PartialEq as eq
-use Rattle.std.specs.declared.hash.Hash as hash
-use Rattle.std.specs.declared.hash.Hasher as hasher
-use Rattle.std.specs.declared.hash.BuildHasher as builder
-use Rattle.hashlink_map.proofs.PairSteps.{Asks, asks_again, apart_last, joins_last}
+use Rattle.hashlink_map.proofs.PairSteps.{Asks, asks_again, apart_last, joins_last, ended, clauses}
 use Rattle.hashlink_map.proofs.PairRows.{Answer, answer_laws, Entered, entered_laws}
 use Rattle.hashlink_map.proofs.PairTies.{Rests, Lends, carries, IsLent, IsHandedOn, IsPairAt}
 use Rattle.hashlink_map.specs.contracts.raw_entry.occupied.RawOccupiedEntryMut+K+V+S.pair_of as lends
+use types.Kit.{Item, Goal, Seq, Soaks, ‵, raw, ◌⊛◌, some, later, ◌$◌, ◌∵◌, !, qed, by, move, drop, split}
+use types.Kit.{join, fjoin, pick, await, updating, now, use0, use1, use2, done}
+use Rattle.hashlink_map.specs.Bounds.{EqGhosts, HashGhosts, HasherGhosts, BuilderGhosts}
 
 -- a value of R is returned, and Q holds of it
 abbrev pub then_with : {M : Type 1} {𝓤 : Ura M} (𝓛 : Logic 𝓤) → RattleType → (Val → SProp 𝓤) → Val → SProp 𝓤
@@ -66,8 +61,8 @@ module _ {M : Type 1} {𝓤 : Ura M} (𝓛 : Logic 𝓤) where
   }
 
 module _ {M : Type 1} (𝓤 : Ura M) (K V S T : RattleType) (LK : Laws K) (LV : Laws V) (LS : Laws S)
-    (LT : Laws T) (p : eq.Ghosts K.Denot) (h : hash.Ghosts K.Denot) (b : builder.Ghosts S.Denot T.Denot)
-    (w : hasher.Ghosts T.Denot) (κ : Lft) where
+    (LT : Laws T) (p : EqGhosts K.Denot) (h : HashGhosts K.Denot) (b : BuilderGhosts S.Denot T.Denot)
+    (w : HasherGhosts T.Denot) (κ : Lft) where
   abbrev pub Made_at : RattleType
   Made_at = Entered K V LK LV κ S T LS LT p h b w
 
@@ -93,8 +88,8 @@ module _ {M : Type 1} (𝓤 : Ura M) (K V S T : RattleType) (LK : Laws K) (LV : 
 
 module _ {M : Type 1} (𝓤 : Ura M) (𝓛 : Logic 𝓤) (𝓜 : Model 𝓤 𝓛.H) (𝓡 : Running 𝓤 𝓛.H 𝓜)
     (K V S T : RattleType) (LK : Laws K) (LV : Laws V) (LS : Laws S) (LT : Laws T)
-    (e : equal.Ghosts K.Denot) (de : Dict) (p : eq.Ghosts K.Denot) (dp : Dict) (h : hash.Ghosts K.Denot)
-    (dh : Dict) (b : builder.Ghosts S.Denot T.Denot) (db : Dict) (w : hasher.Ghosts T.Denot) (dw dd : Dict)
+    (e : equal.Ghosts K.Denot) (de : Dict) (p : EqGhosts K.Denot) (dp : Dict) (h : HashGhosts K.Denot)
+    (dh : Dict) (b : BuilderGhosts S.Denot T.Denot) (db : Dict) (w : HasherGhosts T.Denot) (dw dd : Dict)
   where
     abbrev pub Made : Lfts 5 → RattleType
     Made κs = Entered K V LK LV κs.0 S T LS LT p h b w
@@ -205,33 +200,23 @@ module _ {M : Type 1} (𝓤 : Ura M) (𝓛 : Logic 𝓤) (𝓜 : Model 𝓤 𝓛
         (hs : Stays ss ks)
         (bounds : (κs : Lfts n) → AllOutlive n O κs
         → AllOutlive 5 (lends.signature K V S T e de p dp h dh b db w dw dd).outlives (l.five κs)) where
-      abbrev giving : (Lfts n → RattleType) → Ended
-      giving R = record {
-        signature = record { lifetimes = n; outlives = O; params = ss; result = plain R };
-        kept = ks;
-      }
-
       abbrev First : Ended
-      First = giving (λ κs. Made (l.five κs))
+      First = ended n O ss ks (λ κs. Made (l.five κs))
 
       abbrev pub Both : Ended
-      Both = giving (λ κs. Lent_out (l.five κs))
+      Both = ended n O ss ks (λ κs. Lent_out (l.five κs))
 
       module _ (s : (κs : Lfts n) → Args Both.signature κs → Enters (l.five κs))
           (Rest : (κs : Lfts n) → Args Both.signature κs → SProp 𝓤) where
         abbrev enters : Clauses 𝓤 First
-        enters κs a = record {
-          ghost = Unit {0};
-          requires = λ _. asks (l.five κs) (Rest κs a);
-          ensures = λ _ x end. sep 𝓤 (sem 𝓛 (rests (l.five κs) (s κs a) x)) ((s κs a).Says x);
-        }
+        enters =
+            clauses 𝓤 First (λ κs a. asks (l.five κs) (Rest κs a))
+            (λ κs a x. sep 𝓤 (sem 𝓛 (rests (l.five κs) (s κs a) x)) ((s κs a).Says x))
 
         abbrev enters_and_lends : Clauses 𝓤 Both
-        enters_and_lends κs a = record {
-          ghost = Unit {0};
-          requires = λ _. asks (l.five κs) (Rest κs a);
-          ensures = λ _ r end. sep 𝓤 (sem 𝓛 (lent (l.five κs) (s κs a) r)) ((s κs a).Tells r);
-        }
+        enters_and_lends =
+            clauses 𝓤 Both (λ κs a. asks (l.five κs) (Rest κs a))
+            (λ κs a r. sep 𝓤 (sem 𝓛 (lent (l.five κs) (s κs a) r)) ((s κs a).Tells r))
 
         pub entered_and_lent : (go : AllGo 𝓛 n ss ks hs) (ws : (κs : Lfts n) (a : Args Both.signature κs)
             → Lasts Both κs a) → ((κs : Lfts n) (a : Args Both.signature κs) → Fit Both hs κs a (ws κs a))

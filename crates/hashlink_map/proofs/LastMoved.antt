@@ -1,22 +1,17 @@
 -- An entry that stands last: it moved there, or its pair went in there.
-use Rattle.hashlink_map.proofs.Names.{◌≡◌, ℕ, ◌-◌, List, [], ◌∷◌, ◌++◌, Bool, None, Some, length, refl, sym}
-use Rattle.hashlink_map.proofs.Names.{ap, ap₂, subst, ◌∙◌, append-nil, slice_get, Result, Ok, Err, IfOk}
-use Rattle.hashlink_map.proofs.Names.{IfErr, OnErr, MatchOption, Bor, MutBor, IsEquivalence, IsEntries}
-use Rattle.hashlink_map.proofs.Names.{moved_at, place_of, MapState, MovesAt, AddsEntry, PutsEntry}
-use Rattle.hashlink_map.proofs.Names.{RefusesEntry, RawEntryState, moved_at-last, none_others}
-use Rattle.hashlink_map.proofs.Names.{IsEntries-middle, IsEntries-insert, split_at, place_of_its_key, Keyed}
-use Rattle.hashlink_map.proofs.Names.{state_of, entries_of, Node, Holds, place_number, at-node, node-at}
-use Rattle.hashlink_map.proofs.Names.{RawOccupiedEntryMut, raw_occupied_state, raw_occupied_map, raw_place}
-use Rattle.hashlink_map.proofs.Names.{raw_pair, PutsLast, StandsLast, with_value_at}
+use Rattle.hashlink_map.proofs.Names
+use Names.{◌≡◌, ℕ, ◌-◌, List, [], ◌∷◌, ◌++◌, Bool, None, Some, length, refl, sym, ap, ap₂, subst, ◌∙◌}
+use Names.{append-nil, slice_get, Result, Ok, Err, IfOk, IfErr, OnErr, MatchOption, Bor, MutBor}
+use Names.{IsEquivalence, IsEntries, moved_at, place_of, MapState, MovesAt, AddsEntry, PutsEntry}
+use Names.{RefusesEntry, RawEntryState, moved_at-last, split_at, place_of_its_key, Keyed, state_of}
+use Names.{entries_of, Node, Holds, place_number, at-node, node-at, RawOccupiedEntryMut, raw_occupied_state}
+use Names.{raw_occupied_map, raw_place, raw_pair, PutsLast, StandsLast, with_value_at}
 use Rattle.std.specs.Prelude.{Option}
-use Rattle.std.specs.declared.cmp.PartialEq as eq
-use Rattle.std.specs.declared.hash.Hash as hash
-use Rattle.std.specs.declared.hash.Hasher as hasher
-use Rattle.std.specs.declared.hash.BuildHasher as builder
-use Rattle.hashlink_map.specs.declared.as_node.AsNode as as_node
 use Rattle.hashlink_map.specs.contracts.as_node.NodeAsNode.TheImpl
 use Rattle.hashlink_map.proofs.AtNode.{adds-written, added-parts, last-moved, moves-and-writes}
 use Rattle.hashlink_map.proofs.PairTies.{IsPairAt, OfEntry}
+use Rattle.hashlink_model.proofs.Distinct.{none_others, IsEntries-middle, IsEntries-insert}
+use Rattle.hashlink_map.specs.Bounds.{EqGhosts, HashGhosts, HasherGhosts, BuilderGhosts, NodeGhosts}
 
 module _ {K V : Type 0} (eq : K → K → Bool) (laws : IsEquivalence eq) where
   -- no two keys were equal, since none are where it stands now
@@ -50,9 +45,9 @@ module _ {K V S : Type 0} {eq : K → K → Bool} where
       (laws.refl e.0) in
       (e, at, own, moves, ap Some place)
 
-module _ {K V S T : Type 0} {g : eq.Ghosts K} {h : hash.Ghosts K} {b : builder.Ghosts S T}
-    {w : hasher.Ghosts T}
-    {N : Type 0} {n : as_node.Ghosts N} (old : MapState K V S) (e : K × V) (Given : K × V → Type 0)
+module _ {K V S T : Type 0} {g : EqGhosts K} {h : HashGhosts K} {b : BuilderGhosts S T}
+    {w : HasherGhosts T}
+    {N : Type 0} {n : NodeGhosts N} (old : MapState K V S) (e : K × V) (Given : K × V → Type 0)
     (given : Given e) where
   pub new_stands : (r : Result (RawOccupiedEntryMut K V S N T g h b w n) (K × V))
       → IfOk r (λ o. AddsEntry g.eq old (state_of (raw_occupied_map o).now) e.0 e.1 (length old.entries))
@@ -80,8 +75,8 @@ none_at (Ok a) x = tt
 none_at (Err e) x = refl
 
 -- what is written through the pair of an entry that stands last
-module _ {K V S T : Type 0} {g : eq.Ghosts K} {h : hash.Ghosts K} {b : builder.Ghosts S T}
-    {w : hasher.Ghosts T} (laws : IsEquivalence g.eq) (Given : K × V → Type 0) where
+module _ {K V S T : Type 0} {g : EqGhosts K} {h : HashGhosts K} {b : BuilderGhosts S T}
+    {w : HasherGhosts T} (laws : IsEquivalence g.eq) (Given : K × V → Type 0) where
   module _ (o : RawOccupiedEntryMut K V S Node T g h b w TheImpl.ghosts) (q : Bor K × MutBor V)
       (has : IsPairAt o q) where
     last_written : (old : MapState K V S) (place : Option ℕ)

@@ -1,34 +1,31 @@
 -- The pair at a place of a borrower is lent, where the place is a node's. Assumes `Logic`.
-use Rattle.hashlink_map.proofs.Names.{◌≡◌, ℕ, List, [], ◌∷◌, ◌++◌, refl, sym, ap, subst, ◌∙◌, lit<, Ura, Fml}
-use Rattle.hashlink_map.proofs.Names.{fres, SProp, ent, sep, id⊢, emp, Fn, Ty, Sym, Callee, Kind, w8, named}
-use Rattle.hashlink_map.proofs.Names.{erased, imm, mut, ty_ref, ty_struct, ty_enum, tcons, tnil, ttcons}
-use Rattle.hashlink_map.proofs.Names.{ttnil, local, value_local, place, deref, field, variant, seq, assign}
-use Rattle.hashlink_map.proofs.Names.{call, return, switch, arm, no_default, aggregate, int, addr_of, copy}
-use Rattle.hashlink_map.proofs.Names.{rv_opd, Val, of_list, vstruct, Model, WpFn, Closed, Wp, after_seq}
-use Rattle.hashlink_map.proofs.Names.{Logic, sem, ‵, raw, ◌⊛◌, some, later, at_ret, any_q, post, ◌$◌, ◌∵◌, ! }
-use Rattle.hashlink_map.proofs.Names.{qed, by, move, keep, drop, split, join, fsplit, fsplit3, fjoin, pick}
-use Rattle.hashlink_map.proofs.Names.{await, rewrite, use0, use1, suffices, live, vrt, in_variant, whole, agg}
-use Rattle.hashlink_map.proofs.Names.{stop, fld, of_opd, addr, lit, and_then, no_more, first, switches_on}
-use Rattle.hashlink_map.proofs.Names.{exec, returns, enter, alloc_all, pass_all, free_all, look_at, get}
-use Rattle.hashlink_map.proofs.Names.{get_in, get_tag, through, sets, sets_last, lands_as, env, ◌⊑◌, fact}
-use Rattle.hashlink_map.proofs.Names.{fact_i, Lfts, Outlives, Running, tables, no, yes, Is, shows, Typed}
-use Rattle.hashlink_map.proofs.Names.{layout, Laws, RattleType, owns, NamedLft, mut_vals, mut_Tells, shr_vals}
-use Rattle.hashlink_map.proofs.Names.{types_at, plain, mut_ref_to, nothing, peeks, only, heard, calls_at}
-use Rattle.hashlink_map.proofs.Names.{Ended, Clauses, closing, lasts, Lasts, alive, Meets, triple_of, framed}
-use Rattle.hashlink_map.proofs.Names.{Stays, stay_dropped, walk_of, Goes-dropped, Goes-spent_ref, after, head}
-use Rattle.hashlink_map.proofs.Names.{arm_body, Good, proved_at, leaves, Some-of, none_of, Node}
+use Rattle.hashlink_map.proofs.Names
+use Names.{◌≡◌, ℕ, List, [], ◌∷◌, ◌++◌, refl, sym, ap, subst, ◌∙◌, lit<, Ura, Fml, fres, SProp, ent, sep, id⊢}
+use Names.{emp, Fn, Ty, Sym, Callee, Kind, w8, named, erased, imm, mut, ty_ref, ty_struct, ty_enum, tcons}
+use Names.{tnil, ttcons, ttnil, local, value_local, place, deref, field, variant, seq, assign, call, return}
+use Names.{switch, arm, no_default, aggregate, int, addr_of, copy, rv_opd, Val, of_list, vstruct, Model, WpFn}
+use Names.{Closed, Wp, after_seq, Logic, sem, live, vrt, in_variant, whole, agg, stop, fld, of_opd, addr, lit}
+use Names.{and_then, no_more, first, switches_on, exec, returns, enter, alloc_all, pass_all, free_all}
+use Names.{look_at, get, get_in, get_tag, through, sets, sets_last, lands_as, env, ◌⊑◌, fact, fact_i, Lfts}
+use Names.{Outlives, Running, tables, no, yes, Is, shows, Typed, layout, Laws, RattleType, owns, NamedLft}
+use Names.{mut_vals, mut_Tells, shr_vals, types_at, plain, mut_ref_to, nothing, peeks, only, heard, calls_at}
+use Names.{Ended, Clauses, closing, lasts, Lasts, alive, Meets, triple_of, framed, Stays, stay_dropped}
+use Names.{walk_of, Goes-dropped, Goes-spent_ref, after, head, arm_body, Good, proved_at, leaves, Some-of}
+use Names.{none_of, Node}
 use Rattle.std.proofs.option.Option.TheLaws as option_laws
 use Rattle.std.specs.Prelude.{None, Some}
 use Rattle.std.specs.contracts.option.Option as option
 use Rattle.hashlink_core.proofs.Node.TheLaws as node_laws
 use Rattle.hashlink_core.specs.contracts.Node.{the_row as node_row}
 use Rattle.hashlink_map.proofs.PairRows.{Lent}
-use Rattle.hashlink_map.proofs.PairSteps.{Asks}
+use Rattle.hashlink_map.proofs.PairSteps.{Asks, ended, clauses}
 use Rattle.hashlink_map.proofs.PairValues.{valued, some_had, none_had}
 use Rattle.hashlink_map.proofs.StepAndLend.{At_place, Borrower, Ref, Mid, Out, lending}
+use types.Kit.{‵, raw, ◌⊛◌, some, later, at_ret, any_q, post, ◌$◌, ◌∵◌, !, qed, by, move, keep, drop, split}
+use types.Kit.{join, fsplit, fsplit3, fjoin, pick, await, rewrite, use0, use1, suffices}
 
 -- what no walk reads of the code
-pub record Names : Type 0 where
+pub record Unread : Type 0 where
   pub lifetimes : ℕ
   pub outlives : List (ℕ × ℕ)
   pub ty_params : List Kind
@@ -43,11 +40,11 @@ pub record Names : Type 0 where
   pub self : Callee
   pub pair_at_node : Callee
 
-abbrev pair_ty : Names → Ty
+abbrev pair_ty : Unread → Ty
 pair_ty n = ty_struct n.tuple (tcons (ty_ref erased imm n.key) (tcons (ty_ref erased mut n.value) tnil))
 
 -- `match place { Some(node) => Some(self.pair_at_node(node)), None => None }`
-abbrev pub matching : Names → Ty → Fn
+abbrev pub matching : Unread → Ty → Fn
 matching n τ = record {
   lifetimes = n.lifetimes;
   outlives = n.outlives;
@@ -77,15 +74,9 @@ module _ (K V : RattleType) (LK : Laws K) (LV : Laws V) (Row : NamedLft → Ratt
 
   -- the call that lends at a node
   abbrev at_node : List (Outlives 6) → Ended
-  at_node O = record {
-    signature = record {
-      lifetimes = 6;
-      outlives = O;
-      params = mut_ref_to (0 ∷ []) tt (plain (Borrower K V LK LV Row)) ∷ plain (λ κs. node_row) ∷ [];
-      result = plain Pair_at;
-    };
-    kept = (no, (yes, tt));
-  }
+  at_node O =
+      ended 6 O (mut_ref_to (0 ∷ []) tt (plain (Borrower K V LK LV Row)) ∷ plain (λ κs. node_row) ∷ [])
+      (no, (yes, tt)) Pair_at
 
   -- what is ensured: at a node, and at a place
   pub record LendingAt {M : Type 1} {𝓤 : Ura M} (𝓛 : Logic 𝓤) : Type 1 where
@@ -118,20 +109,16 @@ module _ {M : Type 1} (𝓤 : Ura M) (𝓛 : Logic 𝓤) (𝓜 : Model 𝓤 𝓛
       (fact 𝓤 (s.Stands κs q))
 
   abbrev lends_at_node : (O : List (Outlives 6)) → Clauses 𝓤 (Node_lender O)
-  lends_at_node O κs a = record {
-    ghost = Unit {0};
-    requires = λ _. asks κs (a.0, Some a.1.0);
-    ensures = λ _ q end. sep 𝓤 (sem 𝓛 (s.NodeTies κs a.0 a.1.0 q)) (fact 𝓤 (s.NodePair κs a.0 a.1.0 q));
-  }
+  lends_at_node O =
+      clauses 𝓤 (Node_lender O) (λ κs a. asks κs (a.0, Some a.1.0))
+      (λ κs a q. sep 𝓤 (sem 𝓛 (s.NodeTies κs a.0 a.1.0 q)) (fact 𝓤 (s.NodePair κs a.0 a.1.0 q)))
 
   abbrev lends : (O : List (Outlives 6)) → Clauses 𝓤 (Lender O)
-  lends O κs a = record {
-    ghost = Unit {0};
-    requires = λ _. asks κs (a.0, a.1.0);
-    ensures = λ _ o end. sep 𝓤 (sem 𝓛 (s.Ties κs (a.0, a.1.0) o)) (fact 𝓤 (s.Pair κs (a.0, a.1.0) o));
-  }
+  lends O =
+      clauses 𝓤 (Lender O) (λ κs a. asks κs (a.0, a.1.0))
+      (λ κs a o. sep 𝓤 (sem 𝓛 (s.Ties κs (a.0, a.1.0) o)) (fact 𝓤 (s.Pair κs (a.0, a.1.0) o)))
 
-  pub lends_at_place : (O : List (Outlives 6)) (n : Names)
+  pub lends_at_place : (O : List (Outlives 6)) (n : Unread)
       → Meets 𝓛 (Node_lender O).signature ((tables 𝓤 𝓛.H 𝓜 𝓡 𝓡.env).C n.pair_at_node)
       (closing 𝓛 (Node_lender O) (lends_at_node O))
       → Closed 𝓤 𝓛.H (tables 𝓤 𝓛.H 𝓜 𝓡 𝓡.env).C (tables 𝓤 𝓛.H 𝓜 𝓡 𝓡.env).Λ n.self

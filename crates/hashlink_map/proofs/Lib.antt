@@ -10,6 +10,7 @@ pub mod Indexing
 pub mod LastMoved
 pub mod Outcomes
 pub mod LendAtPlace
+pub mod LendForGood
 pub mod PairRows
 pub mod PairSteps
 pub mod PairTies

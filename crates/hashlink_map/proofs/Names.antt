@@ -1,11 +1,7 @@
 -- What the proofs of this crate import again and again.
 pub use Rattle.hashlink_core.proofs.AtKeyNode.{added, guard-number, is_some-map, lent, lent-moved}
-pub use Rattle.hashlink_core.proofs.AtKeyNode.{moved-found, moved-value, refused, shrinks, stored}
-pub use Rattle.hashlink_core.proofs.AtKeyNode.{stored-value}
-pub use Rattle.hashlink_core.proofs.Edits.{drop-at, length-inserted, length-removed, moved_at-is, passes-at}
-pub use Rattle.hashlink_core.proofs.Edits.{place_left-before, place_left-past, slice_get-inserted}
-pub use Rattle.hashlink_core.proofs.Holding.{at-node, equals-stored, holds-at, holds-passes, holds_key-at}
-pub use Rattle.hashlink_core.proofs.Holding.{number-at}
+pub use Rattle.hashlink_core.proofs.AtKeyNode.{moved-found, moved-value, refused, stored, stored-value}
+pub use Rattle.hashlink_core.proofs.Holding.{at-node, equals-stored, holds-at, holds_key-at, number-at}
 pub use Rattle.hashlink_core.proofs.InTurn.{accepts_another}
 pub use Rattle.hashlink_core.proofs.Keeping.{at-guard}
 pub use Rattle.hashlink_core.proofs.Mapped.{values-renewed_value}
@@ -23,26 +19,19 @@ pub use Rattle.hashlink_core.specs.Places.{Holds, IsPlace, IsPlaceAt, Node, plac
 pub use Rattle.hashlink_core.specs.Steps.{AddsNode, GrowsRoom, MovesNode}
 pub use Rattle.hashlink_core.specs.Walk.{StandsBetween}
 pub use Rattle.hashlink_map.specs.Cloning.{ArePairClones, IsOfPairClones}
-pub use Rattle.hashlink_map.specs.Cursor.{CursorWritten, LentAt, TakesPlace, cursor_map, cursor_node}
-pub use Rattle.hashlink_map.specs.Cursor.{cursor_state, lent_pair}
-pub use Rattle.hashlink_map.specs.CursorLends.{LendsAtCursorNode, LendsPairFromCursor, cursor_with}
-pub use Rattle.hashlink_map.specs.Entry.{IsWritten, Modifies, entry_state, entry_value, occupied_place}
-pub use Rattle.hashlink_map.specs.Entry.{occupied_state, occupied_with}
+pub use Rattle.hashlink_map.specs.Cursor.{cursor_node, lent_pair}
+pub use Rattle.hashlink_map.specs.Entry.{IsWritten, entry_state, occupied_place, occupied_with}
 pub use Rattle.hashlink_map.specs.EntryLends.{PutsLast}
 pub use Rattle.hashlink_map.specs.Extending.{TakesItems}
 pub use Rattle.hashlink_map.specs.Indexed.{HasKey, with_value_at_key}
-pub use Rattle.hashlink_map.specs.IterMut.{walk_map, walk_state}
-pub use Rattle.hashlink_map.specs.IterMutLends.{LendsAtWalkNode, LendsPairFromWalk, LendsPairThere, LentFrom}
-pub use Rattle.hashlink_map.specs.IterMutLends.{StaysThere, StepsAndWrites, TakesOff, walk_with_value}
-pub use Rattle.hashlink_map.specs.RawEntry.{RawIsWritten, RawModifies, raw_map, raw_occupied_map}
-pub use Rattle.hashlink_map.specs.RawEntry.{raw_occupied_state, raw_pair, raw_place, raw_state, raw_with}
+pub use Rattle.hashlink_map.specs.RawEntry.{RawIsWritten, raw_map, raw_occupied_map, raw_occupied_state}
+pub use Rattle.hashlink_map.specs.RawEntry.{raw_pair, raw_place, raw_state, raw_with}
 pub use Rattle.hashlink_map.specs.RawLends.{LendsPairOf, RawLendsForGood, StandsLast}
 pub use Rattle.hashlink_map.specs.Reading.{GivesAll, GivesSome, ReadsAll, ReadsSome}
 pub use Rattle.hashlink_map.specs.Standing.{IsPlace-prop, StaysHeld, still_holds, still_holds_match}
 pub use Rattle.hashlink_map.specs.Standing.{still_placed, still_standing}
-pub use Rattle.hashlink_map.specs.WritingWalk.{StandsIn, StandsIn-prop, WritesSoFar, WritingWalk, after_back}
-pub use Rattle.hashlink_map.specs.WritingWalk.{after_front, last_place, walk_in, walk_rest, walk_with}
-pub use Rattle.hashlink_map.specs.WritingWalk.{writing_walk}
+pub use Rattle.hashlink_map.specs.WritingWalk.{StandsIn, WritesSoFar, WritingWalk, after_back, after_front}
+pub use Rattle.hashlink_map.specs.WritingWalk.{last_place, walk_in, walk_rest, walk_with, writing_walk}
 pub use Rattle.hashlink_map.specs.declared.cursor.CursorMut.{CursorMut}
 pub use Rattle.hashlink_map.specs.declared.entry.occupied.OccupiedEntry.{OccupiedEntry}
 pub use Rattle.hashlink_map.specs.declared.iter_mut.IterMut.{IterMut}
@@ -52,16 +41,11 @@ pub use Rattle.hashlink_model.proofs.ByPlace.{length-set_value_at, moved_at-last
 pub use Rattle.hashlink_model.proofs.ByPlace.{set_value_at-here, set_value_at-place}
 pub use Rattle.hashlink_model.proofs.Clones.{clone_is_equal}
 pub use Rattle.hashlink_model.proofs.Cursors.{following_place-guard}
-pub use Rattle.hashlink_model.proofs.Distinct.{IsEntries-insert, IsEntries-middle, none_others}
 pub use Rattle.hashlink_model.proofs.Extends.{extended-own}
 pub use Rattle.hashlink_model.proofs.Finds.{lookup_is, lookup_key_is}
 pub use Rattle.hashlink_model.proofs.InTurn.{accepts_entries}
-pub use Rattle.hashlink_model.proofs.NodeCounts.{keeps_twice, removes_keeps}
 pub use Rattle.hashlink_model.proofs.Places.{place_of_its_key, slice_get_here, split_at}
 pub use Rattle.hashlink_model.proofs.Puts.{put-absent, put_at_its_place, put_back_absent}
-pub use Rattle.hashlink_model.proofs.Splits.{lookup_entry-none, none_from_lookup, place_of-here}
-pub use Rattle.hashlink_model.proofs.Splits.{place_of-none, remove_entry-none, stands_from_lookup}
-pub use Rattle.hashlink_model.proofs.Splits.{stands_from_place}
 pub use Rattle.hashlink_model.proofs.Walks.{takes_first, takes_last}
 pub use Rattle.hashlink_model.specs.Compare.{entries_eq, entries_hash_input}
 pub use Rattle.hashlink_model.specs.Cursor.{CursorState, following_place, preceding_place, with_value_in}
@@ -72,16 +56,13 @@ pub use Rattle.hashlink_model.specs.Many.{AcceptsAll, InsertsPair, MadeFrom, Sto
 pub use Rattle.hashlink_model.specs.MapState.{AddsEntry, Grows, Inserts, MapState, MovesAt, PutsEntry}
 pub use Rattle.hashlink_model.specs.MapState.{RefusesEntry, Removes, RoomFor, empty_map, map_state}
 pub use Rattle.hashlink_model.specs.MapState.{with_value}
-pub use Rattle.hashlink_model.specs.Steps.{KeepsOnly, MovesMatchAndWrites, PopsBack, PopsFront, RemovesMatch}
-pub use Rattle.hashlink_model.specs.Steps.{Replaces, Shrinks, with_match_value, with_value_of}
+pub use Rattle.hashlink_model.specs.Steps.{PopsBack, PopsFront, RemovesMatch, Replaces, with_value_of}
 pub use Rattle.hashlink_model.specs.Walk.{after_first_of, before_last_of, first_of, last_of}
-pub use Rattle.std.proofs.Common.{Bool, List, None, Option, Some, [], add-one, ap, append-nil, append_assoc}
-pub use Rattle.std.proofs.Common.{ap₂, arith, cond, false, fold, get_or, is_some, le_refl, length}
-pub use Rattle.std.proofs.Common.{length-append, length-drop, length-take-le, lit<, map, refl, rules, subst}
-pub use Rattle.std.proofs.Common.{suc, sym, take, true, true≢false, zero, ℕ, ◌++◌, ◌+◌, ◌-◌, ◌<◌, ◌∙◌, ◌∷◌}
-pub use Rattle.std.proofs.Common.{◌≡◌, ◌≢◌, ◌≤◌}
+pub use Rattle.std.proofs.Common.{Bool, List, None, Option, Some, [], ap, append-nil, append_assoc, ap₂}
+pub use Rattle.std.proofs.Common.{arith, cond, false, fold, get_or, is_some, le_refl, length, length-append}
+pub use Rattle.std.proofs.Common.{length-take-le, lit<, map, refl, rules, subst, suc, sym, take, true}
+pub use Rattle.std.proofs.Common.{true≢false, zero, ℕ, ◌++◌, ◌+◌, ◌-◌, ◌<◌, ◌∙◌, ◌∷◌, ◌≡◌, ◌≢◌, ◌≤◌}
 pub use Rattle.std.proofs.RcSteps.{word, word-Good, word_ty}
-pub use Rattle.std.proofs.ResultValues.{err_of, ok_of}
 pub use Rattle.std.proofs.VecSteps.Element.{Some-of, none_of}
 pub use Rattle.std.proofs.alloc.Shapes.{after, arm_body, head}
 pub use Rattle.std.proofs.cell.Inside.{Good, one}
@@ -89,14 +70,11 @@ pub use Rattle.std.proofs.iter.runs.Sources.{as_is, as_is_back}
 pub use Rattle.std.proofs.lemmas.List.{length-map}
 pub use Rattle.std.proofs.lemmas.Map.Entries.{length-values_of}
 pub use Rattle.std.proofs.lemmas.Option.{none-some, same_Some, slice_get-map}
-pub use Rattle.std.proofs.lemmas.Result.{IfErr-weaker, on_ok_weaker}
 pub use Rattle.std.proofs.raw_atomic.Walks.{leaves, proved_at}
-pub use Rattle.std.specs.Borrow.{Bor, GName, MutBor, RestsIfErr, follows, follows_if, follows_so, name_if_ok}
-pub use Rattle.std.specs.Borrow.{name_if_some}
+pub use Rattle.std.specs.Borrow.{Bor, MutBor, follows_if}
 pub use Rattle.std.specs.Cmp.{IsEquivalence}
 pub use Rattle.std.specs.Fn.{Called, Mut}
 pub use Rattle.std.specs.Iterator.{Drains, DrainsIf, Yields, YieldsThen}
-pub use Rattle.std.specs.Iterator.Adapters.{map_callee, map_source, map_steps}
 pub use Rattle.std.specs.Map.{lookup, lookup_entry, remove_entry, values_of}
 pub use Rattle.std.specs.Map.Iter.{GivesInOrder, GivesInReverse, TakesFirst, TakesLast, deref_pair}
 pub use Rattle.std.specs.Option.{UnwrapsOrElse, option_copied, option_map}
@@ -120,17 +98,16 @@ pub use denote.Param.Laws.{Laws, of_field, param_laws, row_shared}
 pub use denote.Param.Shared.{copy_shared, mut_ref_shared}
 pub use denote.RattleType.{RattleType, Valss, flat, owns}
 pub use denote.RawPtr.{Ptr, RawPtr, ptr_val}
-pub use denote.Ref.{MutRef, NamedLft, ShrRef, mut_Tells, mut_vals, shr_Tells, shr_vals}
+pub use denote.Ref.{MutRef, NamedLft, ShrRef, mut_Tells, mut_vals, shr_vals}
 pub use denote.Shadow.{makes_shadow}
 pub use denote.Signature.{Slot, mut_ref_to, named_lft, plain, types_at}
 pub use denote.Steps.{heard, nothing, only, peeks}
-pub use denote.Struct.Field.{mut_ref_field, shr_ref_field}
 pub use denote.Struct.Laws.{mut_ref_laws, shr_ref_copy, shr_ref_laws}
 pub use denote.Struct.Props.{props}
 pub use denote.Struct.Struct.{Shape, Struct, as_fields}
 pub use denote.Struct.Tuple.{Tuple, tuple_laws}
 pub use denote.Triple.Call.{calls_at, calls_from}
-pub use denote.Triple.Clauses.{Clauses, Ended, Lasts, at_exit, closing, lasts}
+pub use denote.Triple.Clauses.{Clauses, Ended, Lasts, closing, lasts}
 pub use denote.Triple.End.{Kepts}
 pub use denote.Triple.Entry.{Args, alive, on_entry}
 pub use denote.Triple.Spec.{Meets, triple_of}
@@ -147,9 +124,6 @@ pub use prog.Wp.{Closed, Wp, WpFn, after_seq}
 pub use seplogic.Ra.Ura.{Ura}
 pub use types.ByLocal.{alloc_all, env, free_all, get, get_in, get_tag, lands_as, look_at, pass_all, sets}
 pub use types.ByLocal.{sets_last, through}
-pub use types.Kit.{ !, Goal, Item, Seq, Soaks, any_q, at_ret, await, by, done, drop, feq_l, fjoin, fpack}
-pub use types.Kit.{fpick, fsplit, fsplit3, join, keep, later, move, now, pick, post, qed, raw, rewrite, some}
-pub use types.Kit.{split, suffices, updating, use0, use1, use2, ‵, ◌$◌, ◌∵◌, ◌⊛◌}
 pub use types.Logic.{Logic, sem}
 pub use types.Match.{in_variant, live, vrt}
 pub use types.Part.{agg, sub, whole}

@@ -1,12 +1,12 @@
 -- What the entries are after a call, and what it returns, in one equation for each.
-use Rattle.hashlink_map.proofs.Names.{◌≡◌, ℕ, suc, Bool, true, false, cond, List, [], ◌∷◌, ◌++◌, length}
-use Rattle.hashlink_map.proofs.Names.{Option, None, Some, is_some, refl, sym, ap, ◌∙◌, true≢false, arith}
-use Rattle.hashlink_map.proofs.Names.{Contains, IfOk, IfSome, IsOk, IsSome, OnOk, unwrap_or, lookup}
-use Rattle.hashlink_map.proofs.Names.{lookup_entry, remove_entry, option_map, none-some, same_Some, place_of}
-use Rattle.hashlink_map.proofs.Names.{place_or_end, put, MapState, Inserts, RemovesMatch, Replaces, lookup_is}
-use Rattle.hashlink_map.proofs.Names.{put_at_its_place, put_back_absent, none_from_lookup, place_of-here}
-use Rattle.hashlink_map.proofs.Names.{place_of-none, remove_entry-none, stands_from_lookup}
+use Rattle.hashlink_map.proofs.Names
+use Names.{◌≡◌, ℕ, suc, Bool, true, false, cond, List, [], ◌∷◌, ◌++◌, length, Option, None, Some, is_some}
+use Names.{refl, sym, ap, ◌∙◌, true≢false, arith, Contains, IfOk, IfSome, IsOk, IsSome, OnOk, unwrap_or}
+use Names.{lookup, lookup_entry, remove_entry, option_map, none-some, same_Some, place_of, place_or_end, put}
+use Names.{MapState, Inserts, RemovesMatch, Replaces, lookup_is, put_at_its_place, put_back_absent}
 use Rattle.std.proofs.Common.{Result, Ok, Err}
+use Rattle.hashlink_model.proofs.Splits.{none_from_lookup, place_of-here, place_of-none, remove_entry-none}
+use Rattle.hashlink_model.proofs.Splits.{stands_from_lookup}
 
 module _ {K V S : Type 0} (eq : K → K → Bool) (old new : MapState K V S) (k : K) (v : V) where
   -- goal: the entries after an insert that is not refused, and its answer

@@ -1,12 +1,7 @@
 -- The types that a raw entry's pair passes through, each with its laws.
 use Rattle.hashlink_map.proofs.Names.{[], ◌∷◌, refl, Lft, named, param, Laws, param_laws, of_field}
 use Rattle.hashlink_map.proofs.Names.{row_shared, copy_shared, mut_ref_shared, RattleType, NamedLft, MutRef}
-use Rattle.hashlink_map.proofs.Names.{ShrRef, shr_ref_field, mut_ref_field, shr_ref_laws, shr_ref_copy}
-use Rattle.hashlink_map.proofs.Names.{mut_ref_laws, Tuple, tuple_laws}
-use Rattle.std.specs.declared.cmp.PartialEq as eq
-use Rattle.std.specs.declared.hash.Hash as hash
-use Rattle.std.specs.declared.hash.Hasher as hasher
-use Rattle.std.specs.declared.hash.BuildHasher as builder
+use Rattle.hashlink_map.proofs.Names.{ShrRef, shr_ref_laws, shr_ref_copy, mut_ref_laws, Tuple, tuple_laws}
 use Rattle.std.specs.contracts.result.Result as result
 use Rattle.std.proofs.result.Result.TheLaws as result_laws
 use Rattle.hashlink_core.specs.contracts.Node as node
@@ -18,9 +13,17 @@ use Rattle.hashlink_map.specs.contracts.raw_entry.vacant.RawVacantEntryMut as va
 use Rattle.hashlink_map.proofs.raw_entry.RawEntryMut.TheLaws as place_laws
 use Rattle.hashlink_map.proofs.raw_entry.occupied.RawOccupiedEntryMut.TheLaws as entry_laws
 use Rattle.hashlink_map.proofs.raw_entry.vacant.RawVacantEntryMut.TheLaws as empty_laws
+use denote.Struct.Field.{shr_ref_field, mut_ref_field}
+use Rattle.hashlink_map.specs.Bounds.{EqGhosts, HashGhosts, HasherGhosts, BuilderGhosts}
 
 abbrev at_lft : Lft → NamedLft
 at_lft κ = record { mir = named 0; lft = κ }
+
+abbrev pub key_laws : (K : RattleType) → Laws K → (κ : Lft) → Laws (ShrRef (named 0) κ (param 0 K))
+key_laws K LK κ =
+    of_field (shr_ref_field (at_lft κ) (param 0 K) tt) (shr_ref_laws (at_lft κ) (param 0 K) tt) refl
+    (copy_shared (shr_ref_field (at_lft κ) (param 0 K) tt)
+    (shr_ref_copy (at_lft κ) (param 0 K) tt (param_laws 0 K LK).shr_laws))
 
 module _ (K V : RattleType) (LK : Laws K) (LV : Laws V) where
   abbrev pub Given : RattleType
@@ -36,9 +39,7 @@ module _ (K V : RattleType) (LK : Laws K) (LV : Laws V) where
     abbrev pub lent_laws : Laws Lent
     lent_laws =
         tuple_laws (ShrRef (named 0) κ (param 0 K) ∷ MutRef (named 0) κ (param 1 V) ∷ []) (
-          of_field (shr_ref_field (at_lft κ) (param 0 K) tt) (shr_ref_laws (at_lft κ) (param 0 K) tt) refl
-              (copy_shared (shr_ref_field (at_lft κ) (param 0 K) tt)
-              (shr_ref_copy (at_lft κ) (param 0 K) tt (param_laws 0 K LK).shr_laws)),
+          key_laws K LK κ,
           (
             of_field (mut_ref_field (at_lft κ) (param 1 V) tt) (mut_ref_laws (at_lft κ) (param 1 V) tt) refl
                 (mut_ref_shared (at_lft κ) (param 1 V) tt (row_shared (param 1 V) (param_laws 1 V LV))),
@@ -52,8 +53,8 @@ module _ (K V : RattleType) (LK : Laws K) (LV : Laws V) where
     abbrev pub answer_laws : Laws Answer
     answer_laws = result_laws.the_row_laws Lent Given lent_laws given_laws
 
-    module _ (S T : RattleType) (LS : Laws S) (LT : Laws T) (p : eq.Ghosts K.Denot) (h : hash.Ghosts K.Denot)
-        (b : builder.Ghosts S.Denot T.Denot) (w : hasher.Ghosts T.Denot) where
+    module _ (S T : RattleType) (LS : Laws S) (LT : Laws T) (p : EqGhosts K.Denot) (h : HashGhosts K.Denot)
+        (b : BuilderGhosts S.Denot T.Denot) (w : HasherGhosts T.Denot) where
       abbrev pub Held : RattleType
       Held =
           entry.the_row (at_lft κ) (param 0 K) (param 1 V) (param 2 S) node.the_row

@@ -1,10 +1,12 @@
--- What the walks to a pair that is lent share: a node's one word, what calls ask, and the tokens. Assumes
+-- What the walks to a pair that is lent share: a node's one word, clauses, what calls ask, and the tokens. Assumes
 -- `Logic`.
+use denote.Triple.Entry.{Res}
 use Rattle.hashlink_map.proofs.Names.{◌≡◌, List, [], ◌∷◌, ◌++◌, refl, subst, Ura, Val, vstruct, of_list, Fml}
-use Rattle.hashlink_map.proofs.Names.{ftrue, SProp, ent, sep, emp, mono_r, fact, fact_i, Logic, sem, Item}
-use Rattle.hashlink_map.proofs.Names.{Goal, Seq, ‵, raw, ◌⊛◌, ◌$◌, ◌∵◌, !, qed, move, drop, split, join, use0}
-use Rattle.hashlink_map.proofs.Names.{fsplit, fpick, feq_l, done, RattleType, Ptr, RawPtr, ptr_val}
-use Rattle.hashlink_map.proofs.Names.{makes_shadow, nothing, heard, Shape, Struct, word}
+use Rattle.hashlink_map.proofs.Names.{ftrue, SProp, ent, sep, emp, mono_r, fact, fact_i, Logic, sem, ℕ}
+use Rattle.hashlink_map.proofs.Names.{Outlives, Slot, Kepts, Lfts, Ended, Clauses, Args, plain, RattleType}
+use Rattle.hashlink_map.proofs.Names.{Ptr, RawPtr, ptr_val, makes_shadow, nothing, heard, Shape, Struct, word}
+use types.Kit.{Item, Goal, Seq, ‵, raw, ◌⊛◌, ◌$◌, ◌∵◌, !, qed, move, drop, split, join, use0, fsplit, fpick}
+use types.Kit.{feq_l, done}
 
 abbrev one_field : Shape
 one_field = record { name = []; args = []; types = []; fields = RawPtr ∷ [] }
@@ -26,6 +28,23 @@ module _ {M : Type 1} {𝓤 : Ura M} (𝓛 : Logic 𝓤) where
   node_made c =
       makes_shadow 𝓛 (Word.own_val (c, tt) (word c ∷ [])) (λ vss. (tt, (tt, tt)))
       ((ptr_val c ∷ [], tt), (refl, (refl, tt)))
+
+-- a function with this signature, and its clauses: what it asks, and what it says of its result
+abbrev pub ended : (n : ℕ) → List (Outlives n) → (ss : List (Slot n)) → Kepts ss → (Lfts n → RattleType) → Ended
+ended n O ss ks R = record {
+  signature = record { lifetimes = n; outlives = O; params = ss; result = plain R };
+  kept = ks;
+}
+
+abbrev pub clauses : {M : Type 1} (𝓤 : Ura M) (E : Ended)
+    → ((κs : Lfts E.signature.lifetimes) → Args E.signature κs → SProp 𝓤)
+    → ((κs : Lfts E.signature.lifetimes) → Args E.signature κs → Res E.signature κs → SProp 𝓤)
+    → Clauses 𝓤 E
+clauses 𝓤 E asks says κs a = record {
+  ghost = Unit {0};
+  requires = λ _. asks κs a;
+  ensures = λ _ r end. says κs a r;
+}
 
 -- what a call asks: four facts on lifetimes, and R
 module _ {M : Type 1} (𝓤 : Ura M) (A B C D : Type 0) where

@@ -1,23 +1,19 @@
 -- What the map ends as, from the entry that it went into and the pair that the entry lent. Assumes `Logic`.
-use Rattle.hashlink_map.proofs.Names.{◌≡◌, [], ◌∷◌, sym, subst, Ura, ent, sep, Logic, sem, ‵, ◌$◌, ◌∵◌, ! }
-use Rattle.hashlink_map.proofs.Names.{qed, drop, move, use2, fpick, fpack, done, follows_by, such_by}
-use Rattle.hashlink_map.proofs.Names.{follows_then, Result, Ok, Err, IfOk, IfErr, OnErr, MatchResult}
-use Rattle.hashlink_map.proofs.Names.{slice_get, Bor, MutBor, RestsIfErr, follows, follows_if, follows_so}
-use Rattle.hashlink_map.proofs.Names.{name_if_ok, IsEquivalence, MapState, AddsEntry, Keyed, state_of, Node}
-use Rattle.hashlink_map.proofs.Names.{with_value_at, RawOccupiedEntryMut, raw_occupied_map}
-use Rattle.hashlink_map.proofs.Names.{raw_occupied_state, raw_place, LendsPairOf}
+use Rattle.hashlink_map.proofs.Names.{◌≡◌, [], ◌∷◌, sym, subst, Ura, ent, sep, Logic, sem, follows_by}
+use Rattle.hashlink_map.proofs.Names.{such_by, follows_then, Result, Ok, Err, IfOk, IfErr, OnErr, MatchResult}
+use Rattle.hashlink_map.proofs.Names.{slice_get, Bor, MutBor, follows_if, IsEquivalence, MapState, AddsEntry}
+use Rattle.hashlink_map.proofs.Names.{Keyed, state_of, Node, with_value_at, RawOccupiedEntryMut}
+use Rattle.hashlink_map.proofs.Names.{raw_occupied_map, raw_occupied_state, raw_place, LendsPairOf}
 use Rattle.std.specs.Prelude.{Some, length}
-use Rattle.std.specs.Borrow.{Fml, ftrue, RattleType}
-use Rattle.std.specs.declared.cmp.PartialEq as eq
-use Rattle.std.specs.declared.hash.Hash as hash
-use Rattle.std.specs.declared.hash.Hasher as hasher
-use Rattle.std.specs.declared.hash.BuildHasher as builder
+use Rattle.std.specs.Borrow.{Fml, ftrue, RattleType, RestsIfErr, follows, follows_so, name_if_ok}
 use Rattle.hashlink_map.specs.contracts.as_node.NodeAsNode.TheImpl
 use Rattle.hashlink_map.specs.contracts.map.LinkedHashMap.{the_row}
 use Rattle.hashlink_map.proofs.AtNode.{adds-written, added-parts}
+use types.Kit.{‵, ◌$◌, ◌∵◌, !, qed, drop, move, use2, fpick, fpack, done}
+use Rattle.hashlink_map.specs.Bounds.{EqGhosts, HashGhosts, HasherGhosts, BuilderGhosts}
 
-module _ {K V S T : Type 0} {g : eq.Ghosts K} {h : hash.Ghosts K} {b : builder.Ghosts S T}
-    {w : hasher.Ghosts T} where
+module _ {K V S T : Type 0} {g : EqGhosts K} {h : HashGhosts K} {b : BuilderGhosts S T}
+    {w : HasherGhosts T} where
   -- the pair that stands at the entry's place is the one that was lent
   abbrev pub IsPairAt : RawOccupiedEntryMut K V S Node T g h b w TheImpl.ghosts → Bor K × MutBor V → Type 0
   IsPairAt o q = slice_get (raw_occupied_state o).map.entries (raw_place o) ≡ Some (q.0.now, q.1.now)
@@ -70,9 +66,9 @@ module _ {K V S T : Type 0} {g : eq.Ghosts K} {h : hash.Ghosts K} {b : builder.G
     new_parts (Ok o) s place = λ q. added-parts laws old o.map.now k v o.node s place (q.0.now, q.1.now)
     new_parts (Err e) s place = tt
 
-module _ (K V S T : RattleType) (g : eq.Ghosts K.Denot) (h : hash.Ghosts K.Denot)
-    (b : builder.Ghosts S.Denot T.Denot)
-    (w : hasher.Ghosts T.Denot) (m : MutBor (Keyed K.Denot V.Denot S.Denot)) {E : Type 0}
+module _ (K V S T : RattleType) (g : EqGhosts K.Denot) (h : HashGhosts K.Denot)
+    (b : BuilderGhosts S.Denot T.Denot)
+    (w : HasherGhosts T.Denot) (m : MutBor (Keyed K.Denot V.Denot S.Denot)) {E : Type 0}
     (P : Bor K.Denot × MutBor V.Denot → V.Denot → Keyed K.Denot V.Denot S.Denot → Type 0)
     (P₀ : E → Keyed K.Denot V.Denot S.Denot → Type 0) where
   abbrev Map : RattleType

@@ -1,22 +1,20 @@
 -- What the inserts of raw entries say of the entry that they make, and of the pair that it lends.
-use Rattle.hashlink_map.proofs.Names.{◌≡◌, [], ◌∷◌, None, Ura, Lft, ent, sep, emp, Logic, raw, ◌$◌, ◌∵◌, ! }
-use Rattle.hashlink_map.proofs.Names.{qed, by, done, drop, use0, fact, fact_i, Laws, RattleType, heard}
-use Rattle.hashlink_map.proofs.Names.{MutBor, IsEquivalence, IfOk, IfErr, OnErr, MatchOption, RawEntryState}
-use Rattle.hashlink_map.proofs.Names.{AddsEntry, RefusesEntry, Keyed, state_of, entries_of, PutsLast}
-use Rattle.hashlink_map.proofs.Names.{raw_occupied_map, raw_occupied_state, raw_pair, raw_place, StandsLast}
+use Rattle.hashlink_map.proofs.Names.{◌≡◌, [], ◌∷◌, None, Ura, Lft, ent, sep, emp, Logic, fact, fact_i, Laws}
+use Rattle.hashlink_map.proofs.Names.{RattleType, heard, MutBor, IsEquivalence, IfOk, IfErr, OnErr}
+use Rattle.hashlink_map.proofs.Names.{MatchOption, RawEntryState, AddsEntry, RefusesEntry, Keyed, state_of}
+use Rattle.hashlink_map.proofs.Names.{entries_of, PutsLast, raw_occupied_map, raw_occupied_state, raw_pair}
+use Rattle.hashlink_map.proofs.Names.{raw_place, StandsLast}
 use Rattle.std.specs.Prelude.{length}
-use Rattle.std.specs.declared.cmp.PartialEq as eq
-use Rattle.std.specs.declared.hash.Hash as hash
-use Rattle.std.specs.declared.hash.Hasher as hasher
-use Rattle.std.specs.declared.hash.BuildHasher as builder
 use Rattle.hashlink_map.proofs.EnterAndLend.{Made_at, Lent_at, Entering}
 use Rattle.hashlink_map.proofs.LastMoved.{put_written, put_parts}
 use Rattle.hashlink_map.proofs.PairTies.{ok_carried, err_carried, on_err_carried, IsLent, IsHandedOn}
 use Rattle.hashlink_map.proofs.PairTies.{new_written, new_parts}
+use types.Kit.{raw, ◌$◌, ◌∵◌, !, qed, by, done, drop, use0}
+use Rattle.hashlink_map.specs.Bounds.{EqGhosts, HashGhosts, HasherGhosts, BuilderGhosts}
 
 module _ {M : Type 1} (𝓤 : Ura M) (𝓛 : Logic 𝓤) (K V S T : RattleType) (LK : Laws K) (LV : Laws V)
-    (LS : Laws S) (LT : Laws T) (p : eq.Ghosts K.Denot) (h : hash.Ghosts K.Denot)
-    (b : builder.Ghosts S.Denot T.Denot) (w : hasher.Ghosts T.Denot) (κ : Lft)
+    (LS : Laws S) (LT : Laws T) (p : EqGhosts K.Denot) (h : HashGhosts K.Denot)
+    (b : BuilderGhosts S.Denot T.Denot) (w : HasherGhosts T.Denot) (κ : Lft)
     (laws : IsEquivalence p.eq) where
   abbrev X : Type 0
   X = (Made_at 𝓤 K V S T LK LV LS LT p h b w κ).Denot

@@ -1,33 +1,31 @@
 -- A step of a borrower, and then the pair at the place that it gave is lent. A cursor and a walk that writes
 -- begin so. Assumes `Logic`.
-use Rattle.hashlink_map.proofs.Names.{◌≡◌, ℕ, List, [], ◌∷◌, ◌++◌, refl, sym, ap, subst, ◌∙◌, Ura, Fml, SProp}
-use Rattle.hashlink_map.proofs.Names.{ent, sep, id⊢, emp, Fn, Ty, Sym, Callee, Kind, named, erased, mut}
-use Rattle.hashlink_map.proofs.Names.{ty_ptr, ty_ref, ty_struct, tcons, tnil, local, value_local, place}
-use Rattle.hashlink_map.proofs.Names.{deref, field, seq, assign, call, return, addr_of, copy, rv_opd, Val}
-use Rattle.hashlink_map.proofs.Names.{of_list, vptr, vstruct, Model, WpFn, Closed, Logic, sem, ‵, raw, ◌⊛◌}
-use Rattle.hashlink_map.proofs.Names.{some, later, ◌$◌, ◌∵◌, !, qed, by, move, keep, drop, split, join}
-use Rattle.hashlink_map.proofs.Names.{fsplit, fjoin, fpick, feq_l, pick, await, rewrite, use0, use1, whole}
-use Rattle.hashlink_map.proofs.Names.{sub, stop, fld, of_opd, addr, and_then, no_more, returns, enter}
-use Rattle.hashlink_map.proofs.Names.{alloc_all, pass_all, free_all, look_at, get, get_in, through, sets}
-use Rattle.hashlink_map.proofs.Names.{lands_as, ◌⊑◌, fact, fact_i, Lfts, Outlives, Running, tables, no, yes}
-use Rattle.hashlink_map.proofs.Names.{follows_by, Is, shows, layout, Laws, RattleType, NamedLft, MutRef}
-use Rattle.hashlink_map.proofs.Names.{mut_vals, mut_Tells, Slot, plain, mut_ref_to, named_lft, nothing, peeks}
-use Rattle.hashlink_map.proofs.Names.{only, heard, as_fields, Tuple, calls_at, Ended, Clauses, closing, lasts}
-use Rattle.hashlink_map.proofs.Names.{Lasts, alive, on_entry, Meets, triple_of, framed, Stays, stay_dropped}
-use Rattle.hashlink_map.proofs.Names.{walk_of, Goes-spent_ref, proved_at, leaves}
+use Rattle.hashlink_map.proofs.Names
+use Names.{◌≡◌, ℕ, List, [], ◌∷◌, ◌++◌, refl, sym, ap, subst, ◌∙◌, Ura, Fml, SProp, ent, sep, id⊢, emp, Fn}
+use Names.{Ty, Sym, Callee, Kind, named, erased, mut, ty_ptr, ty_ref, ty_struct, tcons, tnil, local}
+use Names.{value_local, place, deref, field, seq, assign, call, return, addr_of, copy, rv_opd, Val, of_list}
+use Names.{vptr, vstruct, Model, WpFn, Closed, Logic, sem, whole, sub, stop, fld, of_opd, addr, and_then}
+use Names.{no_more, returns, enter, alloc_all, pass_all, free_all, look_at, get, get_in, through, sets}
+use Names.{lands_as, ◌⊑◌, fact, fact_i, Lfts, Outlives, Running, tables, no, yes, follows_by, Is, shows}
+use Names.{layout, Laws, RattleType, NamedLft, MutRef, mut_vals, mut_Tells, Slot, plain, mut_ref_to}
+use Names.{named_lft, nothing, peeks, only, heard, as_fields, Tuple, calls_at, Ended, Clauses, closing, lasts}
+use Names.{Lasts, alive, on_entry, Meets, triple_of, framed, Stays, stay_dropped, walk_of, Goes-spent_ref}
+use Names.{proved_at, leaves}
 use Rattle.std.proofs.option.Option.TheLaws as option_laws
 use Rattle.std.specs.contracts.option.Option as option
 use Rattle.hashlink_core.proofs.Node.TheLaws as node_laws
 use Rattle.hashlink_core.specs.contracts.Node.{the_row as node_row}
 use Rattle.hashlink_map.proofs.PairRows.{Lent, lent_laws}
-use Rattle.hashlink_map.proofs.PairSteps.{Asks, adds_fact, asks_again}
+use Rattle.hashlink_map.proofs.PairSteps.{Asks, adds_fact, asks_again, ended, clauses}
 use Rattle.hashlink_map.proofs.PairValues.{valued}
+use types.Kit.{‵, raw, ◌⊛◌, some, later, ◌$◌, ◌∵◌, !, qed, by, move, keep, drop, split, join, fsplit, fjoin}
+use types.Kit.{fpick, feq_l, pick, await, rewrite, use0, use1}
 
 abbrev pub At_place : RattleType
 At_place = option.the_row node_row
 
 -- what no walk reads of the code
-pub record Names : Type 0 where
+pub record Unread : Type 0 where
   pub lifetimes : ℕ
   pub outlives : List (ℕ × ℕ)
   pub ty_params : List Kind
@@ -41,7 +39,7 @@ pub record Names : Type 0 where
   pub pair_at : Callee
 
 -- `let (borrower, place) = self.step(); borrower.pair_at(place)`
-abbrev pub stepping : Names → Ty → Fn
+abbrev pub stepping : Unread → Ty → Fn
 stepping n τ = record {
   lifetimes = n.lifetimes;
   outlives = n.outlives;
@@ -82,27 +80,13 @@ module _ (K V : RattleType) (LK : Laws K) (LV : Laws V) (Row : NamedLft → Ratt
 
   -- a step, the call that lends at a place, and the two in turn
   abbrev taking : List (Outlives 6) → Ended
-  taking O = record {
-    signature = record { lifetimes = 6; outlives = O; params = self ∷ []; result = plain Mid };
-    kept = (no, tt);
-  }
+  taking O = ended 6 O (self ∷ []) (no, tt) Mid
 
   abbrev pub lending : List (Outlives 6) → Ended
-  lending O = record {
-    signature = record {
-      lifetimes = 6;
-      outlives = O;
-      params = self ∷ plain (λ κs. At_place) ∷ [];
-      result = plain Out;
-    };
-    kept = (no, (yes, tt));
-  }
+  lending O = ended 6 O (self ∷ plain (λ κs. At_place) ∷ []) (no, (yes, tt)) Out
 
   abbrev giving : List (Outlives 6) → Ended
-  giving O = record {
-    signature = record { lifetimes = 6; outlives = O; params = self ∷ []; result = plain Out };
-    kept = (no, tt);
-  }
+  giving O = ended 6 O (self ∷ []) (no, tt) Out
 
   -- what is ensured: of a step, at a place, and by the two in turn
   pub record Lending {M : Type 1} {𝓤 : Ura M} (𝓛 : Logic 𝓤) : Type 1 where
@@ -135,27 +119,19 @@ module _ {M : Type 1} (𝓤 : Ura M) (𝓛 : Logic 𝓤) (𝓜 : Model 𝓤 𝓛
       Asks 𝓤 (κs.1.1.0 ⊑ K.lives) (κs.1.1.1.0 ⊑ V.lives) (κs.1.1.1.1.0 ⊑ S.lives) (κs.1.1.1.1.1.0 ⊑ T.lives)
 
   abbrev takes : (O : List (Outlives 6)) → Clauses 𝓤 (Taking O)
-  takes O κs a = record {
-    ghost = Unit {0};
-    requires = λ _. asks κs (emp 𝓤);
-    ensures = λ _ q end. fact 𝓤 (s.Takes κs a.0 q);
-  }
+  takes O = clauses 𝓤 (Taking O) (λ κs a. asks κs (emp 𝓤)) (λ κs a q. fact 𝓤 (s.Takes κs a.0 q))
 
   abbrev lends : (O : List (Outlives 6)) → Clauses 𝓤 (Lender O)
-  lends O κs a = record {
-    ghost = Unit {0};
-    requires = λ _. asks κs (fact 𝓤 (s.Stands κs (a.0, a.1.0)));
-    ensures = λ _ o end. sep 𝓤 (sem 𝓛 (s.Ties κs (a.0, a.1.0) o)) (fact 𝓤 (s.Pair κs (a.0, a.1.0) o));
-  }
+  lends O =
+      clauses 𝓤 (Lender O) (λ κs a. asks κs (fact 𝓤 (s.Stands κs (a.0, a.1.0))))
+      (λ κs a o. sep 𝓤 (sem 𝓛 (s.Ties κs (a.0, a.1.0) o)) (fact 𝓤 (s.Pair κs (a.0, a.1.0) o)))
 
   abbrev gives : (O : List (Outlives 6)) → Clauses 𝓤 (Giving O)
-  gives O κs a = record {
-    ghost = Unit {0};
-    requires = λ _. asks κs (emp 𝓤);
-    ensures = λ _ o end. sep 𝓤 (sem 𝓛 (s.Lends κs a.0 o)) (fact 𝓤 (s.Gives κs a.0 o));
-  }
+  gives O =
+      clauses 𝓤 (Giving O) (λ κs a. asks κs (emp 𝓤))
+      (λ κs a o. sep 𝓤 (sem 𝓛 (s.Lends κs a.0 o)) (fact 𝓤 (s.Gives κs a.0 o)))
 
-  pub steps_and_lends : (O : List (Outlives 6)) (n : Names)
+  pub steps_and_lends : (O : List (Outlives 6)) (n : Unread)
       → Meets 𝓛 (Taking O).signature ((tables 𝓤 𝓛.H 𝓜 𝓡 𝓡.env).C n.step) (closing 𝓛 (Taking O) (takes O))
       → Meets 𝓛 (Lender O).signature ((tables 𝓤 𝓛.H 𝓜 𝓡 𝓡.env).C n.pair_at) (closing 𝓛 (Lender O) (lends O))
       → Closed 𝓤 𝓛.H (tables 𝓤 𝓛.H 𝓜 𝓡 𝓡.env).C (tables 𝓤 𝓛.H 𝓜 𝓡 𝓡.env).Λ n.self

@@ -1,32 +1,29 @@
 -- What a walk is once a value was written through a key and a value that it lent, and what it lends where it
 -- takes a place off. Assumes `Logic`.
 use Rattle.hashlink_map.proofs.Names.{◌≡◌, ℕ, [], ◌∷◌, take, refl, sym, ap, ap₂, subst, ◌∙◌, List, Ura, ent}
-use Rattle.hashlink_map.proofs.Names.{named, Logic, sem, ‵, ◌$◌, ◌∵◌, !, qed, fpick, fpack, rewrite, done}
-use Rattle.hashlink_map.proofs.Names.{follows_by, such_by, RattleType, OnSome, IfNone, slice_get, option_map}
-use Rattle.hashlink_map.proofs.Names.{GName, Bor, MutBor, follows_if, name_if_some, Node, Holds, IsPlace}
+use Rattle.hashlink_map.proofs.Names.{named, Logic, sem, follows_by, such_by, RattleType, OnSome, IfNone}
+use Rattle.hashlink_map.proofs.Names.{slice_get, option_map, Bor, MutBor, follows_if, Node, Holds, IsPlace}
 use Rattle.hashlink_map.proofs.Names.{place_number, entries_of, first_of, last_of, node_row, with_value_at}
-use Rattle.hashlink_map.proofs.Names.{IterMut, lent_pair, walk_map, walk_state, walk_with_value}
-use Rattle.hashlink_map.proofs.Names.{LendsAtWalkNode, LendsPairThere, LendsPairFromWalk, LentFrom}
-use Rattle.hashlink_map.proofs.Names.{StaysThere, StepsAndWrites, TakesOff, WritingWalk, StandsIn}
-use Rattle.hashlink_map.proofs.Names.{StandsIn-prop, walk_with, walk_rest, last_place, after_front}
-use Rattle.hashlink_map.proofs.Names.{after_back, param, Laws, NamedLft, fres}
+use Rattle.hashlink_map.proofs.Names.{IterMut, lent_pair, WritingWalk, StandsIn, walk_with, walk_rest}
+use Rattle.hashlink_map.proofs.Names.{last_place, after_front, after_back, param, Laws, NamedLft, fres}
 use Rattle.std.proofs.Common.{drop}
 use Rattle.std.specs.Prelude.{Option, Some, None}
-use Rattle.std.specs.Borrow.{Fml}
-use Rattle.std.specs.declared.cmp.PartialEq as eq
-use Rattle.std.specs.declared.hash.Hash as hash
-use Rattle.std.specs.declared.hash.Hasher as hasher
-use Rattle.std.specs.declared.hash.BuildHasher as builder
+use Rattle.std.specs.Borrow.{Fml, GName, name_if_some}
 use Rattle.hashlink_map.specs.contracts.as_node.NodeAsNode.TheImpl
 use Rattle.hashlink_map.specs.contracts.iter_mut.IterMut as walk
-use Rattle.hashlink_map.specs.declared.as_node.AsNode as as_node
 use Rattle.hashlink_map.proofs.Walking.{written-there, first-taken, last-taken}
 use Rattle.hashlink_map.proofs.StepAndLend.{Lending}
 use Rattle.hashlink_map.proofs.LendAtPlace.{LendingAt}
+use types.Kit.{‵, ◌$◌, ◌∵◌, !, qed, fpick, fpack, rewrite, done}
+use Rattle.hashlink_map.specs.IterMut.{walk_map, walk_state}
+use Rattle.hashlink_map.specs.IterMutLends.{walk_with_value, LendsAtWalkNode, LendsPairThere}
+use Rattle.hashlink_map.specs.IterMutLends.{LendsPairFromWalk, LentFrom, StaysThere, StepsAndWrites, TakesOff}
+use Rattle.hashlink_map.specs.WritingWalk.{StandsIn-prop}
+use Rattle.hashlink_map.specs.Bounds.{EqGhosts, HashGhosts, HasherGhosts, BuilderGhosts, NodeGhosts}
 
-module _ {K V S T : Type 0} {g : eq.Ghosts K} {h : hash.Ghosts K} {b : builder.Ghosts S T}
-    {w : hasher.Ghosts T}
-    {N : Type 0} {n : as_node.Ghosts N} (i : IterMut K V S N T g h b w n) (at : Node) (v : V) where
+module _ {K V S T : Type 0} {g : EqGhosts K} {h : HashGhosts K} {b : BuilderGhosts S T}
+    {w : HasherGhosts T}
+    {N : Type 0} {n : NodeGhosts N} (i : IterMut K V S N T g h b w n) (at : Node) (v : V) where
   -- whatever shows that its places are still of the list
   pub walk_with_value-is : (p : StandsIn n.node (with_value_at i.map.now at v).nodes i.places)
       → record { map = record i.map { now = with_value_at i.map.now at v }; places = i.places; stands = p }
@@ -36,9 +33,9 @@ module _ {K V S T : Type 0} {g : eq.Ghosts K} {h : hash.Ghosts K} {b : builder.G
       (StandsIn-prop n.node (with_value_at i.map.now at v).nodes i.places p (walk_with_value i at v).stands)
 
 -- from the walk with a place taken off to the walk as it was
-module _ {K V S T : Type 0} {g : eq.Ghosts K} {h : hash.Ghosts K} {b : builder.Ghosts S T}
-    {w : hasher.Ghosts T}
-    {N : Type 0} {n : as_node.Ghosts N} (old mid : MutBor (IterMut K V S N T g h b w n)) (j : ℕ)
+module _ {K V S T : Type 0} {g : EqGhosts K} {h : HashGhosts K} {b : BuilderGhosts S T}
+    {w : HasherGhosts T}
+    {N : Type 0} {n : NodeGhosts N} (old mid : MutBor (IterMut K V S N T g h b w n)) (j : ℕ)
     (stepped : WritingWalk K V S) where
   pub steps-on : (taken : Option Node) (r : Option (Bor K × MutBor V))
       → LentFrom (walk_map mid.now).now taken r
@@ -68,8 +65,8 @@ module _ {K V S T : Type 0} {g : eq.Ghosts K} {h : hash.Ghosts K} {b : builder.G
   stays-on (Some x) (Some p) lent t new told = tt
 
 -- the place that was taken, and the pair that stands there
-module _ {K V S T : Type 0} {g : eq.Ghosts K} {h : hash.Ghosts K} {b : builder.Ghosts S T}
-    {w : hasher.Ghosts T} (old mid : MutBor (IterMut K V S Node T g h b w TheImpl.ghosts)) where
+module _ {K V S T : Type 0} {g : EqGhosts K} {h : HashGhosts K} {b : BuilderGhosts S T}
+    {w : HasherGhosts T} (old mid : MutBor (IterMut K V S Node T g h b w TheImpl.ghosts)) where
   pub step-is_place : (j : ℕ) (stepped : WritingWalk K V S) (taken : Option Node)
       → TakesOff walk_map walk_state old j stepped mid taken
       → IsPlace (walk_map mid.now).now.nodes taken
@@ -108,8 +105,8 @@ module _ {K V S T : Type 0} {g : eq.Ghosts K} {h : hash.Ghosts K} {b : builder.G
       lent-there n r _ t.unchanged lent
       (last-taken old.now.map.now old.now.places n _ _ old.now.stands t.takes)
 
-module _ (K V S T : RattleType) (g : eq.Ghosts K.Denot) (h : hash.Ghosts K.Denot)
-    (b : builder.Ghosts S.Denot T.Denot) (w : hasher.Ghosts T.Denot) where
+module _ (K V S T : RattleType) (g : EqGhosts K.Denot) (h : HashGhosts K.Denot)
+    (b : BuilderGhosts S.Denot T.Denot) (w : HasherGhosts T.Denot) where
   abbrev Walk : Type 0
   Walk = IterMut K.Denot V.Denot S.Denot Node T.Denot g h b w TheImpl.ghosts
 
@@ -178,8 +175,8 @@ module _ (K V S T : RattleType) (g : eq.Ghosts K.Denot) (h : hash.Ghosts K.Denot
         )
         $ done !)
 
-module _ (K V S T : RattleType) (LK : Laws K) (LV : Laws V) (p : eq.Ghosts K.Denot) (h : hash.Ghosts K.Denot)
-    (b : builder.Ghosts S.Denot T.Denot) (w : hasher.Ghosts T.Denot) where
+module _ (K V S T : RattleType) (LK : Laws K) (LV : Laws V) (p : EqGhosts K.Denot) (h : HashGhosts K.Denot)
+    (b : BuilderGhosts S.Denot T.Denot) (w : HasherGhosts T.Denot) where
   abbrev pub Writer : NamedLft → RattleType
   Writer ℓ = walk.the_row ℓ (param 0 K) (param 1 V) (param 2 S) node_row (param 3 T) p h b w TheImpl.ghosts
 

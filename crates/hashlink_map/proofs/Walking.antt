@@ -1,15 +1,13 @@
 -- Where a walk that lends values stands, by its places.
-use Rattle.hashlink_map.proofs.Names.{◌≡◌, ◌≢◌, ℕ, zero, suc, ◌+◌, ◌-◌, ◌<◌, ◌≤◌, List, [], ◌∷◌, length, ◌++◌}
-use Rattle.hashlink_map.proofs.Names.{map, take, Option, None, Some, refl, ap, ap₂, sym, subst, add-one}
-use Rattle.hashlink_map.proofs.Names.{length-drop, length-take-le, ◌∙◌, arith, slice_get, OnSome, IfNone}
-use Rattle.hashlink_map.proofs.Names.{option_map, set_value_at, MapState, map_state, with_value, first_of}
-use Rattle.hashlink_map.proofs.Names.{last_of, Keyed, entries_of, state_of, pair_with_value, with_value_at}
-use Rattle.hashlink_map.proofs.Names.{values-renewed_value, length-map, PlacesLeft, WritingWalk, writing_walk}
-use Rattle.hashlink_map.proofs.Names.{walk_with, walk_in, walk_rest, WritesSoFar, after_front, last_place}
-use Rattle.hashlink_map.proofs.Names.{StandsIn, following_place, preceding_place, Node, Holds, IsPlace}
-use Rattle.hashlink_map.proofs.Names.{IsPlaceAt, place_number, StandsBetween, before-suc, following-within}
-use Rattle.hashlink_map.proofs.Names.{place_number-renewed, within-holds, slice_get-drop}
-use Rattle.std.proofs.Common.{drop}
+use Rattle.hashlink_map.proofs.Names
+use Names.{◌≡◌, ◌≢◌, ℕ, zero, suc, ◌+◌, ◌-◌, ◌<◌, ◌≤◌, List, [], ◌∷◌, length, ◌++◌, map, take, Option, None}
+use Names.{Some, refl, ap, ap₂, sym, subst, length-take-le, ◌∙◌, arith, slice_get, OnSome, option_map}
+use Names.{set_value_at, MapState, map_state, with_value, first_of, last_of, Keyed, entries_of, state_of}
+use Names.{pair_with_value, with_value_at, values-renewed_value, length-map, PlacesLeft, WritingWalk}
+use Names.{writing_walk, walk_with, walk_in, walk_rest, WritesSoFar, after_front, last_place, after_back}
+use Names.{StandsIn, following_place, preceding_place, Node, Holds, IsPlace, IsPlaceAt, place_number}
+use Names.{StandsBetween, before-suc, following-within, place_number-renewed, within-holds, slice_get-drop}
+use Rattle.std.proofs.Common.{drop, add-one, length-drop}
 use Rattle.hashlink_map.specs.WritingWalk.{TakesPlace}
 
 -- a place, and what stands for one
@@ -17,78 +15,97 @@ pub same-place : (p : Option Node) → option_map (λ n. n) p ≡ p
 same-place None = refl
 same-place (Some n) = refl
 
-module _ {X : Type 0} {ns : List (Node × X)} {left : ℕ} where
-  pub stands-inside : (first last : Option Node)
-      → StandsBetween ns (option_map (λ n. n) first) (option_map (λ n. n) last) left
-      → StandsBetween ns first last left
-  stands-inside first last w =
-      subst (λ p. StandsBetween ns p last left) (same-place first)
-      (subst (λ p. StandsBetween ns (option_map (λ n. n) first) p left) (same-place last) w)
+module _ {K V S : Type 0} (m : Keyed K V S) (p : PlacesLeft Node) (stands : StandsIn (λ n. n) m.nodes p)
+    (some : p.left ≢ 0) where
+  abbrev ns : List (Node × (K × V))
+  ns = m.nodes
 
-  pub stands-outside : (first last : Option Node) → StandsBetween ns first last left
-      → StandsBetween ns (option_map (λ n. n) first) (option_map (λ n. n) last) left
-  stands-outside first last w =
-      subst (λ p. StandsBetween ns p (option_map (λ n. n) last) left) (sym (same-place first))
-      (subst (λ p. StandsBetween ns first p left) (sym (same-place last)) w)
+  w : StandsBetween m.nodes p.first p.last p.left
+  w = rw (same-place p.first, same-place p.last) at stands
 
-module _ {X : Type 0} (ns : List (Node × X)) (first last : Option Node) (left : ℕ)
-    (w : StandsBetween ns first last left) (some : left ≢ 0) where
+  long : length (entries_of m) ≡ length m.nodes
+  long = length-map m.nodes (λ e. e.1)
+
   -- ---- at the front
-  module _ (n : Node) (is : first ≡ Some n) where
-    pub holds-first : Holds ns n
+  module _ (n : Node) (is : p.first ≡ Some n) where
+    holds-first : Holds m.nodes n
     holds-first = within-holds ns n (omega (arith, w.few, ap (place_number ns) is, some))
 
-    pub place-first : IsPlace ns first
+    pub place-first : IsPlace m.nodes p.first
     place-first = subst (IsPlace ns) (sym is) holds-first
 
     module _ (q : Option Node)
-        (next : IsPlaceAt ns q (following_place (length ns) (place_number ns first))) where
-      pub number-next : place_number ns q ≡ place_number ns first + 1
-      number-next = next.number ∙ following-within (length ns) (place_number ns first)
-          (omega (arith, w.few, some)) ∙ omega arith
+        (next : IsPlaceAt m.nodes q (following_place (length (entries_of m)) (place_number m.nodes p.first)))
+      where
+        number-next : place_number m.nodes q ≡ place_number m.nodes p.first + 1
+        number-next = next.number ∙ following-within (length (entries_of m)) (place_number ns p.first)
+            (omega (arith, w.few, some, long)) ∙ omega arith
 
-      pub stands-next : StandsBetween ns q last (left - 1)
-      stands-next = record {
-        few = omega (arith, w.few, number-next, some);
-        ends = λ more. let ends = w.ends (omega (arith, some)) in omega (arith, ends, more, number-next);
-      }
+        pub stands-next : StandsIn (λ n. n) m.nodes (record { first = q; last = p.last; left = p.left - 1 })
+        stands-next = rw (same-place q, same-place p.last) (record {
+          few = omega (arith, w.few, number-next, some);
+          ends = λ more. let ends = w.ends (omega (arith, some)) in omega (arith, ends, more, number-next);
+        })
 
-  pub first-placed : IsPlace ns first
-  first-placed = elim first as (λ p. first ≡ p → IsPlace ns p) [
+        pub takes-first : TakesPlace m (walk_in (λ n. n) m p)
+            (walk_in (λ n. n) m (record { first = q; last = p.last; left = p.left - 1 }))
+            (walk_in (λ n. n) m p).at (after_front (walk_in (λ n. n) m p)) (Some n)
+        takes-first =
+            let first = ap (place_number ns) (same-place p.first) in (
+              holds-first,
+              sym (first ∙ ap (place_number ns) is),
+              omega (arith, some),
+              ap (λ i. writing_walk (state_of m) i (p.left - 1))
+                  (ap (place_number ns) (same-place q) ∙ number-next ∙ ap (λ i. i + 1) (sym first)),
+            )
+
+  pub first-placed : IsPlace m.nodes p.first
+  first-placed = elim p.first as (λ q. p.first ≡ q → IsPlace ns q) [
     | None ↦ λ is. tt
     | Some n ↦ λ is. holds-first n is
   ] refl
 
   -- ---- at the back
-  module _ (n : Node) (is : last ≡ Some n) where
-    pub number-last : place_number ns (Some n) ≡ place_number ns first + left - 1
+  module _ (n : Node) (is : p.last ≡ Some n) where
+    number-last : place_number m.nodes (Some n) ≡ place_number m.nodes p.first + p.left - 1
     number-last =
         let ends = w.ends (omega (arith, some)) in omega (arith, ends, ap (place_number ns) is)
 
-    pub holds-last : Holds ns n
+    holds-last : Holds m.nodes n
     holds-last = within-holds ns n (omega (arith, w.few, number-last, some))
 
-    pub place-last : IsPlace ns last
+    pub place-last : IsPlace m.nodes p.last
     place-last = subst (IsPlace ns) (sym is) holds-last
 
     module _ (q : Option Node)
-        (prev : IsPlaceAt ns q (preceding_place (length ns) (place_number ns last))) where
-      number-prev : 1 < left → place_number ns q + 1 ≡ place_number ns last
-      number-prev more =
-          let ends = w.ends (omega (arith, some)) in
-          let i = place_number ns last in
-          let later : i ≡ suc (i - 1) = omega (arith, ends, more) in
-          let before : place_number ns q ≡ i - 1 =
-          prev.number ∙ ap (preceding_place (length ns)) later
-          ∙ before-suc (length ns) (i - 1) (omega (arith, w.few, ends)) in
-          omega (arith, before, later)
+        (prev : IsPlaceAt m.nodes q (preceding_place (length (entries_of m)) (place_number m.nodes p.last)))
+      where
+        number-prev : 1 < p.left → place_number m.nodes q + 1 ≡ place_number m.nodes p.last
+        number-prev more =
+            let ends = w.ends (omega (arith, some)) in
+            let i = place_number ns p.last in
+            let later : i ≡ suc (i - 1) = omega (arith, ends, more) in
+            let before : place_number ns q ≡ i - 1 =
+            prev.number ∙ ap (preceding_place (length (entries_of m))) later
+            ∙ before-suc (length (entries_of m)) (i - 1) (omega (arith, w.few, ends, long)) in
+            omega (arith, before, later)
 
-      pub stands-prev : StandsBetween ns first q (left - 1)
-      stands-prev = record {
-        few = omega (arith, w.few);
-        ends = λ more. let ends = w.ends (omega (arith, some)) in
-            omega (arith, ends, more, number-prev (omega (arith, more)));
-      }
+        pub stands-prev : StandsIn (λ n. n) m.nodes (record { first = p.first; last = q; left = p.left - 1 })
+        stands-prev = rw (same-place p.first, same-place q) (record {
+          few = omega (arith, w.few);
+          ends = λ more. let ends = w.ends (omega (arith, some)) in
+              omega (arith, ends, more, number-prev (omega (arith, more)));
+        })
+
+        pub takes-last : TakesPlace m (walk_in (λ n. n) m p)
+            (walk_in (λ n. n) m (record { first = p.first; last = q; left = p.left - 1 }))
+            (last_place (walk_in (λ n. n) m p)) (after_back (walk_in (λ n. n) m p)) (Some n)
+        takes-last = (
+          holds-last,
+          number-last ∙ ap (λ i. i + p.left - 1) (sym (ap (place_number ns) (same-place p.first))),
+          omega (arith, some),
+          refl,
+        )
 
 -- ---- what the walk has left
 module _ {X : Type 0} where
@@ -159,9 +176,6 @@ module _ {K V S : Type 0} where
 pub on-some : {A : Type 0} {r : Option A} {x : A} {P : Type 0} → r ≡ Some x → OnSome r P → P
 on-some {P = P} is told = subst (λ o. OnSome o P) is told
 
-pub on-none : {A : Type 0} {r : Option A} {P : Type 0} → r ≡ None → IfNone r P → P
-on-none {P = P} is told = subst (λ o. IfNone o P) is told
-
 module _ {K V S : Type 0} where
   -- the map ends as the walk has it
   pub walk-ends : {m : Keyed K V S} (seen : Keyed K V S) {state : MapState K V S} → m ≡ seen
@@ -207,8 +221,5 @@ module _ {K V : Type 0} (f : K × V → V) where
 
 -- an entry, by its value that was lent and by the pair that was shown
 module _ {K V : Type 0} {o : Option (K × V)} {e : K × V} where
-  pub lent-value : {v : V} → Some v ≡ option_map (λ x. x.1) o → o ≡ Some e → v ≡ e.1
-  lent-value {v = v} lent at = let same : Some v ≡ Some e.1 = lent ∙ ap (option_map (λ x. x.1)) at in cc
-
   pub shown-entry : {x : K × V} → Some x ≡ o → o ≡ Some e → x ≡ e
   shown-entry {x = x} shown at = let same : Some x ≡ Some e = shown ∙ at in cc

@@ -1,23 +1,18 @@
 -- What an entry is once its value was written.
-use Rattle.hashlink_map.proofs.Names.{◌≡◌, ◌∙◌, ℕ, Bool, List, Option, None, Some, refl, ap, ap₂, option_map}
-use Rattle.hashlink_map.proofs.Names.{props, map_state, with_value_in, set_value_at, Keyed, HoldsKey}
-use Rattle.hashlink_map.proofs.Names.{entries_of, state_of, pair_with_value, Node, Holds, place_number}
-use Rattle.hashlink_map.proofs.Names.{with_value_at, values-renewed_value, place_number-renewed}
-use Rattle.hashlink_map.proofs.Names.{OccupiedEntry, RawOccupiedEntryMut, occupied_place, occupied_with}
-use Rattle.hashlink_map.proofs.Names.{IsWritten, raw_place, raw_with, RawIsWritten}
-use Rattle.std.specs.declared.cmp.PartialEq as eq
-use Rattle.std.specs.declared.hash.Hash as hash
-use Rattle.std.specs.declared.hash.Hasher as hasher
-use Rattle.std.specs.declared.hash.BuildHasher as builder
-use Rattle.hashlink_map.specs.declared.as_node.AsNode as as_node
+use Rattle.hashlink_map.proofs.Names
+use Names.{◌≡◌, ◌∙◌, ℕ, Bool, List, Option, Some, ap, ap₂, props, map_state}
+use Names.{with_value_in, set_value_at, Keyed, HoldsKey, entries_of, state_of, pair_with_value, Node, Holds}
+use Names.{place_number, with_value_at, values-renewed_value, place_number-renewed, OccupiedEntry}
+use Names.{RawOccupiedEntryMut, occupied_place, occupied_with, IsWritten, raw_place, raw_with, RawIsWritten}
+use Rattle.hashlink_map.specs.Bounds.{EqGhosts, HashGhosts, HasherGhosts, BuilderGhosts, NodeGhosts}
 
 HoldsKey-prop : {K V : Type 0} (eq : K → K → Bool) (ns : List (Node × (K × V))) (k : K) (n : Node)
     → IsProp (HoldsKey eq ns k n)
 HoldsKey-prop eq ns k n = hlevel props
 
-module _ {K V S T : Type 0} {g : eq.Ghosts K} {h : hash.Ghosts K} {b : builder.Ghosts S T}
-    {w : hasher.Ghosts T}
-    {N : Type 0} {n : as_node.Ghosts N} (o : OccupiedEntry K V S N T g h b w n) (v : V) where
+module _ {K V S T : Type 0} {g : EqGhosts K} {h : HashGhosts K} {b : BuilderGhosts S T}
+    {w : HasherGhosts T}
+    {N : Type 0} {n : NodeGhosts N} (o : OccupiedEntry K V S N T g h b w n) (v : V) where
   pub is_written : IsWritten o v (occupied_with o v)
   is_written =
       let m = o.map.now in
@@ -51,9 +46,9 @@ module _ {K V S T : Type 0} {g : eq.Ghosts K} {h : hash.Ghosts K} {b : builder.G
 Holds-prop : {X : Type 0} (ns : List (Node × X)) (n : Node) → IsProp (Holds ns n)
 Holds-prop ns n = hlevel props
 
-module _ {K V S T : Type 0} {g : eq.Ghosts K} {h : hash.Ghosts K} {b : builder.Ghosts S T}
-    {w : hasher.Ghosts T}
-    {N : Type 0} {n : as_node.Ghosts N} (o : RawOccupiedEntryMut K V S N T g h b w n) (v : V) where
+module _ {K V S T : Type 0} {g : EqGhosts K} {h : HashGhosts K} {b : BuilderGhosts S T}
+    {w : HasherGhosts T}
+    {N : Type 0} {n : NodeGhosts N} (o : RawOccupiedEntryMut K V S N T g h b w n) (v : V) where
   pub raw_is_written : RawIsWritten o v (raw_with o v)
   raw_is_written =
       let m = o.map.now in
@@ -86,8 +81,3 @@ cursor_written m n p i v at =
     (values-renewed_value m.nodes (place_number m.nodes (Some n)) v ∙ ap
     (λ j. set_value_at (entries_of m) j v) at)
     (place_number-renewed (pair_with_value v) m.nodes (place_number m.nodes (Some n)) p)
-
--- a node as what stands for one
-pub same_place : (p : Option Node) → option_map (λ n. n) p ≡ p
-same_place None = refl
-same_place (Some n) = refl

@@ -2,14 +2,10 @@
 use Rattle.std.specs.Prelude.{◌≡◌, ℕ, Option}
 use Rattle.std.specs.Borrow.{Bor, MutBor}
 use Rattle.std.specs.Option.{option_map}
-use Rattle.std.specs.declared.cmp.PartialEq as eq
-use Rattle.std.specs.declared.hash.Hash as hash
-use Rattle.std.specs.declared.hash.Hasher as hasher
-use Rattle.std.specs.declared.hash.BuildHasher as builder
+use Rattle.hashlink_map.specs.Bounds.{EqGhosts, HashGhosts, HasherGhosts, BuilderGhosts, NodeGhosts}
 use Rattle.hashlink_model.specs.Cursor.{CursorState, entry_in, with_value_in}
 use Rattle.hashlink_core.specs.Places.{Node, IsPlaceAt, place_number}
 use Rattle.hashlink_core.specs.Keyed.{Keyed, state_of}
-use Rattle.hashlink_map.specs.declared.as_node.AsNode as as_node
 use Rattle.hashlink_map.specs.declared.cursor.CursorMut.{CursorMut}
 
 -- the pair behind a key that is lent beside its value
@@ -20,9 +16,9 @@ lent_pair p = (p.0.now, p.1.now)
 abbrev pub LentAt : {K V S : Type 0} → CursorState K V S → ℕ → Option (Bor K × MutBor V) → Type 0
 LentAt c i r = option_map lent_pair r ≡ entry_in c i
 
-module _ {K V S T : Type 0} {g : eq.Ghosts K} {h : hash.Ghosts K} {b : builder.Ghosts S T}
-    {w : hasher.Ghosts T}
-    {N : Type 0} {n : as_node.Ghosts N} where
+module _ {K V S T : Type 0} {g : EqGhosts K} {h : HashGhosts K} {b : BuilderGhosts S T}
+    {w : HasherGhosts T}
+    {N : Type 0} {n : NodeGhosts N} where
   -- the map that it borrows
   abbrev pub cursor_map : CursorMut K V S N T g h b w n → MutBor (Keyed K V S)
   cursor_map c = c.map

@@ -2,22 +2,18 @@
 use Rattle.std.specs.Prelude.{◌≡◌, ℕ, [], Option, Some, OnSome}
 use Rattle.std.specs.Borrow.{Fml, RattleType, Bor, MutBor, Lends, LendsSo, follows_so, name_if_some}
 use mir.Syntax.{named}
-use Rattle.std.specs.declared.cmp.PartialEq as eq
-use Rattle.std.specs.declared.hash.Hash as hash
-use Rattle.std.specs.declared.hash.Hasher as hasher
-use Rattle.std.specs.declared.hash.BuildHasher as builder
+use Rattle.hashlink_map.specs.Bounds.{EqGhosts, HashGhosts, HasherGhosts, BuilderGhosts, NodeGhosts}
 use Rattle.hashlink_model.specs.Cursor.{place_next, place_previous}
 use Rattle.hashlink_core.specs.Places.{Node, place_number}
 use Rattle.hashlink_core.specs.KeyedLends.{node_row, with_value_at}
 use Rattle.hashlink_map.specs.contracts.cursor.CursorMut as cursor
-use Rattle.hashlink_map.specs.declared.as_node.AsNode as as_node
 use Rattle.hashlink_map.specs.declared.cursor.CursorMut.{CursorMut}
 use Rattle.hashlink_map.specs.Cursor.{cursor_map, cursor_node, cursor_state, CursorWritten}
 use Rattle.hashlink_map.specs.Standing.{still_placed}
 
-module _ {K V S T : Type 0} {g : eq.Ghosts K} {h : hash.Ghosts K} {b : builder.Ghosts S T}
-    {w : hasher.Ghosts T}
-    {N : Type 0} {n : as_node.Ghosts N} where
+module _ {K V S T : Type 0} {g : EqGhosts K} {h : HashGhosts K} {b : BuilderGhosts S T}
+    {w : HasherGhosts T}
+    {N : Type 0} {n : NodeGhosts N} where
   -- the cursor with v as the value of the node
   abbrev pub cursor_with : CursorMut K V S N T g h b w n → Node → V → CursorMut K V S N T g h b w n
   cursor_with c at v =
@@ -27,9 +23,9 @@ module _ {K V S T : Type 0} {g : eq.Ghosts K} {h : hash.Ghosts K} {b : builder.G
         within = still_placed v ns (place_number ns (Some at)) (cursor_node c) c.within;
       }
 
-module _ (K V S T : RattleType) {g : eq.Ghosts K.Denot} {h : hash.Ghosts K.Denot}
-    {b : builder.Ghosts S.Denot T.Denot}
-    {w : hasher.Ghosts T.Denot} {n : as_node.Ghosts Node} where
+module _ (K V S T : RattleType) {g : EqGhosts K.Denot} {h : HashGhosts K.Denot}
+    {b : BuilderGhosts S.Denot T.Denot}
+    {w : HasherGhosts T.Denot} {n : NodeGhosts Node} where
   -- the cursor with what was written at the place i, and at the guard as it was. Its lifetime is the second
   -- of the signature
   abbrev pub LendsFromCursor : MutBor (CursorMut K.Denot V.Denot S.Denot Node T.Denot g h b w n) → ℕ

@@ -2,17 +2,13 @@
 use Rattle.std.specs.Prelude.{◌≡◌, ℕ, Option, Some, None, MatchOption, option_and_then}
 use Rattle.std.specs.Borrow.{MutBor}
 use Rattle.std.specs.Fn.{Once, FnOnceReturnsAtMut}
-use Rattle.std.specs.declared.cmp.PartialEq as eq
-use Rattle.std.specs.declared.hash.Hash as hash
-use Rattle.std.specs.declared.hash.Hasher as hasher
-use Rattle.std.specs.declared.hash.BuildHasher as builder
+use Rattle.hashlink_map.specs.Bounds.{EqGhosts, HashGhosts, HasherGhosts, BuilderGhosts, NodeGhosts}
 use Rattle.hashlink_model.specs.MapState.{with_value}
 use Rattle.hashlink_model.specs.Entry.{EntryState, value_at}
 use Rattle.hashlink_core.specs.Places.{place_number}
 use Rattle.hashlink_core.specs.Keyed.{Keyed, state_of}
 use Rattle.hashlink_core.specs.KeyedLends.{with_value_at}
 use Rattle.hashlink_map.specs.Standing.{still_holds_match}
-use Rattle.hashlink_map.specs.declared.as_node.AsNode as as_node
 use Rattle.hashlink_map.specs.declared.entry.Entry.{Entry}
 use Rattle.hashlink_map.specs.declared.entry.Entry.TheVariants.{Occupied, Vacant}
 use Rattle.hashlink_map.specs.declared.entry.occupied.OccupiedEntry.{OccupiedEntry}
@@ -32,11 +28,11 @@ module _ {K V S : Type 0} where
       (λ j. (v : V) × (w : V) × (value_at old.map.entries j ≡ Some v) × FnOnceReturnsAtMut calls f v tt w
       × (new ≡ record old { map = with_value old.map j w }))
 
-module _ {K V S T : Type 0} {g : eq.Ghosts K} {h : hash.Ghosts K} {b : builder.Ghosts S T}
-    {w : hasher.Ghosts T} where
+module _ {K V S T : Type 0} {g : EqGhosts K} {h : HashGhosts K} {b : BuilderGhosts S T}
+    {w : HasherGhosts T} where
   -- ---- an occupied entry, which keeps its node as what stands for one
 
-  module _ {N : Type 0} {n : as_node.Ghosts N} where
+  module _ {N : Type 0} {n : NodeGhosts N} where
     -- the map that it borrows
     abbrev pub occupied_map : OccupiedEntry K V S N T g h b w n → MutBor (Keyed K V S)
     occupied_map o = o.map

@@ -2,10 +2,7 @@
 use Rattle.std.specs.Prelude.{[], length, Bool, Result, Ok, IfErr}
 use Rattle.std.specs.Borrow.{Fml, RattleType, MutBor, Lends, LendsSoOk}
 use mir.Syntax.{named}
-use Rattle.std.specs.declared.cmp.PartialEq as eq
-use Rattle.std.specs.declared.hash.Hash as hash
-use Rattle.std.specs.declared.hash.Hasher as hasher
-use Rattle.std.specs.declared.hash.BuildHasher as builder
+use Rattle.hashlink_map.specs.Bounds.{EqGhosts, HashGhosts, HasherGhosts, BuilderGhosts, NodeGhosts}
 use Rattle.std.specs.Map.{lookup}
 use Rattle.hashlink_model.specs.MapState.{MapState, Inserts, AddsEntry, RefusesEntry}
 use Rattle.hashlink_core.specs.Keyed.{state_of, entries_of}
@@ -13,7 +10,6 @@ use Rattle.hashlink_core.specs.Places.{Node}
 use Rattle.hashlink_core.specs.KeyedLends.{node_row, with_value_at}
 use Rattle.hashlink_map.specs.contracts.map.LinkedHashMap.{the_row}
 use Rattle.hashlink_map.specs.contracts.entry.occupied.OccupiedEntry as occupied
-use Rattle.hashlink_map.specs.declared.as_node.AsNode as as_node
 use Rattle.hashlink_map.specs.declared.entry.Entry.{Entry}
 use Rattle.hashlink_map.specs.declared.entry.occupied.OccupiedEntry.{OccupiedEntry}
 use Rattle.hashlink_map.specs.declared.entry.vacant.VacantEntry.{VacantEntry}
@@ -25,10 +21,10 @@ use Rattle.hashlink_map.specs.TryInsert.{FailsToInsert}
 abbrev pub PutsLast : {K V S : Type 0} → (K → K → Bool) → MapState K V S → MapState K V S → K → V → Type 0
 PutsLast eq old new k v = Inserts eq old new k v (length old.entries) (Ok (lookup (eq k) old.entries))
 
-module _ (K V S T : RattleType) {g : eq.Ghosts K.Denot} {h : hash.Ghosts K.Denot}
-    {b : builder.Ghosts S.Denot T.Denot}
-    {w : hasher.Ghosts T.Denot} where
-  module _ {n : as_node.Ghosts Node} where
+module _ (K V S T : RattleType) {g : EqGhosts K.Denot} {h : HashGhosts K.Denot}
+    {b : BuilderGhosts S.Denot T.Denot}
+    {w : HasherGhosts T.Denot} where
+  module _ {n : NodeGhosts Node} where
     -- the entry with what was written as its value. Its lifetime is the second of the signature
     abbrev pub LendsFromOccupied : MutBor (OccupiedEntry K.Denot V.Denot S.Denot Node T.Denot g h b w n)
         → MutBor V.Denot
@@ -37,7 +33,7 @@ module _ (K V S T : RattleType) {g : eq.Ghosts K.Denot} {h : hash.Ghosts K.Denot
         Lends (occupied.the_row (record { mir = named 1; lft = [] }) K V S node_row T g h b w n) V o r
         (occupied_with o.now)
 
-  module _ {N : Type 0} {n : as_node.Ghosts N} where
+  module _ {N : Type 0} {n : NodeGhosts N} where
     -- the map with what was written as the entry's value
     abbrev pub LendsForGood : OccupiedEntry K.Denot V.Denot S.Denot N T.Denot g h b w n → MutBor V.Denot → Fml
     LendsForGood o r = Lends (the_row K V S T g h b w) V o.map r (with_value_at o.map.now (n.node o.node))

@@ -2,8 +2,7 @@
 use Rattle.std.specs.Prelude.{Bool, IsSome}
 use Rattle.std.specs.Borrow.{Fml, RattleType, MutBor, Lends}
 use Rattle.std.specs.Map.{lookup}
-use Rattle.std.specs.declared.hash.Hasher as hasher
-use Rattle.std.specs.declared.hash.BuildHasher as builder
+use Rattle.hashlink_map.specs.Bounds.{HasherGhosts, BuilderGhosts}
 use Rattle.hashlink_model.specs.Entries.{place_or_end}
 use Rattle.hashlink_core.specs.Keyed.{Keyed, entries_of, pair_with_value}
 use Rattle.hashlink_core.specs.KeyedLends.{HashMembers}
@@ -21,6 +20,6 @@ module _ {K V S : Type 0} (eq : K → K → Bool) where
       record m { nodes = renewed_at (pair_with_value w) m.nodes (place_or_end eq (entries_of m) k) }
 
 -- the value of a key that is there is lent: the map ends with what was written there
-abbrev pub LendsIndexed : (K V S T : RattleType) (g : HashMembers K.Denot) → builder.Ghosts S.Denot T.Denot
-    → hasher.Ghosts T.Denot → MutBor (Keyed K.Denot V.Denot S.Denot) → K.Denot → MutBor V.Denot → Fml
+abbrev pub LendsIndexed : (K V S T : RattleType) (g : HashMembers K.Denot) → BuilderGhosts S.Denot T.Denot
+    → HasherGhosts T.Denot → MutBor (Keyed K.Denot V.Denot S.Denot) → K.Denot → MutBor V.Denot → Fml
 LendsIndexed K V S T g b w m k r = Lends (map_row K V S T g b w) V m r (with_value_at_key g.eq m.now k)

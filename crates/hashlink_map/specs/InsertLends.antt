@@ -1,16 +1,15 @@
 -- What a map ends as, once the value of a key that was inserted by its key has ended.
 use Rattle.std.specs.Prelude.{Result, IfErr}
 use Rattle.std.specs.Borrow.{Fml, RattleType, MutBor, LendsSoOk}
-use Rattle.std.specs.declared.hash.Hasher as hasher
-use Rattle.std.specs.declared.hash.BuildHasher as builder
+use Rattle.hashlink_map.specs.Bounds.{HasherGhosts, BuilderGhosts}
 use Rattle.hashlink_model.specs.MapState.{RefusesEntry}
 use Rattle.hashlink_core.specs.Keyed.{Keyed, state_of}
 use Rattle.hashlink_core.specs.KeyedLends.{HashMembers}
 use Rattle.hashlink_map.specs.EntryLends.{PutsLast}
 use Rattle.hashlink_map.specs.Lends.{map_row}
 
-module _ (K V S T : RattleType) (g : HashMembers K.Denot) (b : builder.Ghosts S.Denot T.Denot)
-    (w : hasher.Ghosts T.Denot) where
+module _ (K V S T : RattleType) (g : HashMembers K.Denot) (b : BuilderGhosts S.Denot T.Denot)
+    (w : HasherGhosts T.Denot) where
   -- the value of a key that is put last is lent: the map ends as an insert at the end of what was written
   -- leaves it, or as a refusal of the pair does
   abbrev pub LendsPutLast : MutBor (Keyed K.Denot V.Denot S.Denot) → K.Denot

@@ -1,18 +1,14 @@
 -- What a contract sees of the walks that lend values for writing, with the keys and without.
 use Rattle.std.specs.Borrow.{MutBor}
-use Rattle.std.specs.declared.cmp.PartialEq as eq
-use Rattle.std.specs.declared.hash.Hash as hash
-use Rattle.std.specs.declared.hash.Hasher as hasher
-use Rattle.std.specs.declared.hash.BuildHasher as builder
+use Rattle.hashlink_map.specs.Bounds.{EqGhosts, HashGhosts, HasherGhosts, BuilderGhosts, NodeGhosts}
 use Rattle.hashlink_core.specs.Keyed.{Keyed}
-use Rattle.hashlink_map.specs.declared.as_node.AsNode as as_node
 use Rattle.hashlink_map.specs.declared.iter_mut.IterMut.{IterMut}
 use Rattle.hashlink_map.specs.declared.values_mut.ValuesMut.{ValuesMut}
 use Rattle.hashlink_map.specs.WritingWalk.{WritingWalk, walk_in}
 
-module _ {K V S T : Type 0} {g : eq.Ghosts K} {h : hash.Ghosts K} {b : builder.Ghosts S T}
-    {w : hasher.Ghosts T}
-    {N : Type 0} {n : as_node.Ghosts N} where
+module _ {K V S T : Type 0} {g : EqGhosts K} {h : HashGhosts K} {b : BuilderGhosts S T}
+    {w : HasherGhosts T}
+    {N : Type 0} {n : NodeGhosts N} where
   -- the map that it borrows
   abbrev pub walk_map : IterMut K V S N T g h b w n → MutBor (Keyed K V S)
   walk_map i = i.map

@@ -3,16 +3,12 @@ use Rattle.std.specs.Prelude.{◌≡◌, ℕ, ◌-◌, [], Option, None, Some, O
 use Rattle.std.specs.Borrow.{Fml, RattleType, Bor, MutBor, Lends, LendsSo, follows_so, name_if_some}
 use Rattle.std.specs.Option.{option_map, option_copied_mut}
 use mir.Syntax.{named}
-use Rattle.std.specs.declared.cmp.PartialEq as eq
-use Rattle.std.specs.declared.hash.Hash as hash
-use Rattle.std.specs.declared.hash.Hasher as hasher
-use Rattle.std.specs.declared.hash.BuildHasher as builder
+use Rattle.hashlink_map.specs.Bounds.{EqGhosts, HashGhosts, HasherGhosts, BuilderGhosts, NodeGhosts}
 use Rattle.hashlink_core.specs.Keyed.{Keyed, entries_of}
 use Rattle.hashlink_core.specs.Places.{Node, place_number}
 use Rattle.hashlink_core.specs.KeyedLends.{node_row, with_value_at}
 use Rattle.hashlink_map.specs.contracts.iter_mut.IterMut as walk
 use Rattle.hashlink_map.specs.contracts.values_mut.ValuesMut as values
-use Rattle.hashlink_map.specs.declared.as_node.AsNode as as_node
 use Rattle.hashlink_map.specs.declared.iter_mut.IterMut.{IterMut}
 use Rattle.hashlink_map.specs.declared.values_mut.ValuesMut.{ValuesMut}
 use Rattle.hashlink_map.specs.IterMut.{walk_map, walk_state, values_map, values_state}
@@ -59,9 +55,9 @@ LentFrom {K} {V} m taken r =
 abbrev pub LentValue : {K V : Type 0} → Option (K × V) → Option (MutBor V) → Type 0
 LentValue e r = option_copied_mut r ≡ option_map (λ e. e.1) e
 
-module _ {K V S T : Type 0} {g : eq.Ghosts K} {h : hash.Ghosts K} {b : builder.Ghosts S T}
-    {w : hasher.Ghosts T}
-    {N : Type 0} {n : as_node.Ghosts N} where
+module _ {K V S T : Type 0} {g : EqGhosts K} {h : HashGhosts K} {b : BuilderGhosts S T}
+    {w : HasherGhosts T}
+    {N : Type 0} {n : NodeGhosts N} where
   -- the walk with v as the value of the node
   abbrev pub walk_with_value : IterMut K V S N T g h b w n → Node → V → IterMut K V S N T g h b w n
   walk_with_value i at v =
@@ -71,9 +67,9 @@ module _ {K V S T : Type 0} {g : eq.Ghosts K} {h : hash.Ghosts K} {b : builder.G
         stands = still_standing v ns (place_number ns (Some at)) i.stands;
       }
 
-module _ (K V S T : RattleType) {g : eq.Ghosts K.Denot} {h : hash.Ghosts K.Denot}
-    {b : builder.Ghosts S.Denot T.Denot}
-    {w : hasher.Ghosts T.Denot} {n : as_node.Ghosts Node} where
+module _ (K V S T : RattleType) {g : EqGhosts K.Denot} {h : HashGhosts K.Denot}
+    {b : BuilderGhosts S.Denot T.Denot}
+    {w : HasherGhosts T.Denot} {n : NodeGhosts Node} where
   -- the walk is `stepped`, with what was written at the place j; where none was left it is as it was. Its
   -- lifetime is the second of the signature
   abbrev pub LendsFromWalk : MutBor (IterMut K.Denot V.Denot S.Denot Node T.Denot g h b w n)

@@ -1,9 +1,8 @@
 -- What a map ends as, once a `&mut` to a value has ended.
 use Rattle.std.specs.Prelude.{◌≡◌, ℕ, ◌-◌, Bool, Option, OnSome, length, ⊤}
-use Rattle.std.specs.Borrow.{Fml, GName, RattleType, MutBor, Lends, LendsSo, follows, follows_so}
+use Rattle.std.specs.Borrow.{Fml, RattleType, MutBor, Lends, LendsSo, follows_so}
 use mathlib.Core.Option.{none}
-use Rattle.std.specs.declared.hash.Hasher as hasher
-use Rattle.std.specs.declared.hash.BuildHasher as builder
+use Rattle.hashlink_map.specs.Bounds.{HasherGhosts, BuilderGhosts}
 use Rattle.hashlink_model.specs.MapState.{with_value}
 use Rattle.hashlink_model.specs.Steps.{with_match_value, MovesMatchAndWrites}
 use Rattle.hashlink_core.specs.Keyed.{Keyed, state_of, entries_of}
@@ -11,14 +10,10 @@ use Rattle.hashlink_core.specs.KeyedLends.{HashMembers, with_value_at}
 use Rattle.hashlink_core.specs.Places.{Node}
 use Rattle.hashlink_map.specs.contracts.map.LinkedHashMap.{the_row}
 
-module _ (K V S T : RattleType) (g : HashMembers K.Denot) (b : builder.Ghosts S.Denot T.Denot)
-    (w : hasher.Ghosts T.Denot) where
+module _ (K V S T : RattleType) (g : HashMembers K.Denot) (b : BuilderGhosts S.Denot T.Denot)
+    (w : HasherGhosts T.Denot) where
   abbrev pub map_row : RattleType
   map_row = the_row K V S T (record { eq = g.eq }) (record { hash_input = g.hash_input }) b w
-
-  -- the map ends as what has it under this name leaves it
-  abbrev pub HandsOn : MutBor (Keyed K.Denot V.Denot S.Denot) → GName → Fml
-  HandsOn m name = follows map_row map_row m.ghost_name name (λ new. new)
 
   -- the map ends as it was
   abbrev pub StaysAsItWas : MutBor (Keyed K.Denot V.Denot S.Denot) → Fml

@@ -1,4 +1,5 @@
 -- What the contracts of the map cite, beside `hashlink_model`.
+pub mod Bounds
 pub mod Cloning
 pub mod Compared
 pub mod Cursor

@@ -5,10 +5,7 @@ use Rattle.std.specs.Borrow.{Fml, ftrue, RattleType, Bor, MutBor, Lends, RestsIf
 use Rattle.std.specs.Borrow.{name_if_ok}
 use mathlib.Core.Option.{none}
 use mir.Syntax.{named}
-use Rattle.std.specs.declared.cmp.PartialEq as eq
-use Rattle.std.specs.declared.hash.Hash as hash
-use Rattle.std.specs.declared.hash.Hasher as hasher
-use Rattle.std.specs.declared.hash.BuildHasher as builder
+use Rattle.hashlink_map.specs.Bounds.{EqGhosts, HashGhosts, HasherGhosts, BuilderGhosts, NodeGhosts}
 use Rattle.hashlink_model.specs.Entries.{place_of}
 use Rattle.hashlink_model.specs.MapState.{AddsEntry, RefusesEntry, MovesAt}
 use Rattle.hashlink_model.specs.Entry.{RawEntryState}
@@ -17,7 +14,6 @@ use Rattle.hashlink_core.specs.Places.{Node}
 use Rattle.hashlink_core.specs.KeyedLends.{HashMembers, node_row, with_value_at}
 use Rattle.hashlink_map.specs.contracts.map.LinkedHashMap.{the_row}
 use Rattle.hashlink_map.specs.contracts.raw_entry.occupied.RawOccupiedEntryMut as occupied
-use Rattle.hashlink_map.specs.declared.as_node.AsNode as as_node
 use Rattle.hashlink_map.specs.declared.raw_entry.RawEntryMut.{RawEntryMut}
 use Rattle.hashlink_map.specs.declared.raw_entry.occupied.RawOccupiedEntryMut.{RawOccupiedEntryMut}
 use Rattle.hashlink_map.specs.EntryLends.{PutsLast}
@@ -36,10 +32,10 @@ StandsLast eq old Given new =
     × MovesAt old.map new.map j (length es)
     × (new.place ≡ Some (length es - 1)))
 
-module _ (K V S T : RattleType) {g : eq.Ghosts K.Denot} {h : hash.Ghosts K.Denot}
-    {b : builder.Ghosts S.Denot T.Denot}
-    {w : hasher.Ghosts T.Denot} where
-  module _ {n : as_node.Ghosts Node} where
+module _ (K V S T : RattleType) {g : EqGhosts K.Denot} {h : HashGhosts K.Denot}
+    {b : BuilderGhosts S.Denot T.Denot}
+    {w : HasherGhosts T.Denot} where
+  module _ {n : NodeGhosts Node} where
     -- the entry with what was written as its value. Its lifetime is the second of the signature
     abbrev pub LendsFromRaw : MutBor (RawOccupiedEntryMut K.Denot V.Denot S.Denot Node T.Denot g h b w n)
         → MutBor V.Denot
@@ -81,7 +77,7 @@ module _ (K V S T : RattleType) {g : eq.Ghosts K.Denot} {h : hash.Ghosts K.Denot
       (λ u new. IfOk r (λ p. PutsLast g.eq (raw_state e).map (state_of new) p.0.now u))
       (λ new. IfErr r (λ pair. RefusesEntry g.eq (raw_state e).map (state_of new) pair.0 pair.1 pair))
 
-  module _ {N : Type 0} {n : as_node.Ghosts N} where
+  module _ {N : Type 0} {n : NodeGhosts N} where
     -- the map with what was written as the entry's value
     abbrev pub RawLendsForGood : RawOccupiedEntryMut K.Denot V.Denot S.Denot N T.Denot g h b w n
         → MutBor V.Denot
@@ -103,8 +99,8 @@ module _ (K V S T : RattleType) {g : eq.Ghosts K.Denot} {h : hash.Ghosts K.Denot
     LendsPairOf (Ok o) (Err e) = ftrue
     LendsPairOf (Err e) r = ftrue
 
-module _ (K V S T : RattleType) (g : HashMembers K.Denot) (b : builder.Ghosts S.Denot T.Denot)
-    (w : hasher.Ghosts T.Denot) where
+module _ (K V S T : RattleType) (g : HashMembers K.Denot) (b : BuilderGhosts S.Denot T.Denot)
+    (w : HasherGhosts T.Denot) where
   -- the map with the key and what was written put last, or as a refusal leaves it
   abbrev pub LendsNewPair : MutBor (Keyed K.Denot V.Denot S.Denot) → K.Denot → V.Denot
       → Result (Bor K.Denot × MutBor V.Denot) (K.Denot × V.Denot)

@@ -58,6 +58,15 @@ impl<'a, K: Eq + Hash, V: fmt::Debug, S: BuildHasher> fmt::Debug for ValuesMut<'
     }
 }
 
+/// Writes a tuple struct of this name with one field.
+fn debug_wrapped<T: fmt::Debug, W: fmt::Write>(
+    f: &mut fmt::Formatter<W>,
+    name: &str,
+    field: &T,
+) -> fmt::Result {
+    f.debug_tuple(name).field(field).finish()
+}
+
 /// Writes a struct of this name with a key and a value.
 fn debug_pair<K: fmt::Debug, V: fmt::Debug, W: fmt::Write>(
     f: &mut fmt::Formatter<W>,
@@ -75,8 +84,8 @@ impl<'a, K: Eq + Hash + fmt::Debug, V: fmt::Debug, S: BuildHasher> fmt::Debug
     for Entry<'a, K, V, S> {
     fn fmt<W: fmt::Write>(&self, f: &mut fmt::Formatter<W>) -> fmt::Result {
         match self {
-            Entry::Occupied(entry) => f.debug_tuple("Entry").field(entry).finish(),
-            Entry::Vacant(entry) => f.debug_tuple("Entry").field(entry).finish(),
+            Entry::Occupied(entry) => debug_wrapped(f, "Entry", entry),
+            Entry::Vacant(entry) => debug_wrapped(f, "Entry", entry),
         }
     }
 }
@@ -90,7 +99,7 @@ impl<'a, K: Eq + Hash + fmt::Debug, V: fmt::Debug, S: BuildHasher> fmt::Debug
 
 impl<'a, K: Eq + Hash + fmt::Debug, V, S: BuildHasher> fmt::Debug for VacantEntry<'a, K, V, S> {
     fn fmt<W: fmt::Write>(&self, f: &mut fmt::Formatter<W>) -> fmt::Result {
-        f.debug_tuple("VacantEntry").field(self.key()).finish()
+        debug_wrapped(f, "VacantEntry", self.key())
     }
 }
 
@@ -98,8 +107,8 @@ impl<'a, K: Eq + Hash + fmt::Debug, V: fmt::Debug, S: BuildHasher> fmt::Debug
     for RawEntryMut<'a, K, V, S> {
     fn fmt<W: fmt::Write>(&self, f: &mut fmt::Formatter<W>) -> fmt::Result {
         match self {
-            RawEntryMut::Occupied(entry) => f.debug_tuple("RawEntry").field(entry).finish(),
-            RawEntryMut::Vacant(entry) => f.debug_tuple("RawEntry").field(entry).finish(),
+            RawEntryMut::Occupied(entry) => debug_wrapped(f, "RawEntry", entry),
+            RawEntryMut::Vacant(entry) => debug_wrapped(f, "RawEntry", entry),
         }
     }
 }

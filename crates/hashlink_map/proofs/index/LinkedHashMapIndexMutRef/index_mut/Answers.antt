@@ -1,5 +1,5 @@
-use Rattle.hashlink_map.proofs.Names.{◌≡◌, None, refl, ap, subst, sym, ◌∙◌, MatchOption, lookup, place_of}
-use Rattle.hashlink_map.proofs.Names.{HoldsKey, entries_of, HasKey, with_value_at_key, stored-value}
+use Rattle.hashlink_map.proofs.Names.{◌≡◌, None, refl, subst, sym, MatchOption, place_of, HoldsKey}
+use Rattle.hashlink_map.proofs.Names.{entries_of, HasKey, stored-value}
 use Rattle.hashlink_map.proofs.Indexing.{found_there, written_there}
 use Rattle.hashlink_map.proofs.index.LinkedHashMapIndexMutRef.index_mut.Goals as goal
 
@@ -18,14 +18,11 @@ returns g c =
     let n = c.unwrap-node.result in
     let found =
     subst (λ o. MatchOption o (place_of (eq k) (entries_of m) ≡ None) (HoldsKey eq m.nodes k))
-    c.unwrap-node.ensures c.find.ensures.found in (
-      (
-        refl,
-        λ w. written_there eq m k n found w ∙ ap (λ l. with_value_at_key eq l k w) c.self.view_is,
-      ),
+    c.unwrap-node.ensures c.find.ensures.found in
+    rw (← c.self.view_is) (
+      (refl, written_there eq m k n found),
       record {
         lends = tt;
-        value = sym (ap (λ l. lookup (eq k) (entries_of l)) c.self.view_is)
-            ∙ stored-value (eq k) m m n found c.value_mut.result.now c.value_mut.ensures.value;
+        value = stored-value (eq k) m m n found c.value_mut.result.now c.value_mut.ensures.value;
       },
     )

@@ -1,8 +1,8 @@
-use Rattle.hashlink_map.proofs.Names.{◌≡◌, ℕ, ◌<◌, List, ◌∷◌, length, Some, ap, arith, sym, length-drop, ◌∙◌}
-use Rattle.hashlink_map.proofs.Names.{slice_get, deref_pair, following_place, entries_of, place_number}
-use Rattle.hashlink_map.proofs.Names.{drop-at, following-within}
-use Rattle.std.proofs.Common.{drop}
+use Rattle.hashlink_map.proofs.Names.{◌≡◌, ℕ, ◌<◌, List, ◌∷◌, length, Some, ap, arith, sym, ◌∙◌, slice_get}
+use Rattle.hashlink_map.proofs.Names.{deref_pair, following_place, entries_of, place_number, following-within}
+use Rattle.std.proofs.Common.{drop, length-drop}
 use Rattle.hashlink_map.proofs.iter_from.IterFromIterator.next.Goals as goal
+use Rattle.hashlink_core.proofs.Edits.{drop-at}
 
 -- the entry at a place, and those from the place after it on
 from-following : {X : Type 0} (xs : List X) (i j : ℕ) (x : X) → slice_get xs i ≡ Some x

@@ -3,28 +3,19 @@ use Rattle.hashlink_map.proofs.Walking.{taken-written, first-taken}
 use Rattle.hashlink_map.proofs.iter_mut.IterMut+K+V+S.next_value.Goals as goal
 
 pub invariant_of-self-lent : goal.invariant_of-self-lent
-invariant_of-self-lent g c w = (
-  still_standing w c.args.self.now.map.now.nodes _ c.in-Some.ensures.stands,
-  tt,
-)
+invariant_of-self-lent g c w = (still_standing w c.args.self.now.map.now.nodes _ c.in-Some.ensures.stands, tt)
 
 pub returns-in-Some : goal.returns-in-Some
 returns-in-Some g c =
     let o = c.args.self.now in
-    let n = c.in-Some.node in
-    let takes = c.in-Some.ensures.takes in (
-      (
-        refl,
-        (λ w.
-            let step = taken-written o.map.now o.places c.take_first.new.self n _ _ takes w in
-            ((refl, step), ap (λ s. s.left) step)),
-        tt,
-      ),
+    let takes = c.in-Some.ensures.takes in
+    let step = taken-written o.map.now o.places c.take_first.new.self c.in-Some.node _ _ takes in (
+      (refl, (λ w. ((refl, step w), ap (λ s. s.left) (step w))), tt),
       record {
         lends = tt;
         value =
             sym c.value_at_mut.ensures.value
-            ∙ ap (option_map (λ e. e.1)) (first-taken o.map.now o.places n _ _ takes);
+            ∙ ap (option_map (λ e. e.1)) (first-taken o.map.now o.places c.in-Some.node _ _ takes);
         left = takes.2;
       },
     )

@@ -1,14 +1,11 @@
 use Rattle.hashlink_map.proofs.Names.{◌≡◌, ap, arith, sym, ◌∙◌, slice_get, entries_of, place_number}
-use Rattle.hashlink_map.proofs.Names.{walk_state}
-use Rattle.hashlink_map.proofs.Walking.{first-of_part, first-placed, same-place, stands-inside}
+use Rattle.hashlink_map.proofs.Walking.{first-of_part, first-placed, same-place}
 use Rattle.hashlink_map.proofs.iter_mut.IterMut+K+V+S.peek.Goals as goal
+use Rattle.hashlink_map.specs.IterMut.{walk_state}
 
 pub pair_at_place-requires : goal.pair_at_place-requires
 pair_at_place-requires g c =
-    let s = c.args.self.now in
-    let p = s.places in
-    first-placed s.map.now.nodes p.first p.last p.left (stands-inside p.first p.last s.stands)
-    c.if-self-eq0.false
+    let s = c.args.self.now in first-placed s.map.now s.places s.stands c.if-self-eq0.false
 
 pub returns-clause-pair : goal.returns-clause-pair
 returns-clause-pair g c =

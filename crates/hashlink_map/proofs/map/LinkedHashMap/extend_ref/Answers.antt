@@ -1,7 +1,7 @@
-use Rattle.hashlink_map.proofs.Names.{rules, [], on_ok_weaker, IfErr-weaker, deref_pair, AcceptsAll, StopsAt}
-use Rattle.hashlink_map.proofs.Names.{InsertsPair, state_of}
+use Rattle.hashlink_map.proofs.Names.{rules, [], deref_pair, AcceptsAll, StopsAt, InsertsPair, state_of}
 use Rattle.hashlink_map.proofs.Copying.{mapped_all, mapped_some}
 use Rattle.hashlink_map.proofs.map.LinkedHashMap.extend_ref.Goals as goal
+use Rattle.std.proofs.lemmas.Result.{on_ok_weaker, IfErr-weaker}
 
 pub returns-clause-all : goal.returns-clause-all
 returns-clause-all g c =

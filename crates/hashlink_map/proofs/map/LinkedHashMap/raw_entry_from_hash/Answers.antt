@@ -1,6 +1,6 @@
-use Rattle.hashlink_map.proofs.Names.{sym, rules, entries_of, holds-passes, lookup_entry-place}
-use Rattle.hashlink_map.proofs.Names.{lookup_entry-unplaced}
+use Rattle.hashlink_map.proofs.Names.{sym, rules, entries_of, lookup_entry-place, lookup_entry-unplaced}
 use Rattle.hashlink_map.proofs.map.LinkedHashMap.raw_entry_from_hash.Goals as goal
+use Rattle.hashlink_core.proofs.Holding.{holds-passes}
 
 pub returns-in-Some-clause-pair : goal.returns-in-Some-clause-pair
 returns-in-Some-clause-pair g c k told =

@@ -1,16 +1,15 @@
-use Rattle.hashlink_map.proofs.Names.{length, refl, ap, sym, subst, ◌∙◌, arith, lookup, IsEntries}
-use Rattle.hashlink_map.proofs.Names.{MovesMatchAndWrites, following_place-guard, entries_of, state_of}
-use Rattle.hashlink_map.proofs.Names.{with_value_at, moved-found, lent-moved, moved-value, lookup-unplaced}
+use Rattle.hashlink_map.proofs.Names.{length, refl, sym, arith, following_place-guard, moved-found}
+use Rattle.hashlink_map.proofs.Names.{lent-moved, moved-value, lookup-unplaced}
 use Rattle.hashlink_map.proofs.map.LinkedHashMap.to_front.Goals as goal
 
 pub value_mut-requires : goal.value_mut-requires
 value_mut-requires g c =
     let m = c.self.inside.list in
+    let s = c.move_after.ensures in
     (moved-found g.K.PartialEq.eq g.met.K.Eq.laws (g.Q.Equivalent.matches c.args.key)
-    (g.met.Q.Equivalent.finds_equal c.args.key) m c.move_after.new.self c.in-Some.node
-    c.in-Some.ensures.found 0 _ (following_place-guard (length m.nodes))
-    (omega (arith, following_place-guard (length m.nodes))) c.move_after.ensures.moved
-    c.move_after.ensures.sound).within
+    (g.met.Q.Equivalent.finds_equal c.args.key) m c.move_after.new.self c.in-Some.node c.in-Some.ensures.found
+    0 _ (following_place-guard (length m.nodes))
+    (omega (arith, following_place-guard (length m.nodes))) s.moved s.sound).within
 
 pub returns-in-Some : goal.returns-in-Some
 returns-in-Some g c =
@@ -22,38 +21,32 @@ returns-in-Some g c =
     let m = c.self.inside.list in
     let new = c.move_after.new.self in
     let s = c.move_after.ensures in
-    let found = c.in-Some.ensures.found in (
+    let e = c.in-Some.ensures in
+    rw (← c.self.view_is) (
       (
         refl,
-        λ w. subst (λ l. MovesMatchAndWrites test (state_of l) (state_of (with_value_at new n w)) 0 w)
-            c.self.view_is
-            (lent-moved eq laws test tells m new n found 0 _ (following_place-guard (length m.nodes))
-            (omega (arith, following_place-guard (length m.nodes))) s.moved s.sound w),
+        lent-moved eq laws test tells m new n e.found 0 _ (following_place-guard (length m.nodes))
+            (omega (arith, following_place-guard (length m.nodes))) s.moved
+            s.sound,
         refl,
       ),
       record {
         lends = tt;
-        value =
-            sym
-            (moved-value eq laws test tells m new n found 0 _ (following_place-guard (length m.nodes))
-            (omega (arith, following_place-guard (length m.nodes))) s.moved s.sound c.value_mut.result.now
-            c.value_mut.ensures.value c.in-Some.ensures.sound.distinct)
-            ∙ ap (λ l. lookup test (entries_of l)) c.self.view_is;
-        distinct = subst (λ l. IsEntries eq (entries_of l)) c.self.view_is c.in-Some.ensures.sound.distinct;
+        value = sym (moved-value eq laws test tells m new n e.found 0 _ (following_place-guard (length m.nodes))
+            (omega (arith, following_place-guard (length m.nodes)))
+            s.moved s.sound c.value_mut.result.now c.value_mut.ensures.value e.sound.distinct);
+        distinct = e.sound.distinct;
       },
     )
 
 pub returns-in-None : goal.returns-in-None
 returns-in-None g c =
-    let test = g.Q.Equivalent.matches c.args.key in (
-      (refl, λ w. tt, ap state_of c.self.view_is),
+    let e = c.in-None.ensures in
+    rw (← c.self.view_is) (
+      (refl, λ w. tt, refl),
       record {
         lends = tt;
-        value =
-            sym (lookup-unplaced test (entries_of c.self.inside.list) c.in-None.ensures.found)
-            ∙ ap (λ l. lookup test (entries_of l)) c.self.view_is;
-        distinct =
-            subst (λ l. IsEntries g.K.PartialEq.eq (entries_of l)) c.self.view_is
-            c.in-None.ensures.sound.distinct;
+        value = sym (lookup-unplaced (g.Q.Equivalent.matches c.args.key) _ e.found);
+        distinct = e.sound.distinct;
       },
     )

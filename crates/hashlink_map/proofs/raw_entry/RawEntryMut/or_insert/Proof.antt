@@ -1,10 +1,9 @@
 -- `or_insert` lends the pair of the entry that `or_insert_entry` answers.
-use Rattle.hashlink_map.proofs.Names.{◌≡◌, [], ◌∷◌, refl, ftrue, fsep, ent, via, ‵, raw, ◌$◌, ◌∵◌, !, qed}
-use Rattle.hashlink_map.proofs.Names.{done, move, fjoin, sem, of_opd, and_then, no_more, returns, enter}
-use Rattle.hashlink_map.proofs.Names.{alloc_all, pass_all, free_all, look_at, get, sets, lands_as, Lfts}
-use Rattle.hashlink_map.proofs.Names.{tables, no, Last, left, rest, param, param_laws, plain, nothing}
-use Rattle.hashlink_map.proofs.Names.{calls_from, framed, stay_dropped, Goes-dropped, IfOk, MatchOption}
-use Rattle.hashlink_map.proofs.Names.{raw_map, raw_state, raw_pair}
+use Rattle.hashlink_map.proofs.Names.{◌≡◌, [], ◌∷◌, refl, ftrue, fsep, ent, via, sem, of_opd, and_then}
+use Rattle.hashlink_map.proofs.Names.{no_more, returns, enter, alloc_all, pass_all, free_all, look_at, get}
+use Rattle.hashlink_map.proofs.Names.{sets, lands_as, Lfts, tables, no, Last, left, rest, param, param_laws}
+use Rattle.hashlink_map.proofs.Names.{plain, nothing, calls_from, framed, stay_dropped, Goes-dropped, IfOk}
+use Rattle.hashlink_map.proofs.Names.{MatchOption, raw_map, raw_state, raw_pair}
 use Rattle.hashlink_map.specs.declared.raw_entry.RawEntryMut.TheVariants as found
 use Rattle.hashlink_map.proofs.EnterAndLend.{all_five, entered_and_lent, returned}
 use Rattle.hashlink_map.proofs.LastMoved.{given_parts}
@@ -16,6 +15,7 @@ use Rattle.hashlink_map.proofs.raw_entry.RawEntryMut.or_insert_entry.Met as ente
 use Rattle.hashlink_map.proofs.raw_entry.occupied.RawOccupiedEntryMut+K+V+S.pair_of.Met as lent
 use Rattle.hashlink_map.proofs.raw_entry.RawEntryMut.or_insert.Statement.{statement}
 use Rattle.hashlink_map.proofs.raw_entry.RawEntryMut.or_insert.Code as code
+use types.Kit.{‵, raw, ◌$◌, ◌∵◌, !, qed, done, move, fjoin}
 
 pub or_insert_spec : {M : Type 1} → statement M
 or_insert_spec 𝓤 𝓛 𝓜 𝓡 wired K V S T LK LV LS LT e de p dp h dh b db w dw dd dk dv me mp mh mb mw md mk mv =

@@ -1,5 +1,4 @@
-use Rattle.hashlink_map.proofs.Names.{◌≡◌, None, Some, refl, sym, subst, IfOk, IfErr, OnErr, RefusesEntry}
-use Rattle.hashlink_map.proofs.Names.{state_of, place_number, raw_state, raw_occupied_state, StandsLast}
+use Rattle.hashlink_map.proofs.Names.{None, Some, refl, state_of, place_number}
 use Rattle.hashlink_map.proofs.LastMoved.{moved_stands, new_stands, handed_given, refuses_handed, none_at}
 use Rattle.hashlink_map.proofs.raw_entry.RawEntryMut.or_insert_entry_with.Goals as goal
 
@@ -7,19 +6,14 @@ pub returns-in-Occupied : goal.returns-in-Occupied
 returns-in-Occupied g c =
     let o = c.in-Occupied.entry in
     let new = c.move_to_back.new.self in
-    let last = place_number new.nodes (Some o.node) in
     let m = c.move_to_back.ensures in
-    let Given : g.row.K.Denot × g.row.V.Denot → Type 0 = g.F.FnOnce.post c.args.default tt in (
+    rw c.in-Occupied.is (
       (refl, (λ w. refl), tt),
       record {
         hands_on = tt;
-        last = subst
-            (λ e. StandsLast g.K.PartialEq.eq (raw_state e) Given
-            (record { map = state_of new; place = Some last }))
-            (sym c.in-Occupied.is)
-            (moved_stands g.met.K.Eq.laws o.map.now o.node o.stands (state_of new) last
-            Given m.moves m.stays.place
-            m.distinct);
+        last = moved_stands g.met.K.Eq.laws o.map.now o.node o.stands (state_of new)
+            (place_number new.nodes (Some o.node)) (g.F.FnOnce.post c.args.default tt) m.moves m.stays.place
+            m.distinct;
         handed_back = tt;
         vacant = tt;
       },
@@ -33,24 +27,18 @@ returns-in-Vacant g c =
     let made = c.default-key in
     let pair = made.result in
     let Given : g.row.K.Denot × g.row.V.Denot → Type 0 = g.F.FnOnce.post c.args.default tt in
-    let old = state_of c.in-Vacant.entry.map.now in (
+    let old = state_of c.in-Vacant.entry.map.now in
+    rw c.in-Vacant.is (
       (
         refl,
         f.holds,
-        subst
-            (λ s. OnErr r (IfErr r
-            (λ p. RefusesEntry g.K.PartialEq.eq (raw_state s).map (state_of f.lender-at-none) p.0 p.1 p)))
-            (sym c.in-Vacant.is)
-            (refuses_handed g.K.PartialEq.eq old
-            (state_of f.lender-at-none) pair.0 pair.1 r f.holds-at-none e.handed_back),
+        refuses_handed g.K.PartialEq.eq old (state_of f.lender-at-none) pair.0 pair.1 r f.holds-at-none
+            e.handed_back,
       ),
       record {
         hands_on = tt;
-        last = subst
-            (λ s. IfOk r (λ o. StandsLast g.K.PartialEq.eq (raw_state s) Given (raw_occupied_state o)))
-            (sym c.in-Vacant.is)
-            (new_stands old pair Given made.ensures r e.adds e.last);
+        last = new_stands old pair Given made.ensures r e.adds e.last;
         handed_back = handed_given old pair Given made.ensures r e.handed_back;
-        vacant = subst (λ s. OnErr r ((raw_state s).place ≡ None)) (sym c.in-Vacant.is) (none_at r None);
+        vacant = none_at r None;
       },
     )

@@ -1,10 +1,9 @@
 -- `or_insert_with` lends the pair of the entry that `or_insert_entry_with` answers.
-use Rattle.hashlink_map.proofs.Names.{◌≡◌, [], ◌∷◌, refl, ftrue, fsep, ent, sep, via, ‵, raw, ◌$◌, ◌∵◌, ! }
-use Rattle.hashlink_map.proofs.Names.{qed, done, move, fjoin, sem, of_opd, and_then, no_more, returns, enter}
-use Rattle.hashlink_map.proofs.Names.{alloc_all, pass_all, free_all, look_at, get, sets, lands_as, ◌⊑◌, Lfts}
-use Rattle.hashlink_map.proofs.Names.{fact, tables, no, Last, left, rest, param, param_laws, plain, nothing}
-use Rattle.hashlink_map.proofs.Names.{calls_from, framed, stay_dropped, Goes-dropped, IfOk, MatchOption}
-use Rattle.hashlink_map.proofs.Names.{raw_map, raw_state, raw_pair}
+use Rattle.hashlink_map.proofs.Names.{◌≡◌, [], ◌∷◌, refl, ftrue, fsep, ent, sep, via, sem, of_opd, and_then}
+use Rattle.hashlink_map.proofs.Names.{no_more, returns, enter, alloc_all, pass_all, free_all, look_at, get}
+use Rattle.hashlink_map.proofs.Names.{sets, lands_as, ◌⊑◌, Lfts, fact, tables, no, Last, left, rest, param}
+use Rattle.hashlink_map.proofs.Names.{param_laws, plain, nothing, calls_from, framed, stay_dropped}
+use Rattle.hashlink_map.proofs.Names.{Goes-dropped, IfOk, MatchOption, raw_map, raw_state, raw_pair}
 use Rattle.hashlink_map.specs.declared.raw_entry.RawEntryMut.TheVariants as found
 use Rattle.hashlink_map.proofs.EnterAndLend.{but_last, entered_and_lent, returned}
 use Rattle.hashlink_map.proofs.PairRows.{Answer, Entered, Found, found_laws}
@@ -15,6 +14,7 @@ use Rattle.hashlink_map.proofs.raw_entry.RawEntryMut.or_insert_entry_with.Met as
 use Rattle.hashlink_map.proofs.raw_entry.occupied.RawOccupiedEntryMut+K+V+S.pair_of.Met as lent
 use Rattle.hashlink_map.proofs.raw_entry.RawEntryMut.or_insert_with.Statement.{statement}
 use Rattle.hashlink_map.proofs.raw_entry.RawEntryMut.or_insert_with.Code as code
+use types.Kit.{‵, raw, ◌$◌, ◌∵◌, !, qed, done, move, fjoin}
 
 pub or_insert_with_spec : {M : Type 1} → statement M
 or_insert_with_spec 𝓤 𝓛 𝓜 𝓡 wired K V S T F LK LV LS LT LF e de p dp h dh b db w dw dd x dx dt me mp mh mb mw

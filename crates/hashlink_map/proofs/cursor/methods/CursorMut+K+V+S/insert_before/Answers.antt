@@ -1,5 +1,5 @@
 use Rattle.hashlink_map.proofs.Names.{sym, subst, Inserts, state_of, place_number, cursor_node}
-use Rattle.hashlink_map.proofs.Written.{same_place}
+use Rattle.hashlink_map.proofs.Walking.{same-place}
 use Rattle.hashlink_map.proofs.cursor.methods.CursorMut+K+V+S.insert_before.Goals as goal
 
 pub invariant_of-self : goal.invariant_of-self
@@ -16,6 +16,6 @@ returns-clause-inserts g c =
           (λ p. Inserts g.K.PartialEq.eq (state_of s.map.now) (state_of c.insert_at.new.self)
           c.args.key c.args.value
           (place_number s.map.now.nodes p) c.insert_at.result)
-          (sym (same_place s.place)) c.insert_at.ensures.inserts;
+          (sym (same-place s.place)) c.insert_at.ensures.inserts;
       place = (c.insert_at.ensures.keeps (cursor_node s) s.within).number;
     }

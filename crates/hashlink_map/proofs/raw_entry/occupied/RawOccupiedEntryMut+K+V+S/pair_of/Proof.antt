@@ -1,18 +1,13 @@
 -- `pair_of` lends the pair of an entry that is there, and hands the other on.
-use Rattle.hashlink_map.proofs.Names.{◌≡◌, List, [], ◌∷◌, ◌++◌, refl, sym, ap, subst, ◌∙◌, lit<, SProp, ent}
-use Rattle.hashlink_map.proofs.Names.{id⊢, via, emp, ftrue, flft, fsep, a_type, dcons, dnil, inst_fn, Val}
-use Rattle.hashlink_map.proofs.Names.{of_list, vstruct, WpFn, Wp, after_seq, sem, ‵, raw, ◌⊛◌, some, later}
-use Rattle.hashlink_map.proofs.Names.{at_ret, any_q, post, ◌$◌, ◌∵◌, !, qed, by, move, keep, drop, split}
-use Rattle.hashlink_map.proofs.Names.{join, fsplit, fjoin, pick, await, rewrite, use0, use1, suffices, done}
-use Rattle.hashlink_map.proofs.Names.{live, vrt, in_variant, whole, agg, stop, fld, of_opd, lit, and_then}
-use Rattle.hashlink_map.proofs.Names.{no_more, first, switches_on, exec, returns, enter, alloc_all, pass_all}
-use Rattle.hashlink_map.proofs.Names.{free_all, look_at, get, get_in, get_tag, sets, sets_last, lands_as, env}
-use Rattle.hashlink_map.proofs.Names.{fact, fact_i, Lfts, tables, no, Last, left, Is, shows, Typed, bounded}
-use Rattle.hashlink_map.proofs.Names.{layout, param, Laws, Good, RattleType, owns, mut_vals, shr_vals}
-use Rattle.hashlink_map.proofs.Names.{types_at, plain, nothing, peeks, only, calls_at, lasts, Lasts}
-use Rattle.hashlink_map.proofs.Names.{triple_of, framed, Stays, stay_dropped, walk_of, after, head, arm_body}
-use Rattle.hashlink_map.proofs.Names.{proved_at, leaves, ok_of, err_of, Ok, Err, slice_get}
-use Rattle.hashlink_map.proofs.Names.{raw_occupied_state, raw_place, RawLendsForGood}
+use Rattle.hashlink_map.proofs.Names
+use Names.{◌≡◌, List, [], ◌∷◌, ◌++◌, refl, sym, ap, subst, ◌∙◌, lit<, SProp, ent, id⊢, via, emp, ftrue, flft}
+use Names.{fsep, a_type, dcons, dnil, inst_fn, Val, of_list, vstruct, WpFn, Wp, after_seq, sem, live, vrt}
+use Names.{in_variant, whole, agg, stop, fld, of_opd, lit, and_then, no_more, first, switches_on, exec}
+use Names.{returns, enter, alloc_all, pass_all, free_all, look_at, get, get_in, get_tag, sets, sets_last}
+use Names.{lands_as, env, fact, fact_i, Lfts, tables, no, Last, left, Is, shows, Typed, bounded, layout}
+use Names.{param, Laws, Good, RattleType, owns, mut_vals, shr_vals, types_at, plain, nothing, peeks, only}
+use Names.{calls_at, lasts, Lasts, triple_of, framed, Stays, stay_dropped, walk_of, after, head, arm_body}
+use Names.{proved_at, leaves, Ok, Err, slice_get, raw_occupied_state, raw_place, RawLendsForGood}
 use Rattle.std.specs.Prelude.{Some}
 use Rattle.hashlink_map.proofs.PairRows.{Given, given_laws, Lent, Answer, Held, held_laws, Entered}
 use Rattle.hashlink_map.proofs.PairRows.{entered_laws}
@@ -22,6 +17,9 @@ use Rattle.hashlink_map.specs.contracts.raw_entry.occupied.RawOccupiedEntryMut+K
 use Rattle.hashlink_map.proofs.raw_entry.occupied.RawOccupiedEntryMut+K+V+S.into_key_value.Met.{met}
 use Rattle.hashlink_map.proofs.raw_entry.occupied.RawOccupiedEntryMut+K+V+S.pair_of.Statement.{statement}
 use Rattle.hashlink_map.proofs.raw_entry.occupied.RawOccupiedEntryMut+K+V+S.pair_of.Code as code
+use types.Kit.{‵, raw, ◌⊛◌, some, later, at_ret, any_q, post, ◌$◌, ◌∵◌, !, qed, by, move, keep, drop, split}
+use types.Kit.{join, fsplit, fjoin, pick, await, rewrite, use0, use1, suffices, done}
+use Rattle.std.proofs.ResultValues.{ok_of, err_of}
 
 pub pair_of_spec : {M : Type 1} → statement M
 pair_of_spec 𝓤 𝓛 𝓜 𝓡 wired K V S T LK LV LS LT e de p dp h dh b db w dw dd me mp mh mb mw md =

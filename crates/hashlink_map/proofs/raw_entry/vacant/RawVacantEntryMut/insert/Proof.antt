@@ -1,9 +1,8 @@
 -- `insert` lends the pair of the entry that `insert_entry` answers.
-use Rattle.hashlink_map.proofs.Names.{[], ◌∷◌, refl, ftrue, fsep, via, ‵, raw, ◌$◌, ◌∵◌, !, qed, done, fjoin}
-use Rattle.hashlink_map.proofs.Names.{sem, of_opd, and_then, no_more, returns, enter, alloc_all, pass_all}
-use Rattle.hashlink_map.proofs.Names.{free_all, look_at, get, sets, lands_as, Lfts, tables, no, param}
-use Rattle.hashlink_map.proofs.Names.{param_laws, plain, nothing, calls_from, framed, stay_dropped}
-use Rattle.hashlink_map.proofs.Names.{Goes-dropped}
+use Rattle.hashlink_map.proofs.Names.{[], ◌∷◌, refl, ftrue, fsep, via, sem, of_opd, and_then, no_more}
+use Rattle.hashlink_map.proofs.Names.{returns, enter, alloc_all, pass_all, free_all, look_at, get, sets}
+use Rattle.hashlink_map.proofs.Names.{lands_as, Lfts, tables, no, param, param_laws, plain, nothing}
+use Rattle.hashlink_map.proofs.Names.{calls_from, framed, stay_dropped, Goes-dropped}
 use Rattle.hashlink_map.proofs.EnterAndLend.{all_five, entered_and_lent, returned}
 use Rattle.hashlink_map.proofs.PairRows.{Answer, Entered, Vacant, vacant_laws}
 use Rattle.hashlink_map.proofs.PairValues.{value_of}
@@ -13,6 +12,7 @@ use Rattle.hashlink_map.proofs.raw_entry.vacant.RawVacantEntryMut.insert_entry.M
 use Rattle.hashlink_map.proofs.raw_entry.occupied.RawOccupiedEntryMut+K+V+S.pair_of.Met as lent
 use Rattle.hashlink_map.proofs.raw_entry.vacant.RawVacantEntryMut.insert.Statement.{statement}
 use Rattle.hashlink_map.proofs.raw_entry.vacant.RawVacantEntryMut.insert.Code as code
+use types.Kit.{‵, raw, ◌$◌, ◌∵◌, !, qed, done, fjoin}
 
 pub insert_spec : {M : Type 1} → statement M
 insert_spec 𝓤 𝓛 𝓜 𝓡 wired K V S T LK LV LS LT e de p dp h dh b db w dw dd me mp mh mb mw md =

@@ -1,9 +1,8 @@
 -- `insert_hashed_nocheck` lends the pair of the entry that `insert_entry_hashed_nocheck` answers.
-use Rattle.hashlink_map.proofs.Names.{[], ◌∷◌, refl, ftrue, fsep, sep, via, w64, vint, ‵, raw, ◌$◌, ◌∵◌, ! }
-use Rattle.hashlink_map.proofs.Names.{qed, done, fjoin, sem, of_opd, and_then, no_more, returns, enter}
-use Rattle.hashlink_map.proofs.Names.{alloc_all, pass_all, free_all, look_at, get, sets, lands_as, Lfts}
-use Rattle.hashlink_map.proofs.Names.{tables, u64, no, yes, param, param_laws, plain, nothing, calls_from}
-use Rattle.hashlink_map.proofs.Names.{framed, stay_dropped, Goes-dropped}
+use Rattle.hashlink_map.proofs.Names.{[], ◌∷◌, refl, ftrue, fsep, sep, via, w64, vint, sem, of_opd, and_then}
+use Rattle.hashlink_map.proofs.Names.{no_more, returns, enter, alloc_all, pass_all, free_all, look_at, get}
+use Rattle.hashlink_map.proofs.Names.{sets, lands_as, Lfts, tables, u64, no, yes, param, param_laws, plain}
+use Rattle.hashlink_map.proofs.Names.{nothing, calls_from, framed, stay_dropped, Goes-dropped}
 use Rattle.hashlink_map.proofs.EnterAndLend.{all_five, entered_and_lent, returned}
 use Rattle.hashlink_map.proofs.PairRows.{Answer, Entered, Vacant, vacant_laws}
 use Rattle.hashlink_map.proofs.PairValues.{value_of}
@@ -13,6 +12,7 @@ use Rattle.hashlink_map.proofs.raw_entry.vacant.RawVacantEntryMut.insert_entry_h
 use Rattle.hashlink_map.proofs.raw_entry.occupied.RawOccupiedEntryMut+K+V+S.pair_of.Met as lent
 use Rattle.hashlink_map.proofs.raw_entry.vacant.RawVacantEntryMut.insert_hashed_nocheck.Statement.{statement}
 use Rattle.hashlink_map.proofs.raw_entry.vacant.RawVacantEntryMut.insert_hashed_nocheck.Code as code
+use types.Kit.{‵, raw, ◌$◌, ◌∵◌, !, qed, done, fjoin}
 
 pub insert_hashed_nocheck_spec : {M : Type 1} → statement M
 insert_hashed_nocheck_spec 𝓤 𝓛 𝓜 𝓡 wired K V S T LK LV LS LT e de p dp h dh b db w dw dd me mp mh mb mw md =

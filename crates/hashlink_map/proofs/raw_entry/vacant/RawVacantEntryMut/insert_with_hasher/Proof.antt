@@ -1,9 +1,8 @@
 -- `insert_with_hasher` lends the pair of the entry that `insert_entry_with_hasher` answers.
-use Rattle.hashlink_map.proofs.Names.{[], ◌∷◌, refl, ftrue, fsep, sep, via, w64, vint, ‵, raw, ◌$◌, ◌∵◌, ! }
-use Rattle.hashlink_map.proofs.Names.{qed, done, fjoin, sem, of_opd, and_then, no_more, returns, enter}
-use Rattle.hashlink_map.proofs.Names.{alloc_all, pass_all, free_all, look_at, get, sets, lands_as, ◌⊑◌, Lfts}
-use Rattle.hashlink_map.proofs.Names.{fact, tables, u64, no, yes, param, param_laws, plain, nothing}
-use Rattle.hashlink_map.proofs.Names.{calls_from, framed, stay_dropped, Goes-dropped}
+use Rattle.hashlink_map.proofs.Names
+use Names.{[], ◌∷◌, refl, ftrue, fsep, sep, via, w64, vint, sem, of_opd, and_then, no_more, returns, enter}
+use Names.{alloc_all, pass_all, free_all, look_at, get, sets, lands_as, ◌⊑◌, Lfts, fact, tables, u64, no, yes}
+use Names.{param, param_laws, plain, nothing, calls_from, framed, stay_dropped, Goes-dropped}
 use Rattle.hashlink_map.proofs.EnterAndLend.{but_last, entered_and_lent, returned}
 use Rattle.hashlink_map.proofs.PairRows.{Answer, Entered, Vacant, vacant_laws}
 use Rattle.hashlink_map.proofs.PairValues.{value_of}
@@ -13,6 +12,7 @@ use Rattle.hashlink_map.proofs.raw_entry.vacant.RawVacantEntryMut.insert_entry_w
 use Rattle.hashlink_map.proofs.raw_entry.occupied.RawOccupiedEntryMut+K+V+S.pair_of.Met as lent
 use Rattle.hashlink_map.proofs.raw_entry.vacant.RawVacantEntryMut.insert_with_hasher.Statement.{statement}
 use Rattle.hashlink_map.proofs.raw_entry.vacant.RawVacantEntryMut.insert_with_hasher.Code as code
+use types.Kit.{‵, raw, ◌$◌, ◌∵◌, !, qed, done, fjoin}
 
 pub insert_with_hasher_spec : {M : Type 1} → statement M
 insert_with_hasher_spec 𝓤 𝓛 𝓜 𝓡 wired K V S T F LK LV LS LT LF e de p dp h dh b db w dw dd x dx dm dn dt me
