@@ -19,7 +19,7 @@ use Rattle.hashlink_model.proofs.ByPlace.{moved-there}
 use Rattle.hashlink_model.proofs.Finds.{stored_key-equal}
 use Rattle.hashlink_model.proofs.Puts.{none_without, put_back, put_back_here}
 use Rattle.hashlink_curve.specs.Recency.{Rises, IsPlaced, MovesLast}
-use Rattle.hashlink_curve.proofs.Sums.{count_by-middle, count_by-no, count_by-yes}
+use Rattle.hashlink_curve.proofs.Sums.{count_by-middle, count_by-cons}
 
 module _ {K : Type 0} where
   -- ---- rising places
@@ -60,16 +60,16 @@ module _ {K : Type 0} where
       → count_by (λ p. nat_lt p x) (values_of es) ≡ 0
   none_below low x [] next r l = refl
   none_below low x (e ∷ es) next r l =
-      count_by-no (λ p. nat_lt p x) e.1 (values_of es) (grind (arith, nat_tests))
-      ∙ none_below (e.1 + 1) x es next r.1 (omega arith)
+      let rest = none_below (e.1 + 1) x es next r.1 (omega arith) in
+      grind (arith, nat_tests, count_by-cons (λ p. nat_lt p x) e.1 (values_of es), rest)
 
   count_before : (low : ℕ) (xs : List (K × ℕ)) (e : K × ℕ) (ys : List (K × ℕ)) (next : ℕ)
       → Rises low (xs ++ e ∷ ys) next → count_by (λ p. nat_lt p e.1) (values_of (xs ++ e ∷ ys)) ≡ length xs
   count_before low [] e ys next r = none_below e.1 e.1 (e ∷ ys) next (omega arith, r.1) (omega arith)
   count_before low (x ∷ xs) e ys next r =
       let a = rises_first (x.1 + 1) xs e ys next r.1 in
-      count_by-yes (λ p. nat_lt p e.1) x.1 (values_of (xs ++ e ∷ ys)) (grind (arith, nat_tests))
-      ∙ ap suc (count_before (x.1 + 1) xs e ys next r.1)
+      let one = count_by-cons (λ p. nat_lt p e.1) x.1 (values_of (xs ++ e ∷ ys)) in
+      grind (arith, nat_tests, one, count_before (x.1 + 1) xs e ys next r.1)
 
   -- the place after all is free
   none_at : (low : ℕ) (es : List (K × ℕ)) (next : ℕ) → Rises low es next
@@ -77,8 +77,7 @@ module _ {K : Type 0} where
   none_at low [] next r = refl
   none_at low (e ∷ es) next r =
       let a = rises_ends (e.1 + 1) es next r.1 in
-      count_by-no (nat_eq next) e.1 (values_of es) (grind (arith, nat_tests))
-      ∙ none_at (e.1 + 1) es next r.1
+      grind (arith, nat_tests, count_by-cons (nat_eq next) e.1 (values_of es), none_at (e.1 + 1) es next r.1)
 
   pub free_at : (es : List (K × ℕ)) (next : ℕ) (row : List ℕ) → Rises 0 es next → Marked row (values_of es)
       → next < length row → get_or row next 0 ≡ 0
