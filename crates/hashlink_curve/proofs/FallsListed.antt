@@ -1,17 +1,12 @@
 -- The list of a curve's falls.
-use Rattle.std.proofs.Common.{◌≡◌, ℕ, suc, ◌+◌, ◌-◌, ◌≤◌, ◌<◌, ◌⊎◌, inl, inr, Bool, true, false, cond, List}
-use Rattle.std.proofs.Common.{[], ◌∷◌, length, drop, refl, sym, ap, ◌∙◌, arith}
-use Rattle.std.specs.Prelude.{nat_eq, sum, All, AllPairs, Contains}
+use Rattle.hashlink_curve.proofs.Names.{◌≡◌, ℕ, suc, ◌+◌, ◌-◌, ◌≤◌, ◌<◌, ◌⊎◌, inl, inr, Bool, true, false}
+use Rattle.hashlink_curve.proofs.Names.{cond, List, [], ◌∷◌, length, drop, refl, sym, ap, ◌∙◌, arith, nat_eq}
+use Rattle.hashlink_curve.proofs.Names.{sum, All, drop-nil, nat_tests, sum_by-cons, CurveState, ListsFalls}
+use Rattle.hashlink_curve.proofs.Names.{falls_from, misses_at}
+use Rattle.std.specs.Prelude.{AllPairs, Contains}
 use Rattle.std.proofs.Math.Nat.{eq-or-lt_of_le}
-use Rattle.std.proofs.Math.Seq.{drop-nil}
-use Rattle.std.proofs.lemmas.Bool.Decides.{nat_tests}
 use Rattle.std.proofs.lemmas.List.Elements.{All-nil, All-cons}
 use Rattle.std.proofs.lemmas.List.Kept.{AllPairs-cons}
-use Rattle.std.proofs.lemmas.List.Sums.{sum_by-cons}
-use Rattle.hashlink_curve.specs.Curve.{CurveState, ListsFalls, falls_from, misses_at}
-
-pub Contains-later : {X : Type 0} (y : X) (xs : List X) (x : X) → Contains xs x → Contains (y ∷ xs) x
-Contains-later y xs x h = (suc h.0, omega (arith, h.1), h.2)
 
 module _ (f : ℕ → ℕ) where
   -- the misses at the item's capacity, which is above c, fewer than at the one before
@@ -85,7 +80,7 @@ module _ (f : ℕ → ℕ) where
       every_by i (inl e) fall =
           (0, omega arith, ap (λ m. (c + 1, m)) (sym h.0) ∙ ap (λ (m : ℕ). (m + 1, f (m + 1))) e)
       every_by i (inr l) fall =
-          Contains-later (c + 1, cold + sum ns) items (i + 1, f (i + 1)) (rest.every i (omega arith) fall)
+          let later = rest.every i (omega arith) fall in (suc later.0, omega (arith, later.1), later.2)
 
   lists_from : (cold c : ℕ) (ns : List ℕ) → IsLeft cold c ns → ListsFrom c (falls_from cold c ns)
   lists_from cold c [] h =

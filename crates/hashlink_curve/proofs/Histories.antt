@@ -1,30 +1,26 @@
 -- One more use of a key: which distance it has, and which caches miss it.
-use Rattle.std.proofs.Common.{◌≡◌, ℕ, zero, suc, ◌+◌, ◌≤◌, ◌<◌, ◌⊎◌, inl, inr, Bool, true, false, ◌&&◌, ◌||◌}
-use Rattle.std.proofs.Common.{cond, List, [], ◌∷◌, ◌++◌, length, take, drop, nat_lt, Option, None, Some, refl}
-use Rattle.std.proofs.Common.{sym, ap, ap₂, ◌∙◌, subst, subst₂, arith, append_assoc, length-append}
-use Rattle.std.proofs.Common.{true≢false, get_or, set}
-use Rattle.std.specs.Prelude.{sum}
-use Rattle.std.specs.Cmp.{IsEquivalence}
-use Rattle.std.specs.List.{AllZip, after_last, list_any}
-use Rattle.std.specs.Set.{is_member, unique_keys, remove_key, distinct_count}
+use Rattle.hashlink_curve.proofs.Names.{◌≡◌, ℕ, zero, suc, ◌+◌, ◌≤◌, ◌<◌, Bool, true, false, ◌&&◌, ◌||◌, cond}
+use Rattle.hashlink_curve.proofs.Names.{List, [], ◌∷◌, ◌++◌, length, take, drop, nat_lt, None, Some, refl}
+use Rattle.hashlink_curve.proofs.Names.{sym, ap, ap₂, ◌∙◌, subst, subst₂, arith, append_assoc, length-append}
+use Rattle.hashlink_curve.proofs.Names.{get_or, set, sum, IsEquivalence, AllZip, after_last, list_any}
+use Rattle.hashlink_curve.proofs.Names.{is_member, unique_keys, drop-nil, nat_tests, get_or_default_zero}
+use Rattle.hashlink_curve.proofs.Names.{sum_by-append, sum_by-set, IsKeyTest, reuse_distance}
+use Rattle.hashlink_curve.proofs.Names.{cache_misses_from, CurveState, Counted, Counts, misses_at, MovesPast}
+use Rattle.hashlink_curve.proofs.Names.{GoesLast}
+use Rattle.std.proofs.Common.{Option, true≢false}
+use Rattle.std.specs.Set.{remove_key, distinct_count}
 use Rattle.std.proofs.Math.Path.{fun_ext}
-use Rattle.std.proofs.Math.Seq.{drop-nil}
-use Rattle.std.proofs.lemmas.Bool.{lt-ltb, le-ltb}
-use Rattle.std.proofs.lemmas.Bool.Decides.{nat_tests}
-use Rattle.std.proofs.lemmas.Grind.{get_or_default_zero}
 use Rattle.std.proofs.lemmas.List.{append-nil, drop_all}
 use Rattle.std.proofs.lemmas.List.Folds.{list_any-append}
-use Rattle.std.proofs.lemmas.List.Sums.{sum_by-append, sum_by-set, sum_by-take-drop}
-use Rattle.hashlink_model.specs.Entries.{IsKeyTest}
-use Rattle.hashlink_history.specs.History.{reuse_distance, cache_misses, cache_misses_from}
+use Rattle.std.proofs.lemmas.List.Sums.{sum_by-take-drop}
+use Rattle.hashlink_history.specs.History.{cache_misses}
 use Rattle.hashlink_model.proofs.Members.{none_from_is_member, is_member_from_none}
 use Rattle.hashlink_history.proofs.Recency.{zip_push, zip_length, remove_key-left, remove_key-right}
 use Rattle.hashlink_history.proofs.Recency.{is_member-unique, unique_keys-push, last_use, unique_keys-last}
 use Rattle.hashlink_history.proofs.Recency.{after_last-here}
 use Rattle.hashlink_model.proofs.Distinct.{answers_alike}
-use Rattle.hashlink_curve.specs.Curve.{CurveState, Counted, Counts, distance_of, misses_at}
-use Rattle.hashlink_curve.specs.Recency.{MovesPast, GoesLast}
-use Rattle.hashlink_curve.proofs.Sums.{below_or_at, sum-set-after, sum-set-before, sum-take-le}
+use Rattle.hashlink_curve.specs.Curve.{distance_of}
+use Rattle.hashlink_curve.proofs.Sums.{sum-set-after, sum-set-before, sum-take-le}
 
 -- ---- what a cache of c places misses of one use more
 
@@ -71,18 +67,11 @@ sum-drop-push (suc c) (n ∷ ns) = sum-drop-push c ns
 
 pub sum-drop-more : (c d : ℕ) (ns : List ℕ) → d < length ns
     → sum (drop c (set ns d (get_or ns d 0 + 1))) ≡ sum (drop c ns) + cond (nat_lt d c) 0 1
-sum-drop-more c d ns l = by (below_or_at d c)
-  where
-    new : List ℕ
-    new = set ns d (get_or ns d 0 + 1)
-
-    by : (d < c) ⊎ (c ≤ d) → sum (drop c new) ≡ sum (drop c ns) + cond (nat_lt d c) 0 1
-    by (inl k) =
-        let taken = sum-set-after ns d (get_or ns d 0 + 1) c l k in
-        rw (lt-ltb d c k) (omega (arith, taken, sum-take-drop new c, sum-take-drop ns c, sum-one-more ns d l))
-    by (inr k) =
-        let taken = sum-set-before ns d (get_or ns d 0 + 1) c k in
-        rw (le-ltb d c k) (omega (arith, taken, sum-take-drop new c, sum-take-drop ns c, sum-one-more ns d l))
+sum-drop-more c d ns l =
+    let new = set ns d (get_or ns d 0 + 1) in
+    let before = sum-set-before ns d (get_or ns d 0 + 1) c in
+    grind (arith, nat_tests, sum-set-after ns d (get_or ns d 0 + 1) c l, before, sum-take-drop new c,
+        sum-take-drop ns c, sum-one-more ns d l)
 
 pub sum-drop-all : (c : ℕ) (ns : List ℕ) → length ns ≤ c → sum (drop c ns) ≡ 0
 sum-drop-all c ns l = ap sum (drop_all c ns l)
@@ -92,15 +81,10 @@ sum-drop-falls c d ns l = omega (arith, sum-take-le ns c d l, sum-take-drop ns c
 
 -- ---- keys up to equality
 
-or_true : (b : Bool) → (b || true) ≡ true
-or_true true = refl
-or_true false = refl
-
 pub list_any-here : {X : Type 0} (test : X → Bool) (xs : List X) (x : X) (ys : List X) → test x ≡ true
     → list_any test (xs ++ x ∷ ys) ≡ true
 list_any-here test xs x ys t =
-    list_any-append test xs (x ∷ ys) ∙ ap (λ b. list_any test xs || (b || list_any test ys)) t
-    ∙ or_true (list_any test xs)
+    grind (arith, t, list_any-append test xs (x ∷ ys))
 
 module _ {K : Type 0} (eq : K → K → Bool) (laws : IsEquivalence eq) where
   abbrev Alike : List K → List K → Type 0
@@ -117,13 +101,7 @@ module _ {K : Type 0} (eq : K → K → Bool) (laws : IsEquivalence eq) where
   zip_remove k [] [] z = z
   zip_remove k [] (y ∷ ys) z = absurd z
   zip_remove k (x ∷ xs) [] z = absurd z
-  zip_remove k (x ∷ xs) (y ∷ ys) z =
-      rw (answers_alike eq laws k x y z.0) (by (eq k y) (zip_remove k xs ys z.1))
-    where
-      by : (b : Bool) → Alike (remove_key (eq k) xs) (remove_key (eq k) ys)
-          → Alike (cond b xs (x ∷ remove_key (eq k) xs)) (cond b ys (y ∷ remove_key (eq k) ys))
-      by true h = z.1
-      by false h = (z.0, h)
+  zip_remove k (x ∷ xs) (y ∷ ys) z = grind (arith, answers_alike eq laws k x y z.0, z, zip_remove k xs ys z.1)
 
   -- the last key that is equal to k stands at the same place of both
   zip_behind : (k : K) (xs : List K) (x : K) (ys us : List K) (u : K) (vs : List K)
@@ -139,11 +117,6 @@ module _ {K : Type 0} (eq : K → K → Bool) (laws : IsEquivalence eq) where
   zip_behind k (a ∷ xs) x ys (b ∷ us) u vs z t s n m = zip_behind k xs x ys us u vs z.1 t s n m
 
   -- ---- the curve after one use more
-
-  distance_by : (used : List K) (k : K) (d : ℕ) → is_member eq used k ≡ true → reuse_distance eq used k ≡ d
-      → Some d ≡ distance_of eq used k
-  distance_by used k d m e =
-      sym (ap (λ b. cond b (Some (reuse_distance eq used k)) None) m ∙ ap Some e)
 
   missed_by : (c : ℕ) (used : List K) (k : K) (b : Bool) (d : ℕ) → is_member eq used k ≡ b
       → reuse_distance eq used k ≡ d
@@ -220,7 +193,7 @@ module _ {K : Type 0} (eq : K → K → Bool) (laws : IsEquivalence eq) where
               = sum-drop-more c d old.reuses (omega arith) in
               omega arith;
         },
-        distance_by used k d used_before distance,
+        sym (ap (λ b. cond b (Some (reuse_distance eq used k)) None) used_before ∙ ap Some distance),
       )
 
   -- ---- keys that pass a test, and keys that are equal

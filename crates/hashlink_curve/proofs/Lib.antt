@@ -1,4 +1,5 @@
 -- Lemmas on rows of sums, on places and on histories.
+pub mod Names
 pub mod FallsListed
 pub mod Histories
 pub mod MappedKeys

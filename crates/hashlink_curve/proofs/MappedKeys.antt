@@ -1,12 +1,11 @@
 -- The curve of keys that are seen as something else, by which they are told apart.
-use Rattle.std.proofs.Common.{◌≡◌, ℕ, ◌+◌, Bool, true, false, ◌&&◌, ◌||◌, cond, List, [], ◌∷◌, ◌++◌, length}
-use Rattle.std.proofs.Common.{drop, map, nat_lt, not, reverse, ◌-◌, refl, sym, ap, ap₂, ◌∙◌, subst}
-use Rattle.std.specs.Prelude.{sum}
-use Rattle.std.specs.List.{AllZip, after_last, prefix_len, suffix_len}
-use Rattle.std.specs.Set.{is_member, unique_keys}
-use Rattle.std.proofs.lemmas.List.{drop-map, map-append, length-map, reverse-append}
-use Rattle.hashlink_history.specs.History.{reuse_distance, cache_misses_from}
-use Rattle.hashlink_curve.specs.Curve.{CurveState, Counted}
+use Rattle.hashlink_curve.proofs.Names.{◌≡◌, ℕ, ◌+◌, Bool, true, ◌&&◌, ◌||◌, cond, List, [], ◌∷◌, ◌++◌}
+use Rattle.hashlink_curve.proofs.Names.{length, drop, nat_lt, ◌-◌, refl, sym, ap, ap₂, ◌∙◌, subst, arith, sum}
+use Rattle.hashlink_curve.proofs.Names.{AllZip, after_last, is_member, unique_keys, map-append, length-map}
+use Rattle.hashlink_curve.proofs.Names.{reuse_distance, cache_misses_from, CurveState, Counted}
+use Rattle.std.proofs.Common.{map, not, reverse}
+use Rattle.std.specs.List.{prefix_len, suffix_len}
+use Rattle.std.proofs.lemmas.List.{drop-map, reverse-append}
 
 module _ {K L : Type 0} (f : K → L) (eq : K → K → Bool) (seen : L → L → Bool)
     (same : (a b : K) → eq a b ≡ seen (f a) (f b)) where
@@ -14,16 +13,9 @@ module _ {K L : Type 0} (f : K → L) (eq : K → K → Bool) (seen : L → L �
   is_member-map [] q = refl
   is_member-map (x ∷ xs) q = ap₂ (λ a b. a || b) (same q x) (is_member-map xs q)
 
-  map-cond : (b : Bool) (x : K) (us : List K)
-      → map f (cond b us (x ∷ us)) ≡ cond b (map f us) (f x ∷ map f us)
-  map-cond true x us = refl
-  map-cond false x us = refl
-
   unique_keys-map : (xs : List K) → map f (unique_keys eq xs) ≡ unique_keys seen (map f xs)
   unique_keys-map [] = refl
-  unique_keys-map (x ∷ xs) =
-      map-cond (is_member eq xs x) x (unique_keys eq xs)
-      ∙ ap₂ (λ b us. cond b us (f x ∷ us)) (is_member-map xs x) (unique_keys-map xs)
+  unique_keys-map (x ∷ xs) = grind (arith, is_member-map xs x, unique_keys-map xs)
 
   map-reverse : (xs : List K) → map f (reverse xs) ≡ reverse (map f xs)
   map-reverse [] = refl

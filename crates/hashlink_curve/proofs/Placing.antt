@@ -1,29 +1,25 @@
 -- Keys at rising places: what a use of one finds, and new places for all.
-use Rattle.std.proofs.Common.{◌≡◌, ℕ, suc, ◌+◌, ◌-◌, ◌≤◌, ◌<◌, Bool, true, false, cond, List, [], ◌∷◌, ◌++◌}
-use Rattle.std.proofs.Common.{length, None, Some, Err, refl, sym, ap, ap₂, ◌∙◌, subst, arith}
-use Rattle.std.proofs.Common.{append_assoc, length-append, get_or, ◌||◌}
-use Rattle.std.specs.Prelude.{nat_eq, nat_lt}
-use Rattle.std.specs.Cmp.{IsEquivalence}
-use Rattle.std.specs.List.{count_by, list_any}
-use Rattle.std.specs.Map.{lookup, keys_of, values_of, set_value}
-use Rattle.std.proofs.lemmas.Bool.Decides.{nat_tests}
-use Rattle.std.proofs.lemmas.List.{append-nil, map-append, length-map}
+use Rattle.hashlink_curve.proofs.Names.{◌≡◌, ℕ, suc, ◌+◌, ◌-◌, ◌≤◌, ◌<◌, Bool, true, false, cond, List, []}
+use Rattle.hashlink_curve.proofs.Names.{◌∷◌, ◌++◌, length, None, Some, refl, sym, ap, ap₂, ◌∙◌, subst, arith}
+use Rattle.hashlink_curve.proofs.Names.{append_assoc, length-append, get_or, ◌||◌, nat_eq, nat_lt}
+use Rattle.hashlink_curve.proofs.Names.{IsEquivalence, count_by, list_any, keys_of, nat_tests, IsEntries}
+use Rattle.hashlink_curve.proofs.Names.{IsKeyTest, none_from_lookup, Marked, MovesPast, GoesLast}
+use Rattle.hashlink_model.proofs.Distinct.{each-right, IsEntries-head, none_equal, none_others}
+use Rattle.std.proofs.lemmas.List.{nil_from_length, append-nil, map-append, length-map}
+use Rattle.std.specs.Map.{lookup, values_of, set_value}
 use Rattle.std.proofs.lemmas.Map.{NonePasses}
-use Rattle.std.proofs.lemmas.Option.{none-some, same_Some}
-use Rattle.hashlink_model.specs.Entries.{IsEntries, IsKeyTest, put, stored_key, without}
-use Rattle.hashlink_model.specs.MapState.{MapState, Inserts}
+use Rattle.std.proofs.lemmas.Option.{same_Some}
+use Rattle.hashlink_model.specs.Entries.{put, stored_key, without}
+use Rattle.hashlink_model.specs.MapState.{MapState}
 use Rattle.hashlink_model.specs.Steps.{MovesMatchAndWrites, PopsFront}
-use Rattle.hashlink_model.specs.Walk.{first_of}
 use Rattle.hashlink_model.proofs.Pops.{pops_front}
-use Rattle.hashlink_model.proofs.Splits.{stands_from_lookup, lookup-none, lookup-here, none_from_lookup}
-use Rattle.hashlink_model.proofs.Splits.{key_from_lookup, set_value-here}
-use Rattle.hashlink_model.proofs.Distinct.{IsEntries-head, none_equal, none_others}
+use Rattle.hashlink_model.proofs.Splits.{stands_from_lookup, lookup-none, lookup-here, key_from_lookup}
+use Rattle.hashlink_model.proofs.Splits.{set_value-here}
 use Rattle.hashlink_model.proofs.ByPlace.{moved-there}
 use Rattle.hashlink_model.proofs.Finds.{stored_key-equal}
 use Rattle.hashlink_model.proofs.Puts.{none_without, put_back, put_back_here}
-use Rattle.hashlink_curve.specs.Marks.{Marked}
-use Rattle.hashlink_curve.specs.Recency.{Rises, IsPlaced, MovesPast, MovesLast, GoesLast}
-use Rattle.hashlink_curve.proofs.Sums.{count_by-middle, count_by-no, count_by-yes}
+use Rattle.hashlink_curve.specs.Recency.{Rises, IsPlaced, MovesLast}
+use Rattle.hashlink_curve.proofs.Sums.{count_by-middle, count_by-cons}
 
 module _ {K : Type 0} where
   -- ---- rising places
@@ -64,16 +60,16 @@ module _ {K : Type 0} where
       → count_by (λ p. nat_lt p x) (values_of es) ≡ 0
   none_below low x [] next r l = refl
   none_below low x (e ∷ es) next r l =
-      count_by-no (λ p. nat_lt p x) e.1 (values_of es) (grind (arith, nat_tests))
-      ∙ none_below (e.1 + 1) x es next r.1 (omega arith)
+      let rest = none_below (e.1 + 1) x es next r.1 (omega arith) in
+      grind (arith, nat_tests, count_by-cons (λ p. nat_lt p x) e.1 (values_of es), rest)
 
   count_before : (low : ℕ) (xs : List (K × ℕ)) (e : K × ℕ) (ys : List (K × ℕ)) (next : ℕ)
       → Rises low (xs ++ e ∷ ys) next → count_by (λ p. nat_lt p e.1) (values_of (xs ++ e ∷ ys)) ≡ length xs
   count_before low [] e ys next r = none_below e.1 e.1 (e ∷ ys) next (omega arith, r.1) (omega arith)
   count_before low (x ∷ xs) e ys next r =
       let a = rises_first (x.1 + 1) xs e ys next r.1 in
-      count_by-yes (λ p. nat_lt p e.1) x.1 (values_of (xs ++ e ∷ ys)) (grind (arith, nat_tests))
-      ∙ ap suc (count_before (x.1 + 1) xs e ys next r.1)
+      let one = count_by-cons (λ p. nat_lt p e.1) x.1 (values_of (xs ++ e ∷ ys)) in
+      grind (arith, nat_tests, one, count_before (x.1 + 1) xs e ys next r.1)
 
   -- the place after all is free
   none_at : (low : ℕ) (es : List (K × ℕ)) (next : ℕ) → Rises low es next
@@ -81,8 +77,7 @@ module _ {K : Type 0} where
   none_at low [] next r = refl
   none_at low (e ∷ es) next r =
       let a = rises_ends (e.1 + 1) es next r.1 in
-      count_by-no (nat_eq next) e.1 (values_of es) (grind (arith, nat_tests))
-      ∙ none_at (e.1 + 1) es next r.1
+      grind (arith, nat_tests, count_by-cons (nat_eq next) e.1 (values_of es), none_at (e.1 + 1) es next r.1)
 
   pub free_at : (es : List (K × ℕ)) (next : ℕ) (row : List ℕ) → Rises 0 es next → Marked row (values_of es)
       → next < length row → get_or row next 0 ≡ 0
@@ -103,10 +98,6 @@ module _ {K : Type 0} where
 
   keys_of-append : (xs ys : List (K × ℕ)) → keys_of (xs ++ ys) ≡ keys_of xs ++ keys_of ys
   keys_of-append xs ys = map-append (λ e. e.0) xs ys
-
-  none_right : (test : K → Bool) (xs ys : List (K × ℕ)) → NonePasses test (xs ++ ys) → NonePasses test ys
-  none_right test [] ys n = n
-  none_right test (x ∷ xs) ys n = none_right test xs ys n.1
 
 -- ---- a use of a key
 
@@ -152,7 +143,7 @@ module _ {K : Type 0} (eq : K → K → Bool) (laws : IsEquivalence eq) where
         equal = s.3.passes;
         none = s.3.before;
         none_after = none_equal eq laws s.1.0 k s.2 (laws.symm s.1.0 k ∙ s.3.passes)
-            (none_right (eq s.1.0) s.0 s.2 others);
+            (each-right _ s.0 s.2 others);
         within = omega arith;
         long = ap length is ∙ length-append s.0 (e ∷ s.2);
         before = ap (λ zs. count_by (λ p. nat_lt p place) (values_of zs)) is
@@ -303,20 +294,6 @@ module _ {K : Type 0} where
     pub marked : Marked row (values_of (numbered 0 done))
     pub distinct : IsEntries eq es
 
-  pub Renumbers-start : (eq : K → K → Bool) (old : List (K × ℕ)) (row : List ℕ)
-      → Marked row [] → IsEntries eq old
-      → Renumbers eq old old row 0
-  Renumbers-start eq old row m d =
-      record {
-        done = [];
-        left = old;
-        split = refl;
-        count = refl;
-        is = sym (append-nil old);
-        marked = m;
-        distinct = d;
-      }
-
   module _ {eq : K → K → Bool} {old es : List (K × ℕ)} {row : List ℕ} {place : ℕ}
       (r : Renumbers eq old es row place) where
     both : length r.done + length r.left ≡ length old
@@ -339,7 +316,7 @@ module _ {K : Type 0} where
     pub Renumbers-end : place ≡ length old → length old ≤ length row
         → IsPlaced eq es row (length es) × (keys_of es ≡ keys_of old) × (length es ≡ length old)
     Renumbers-end e fits =
-        let none = nil r.left (omega (arith, both, r.count)) in
+        let none = nil_from_length r.left (omega (arith, both, r.count)) in
         let all : old ≡ r.done = r.split ∙ ap (λ zs. r.done ++ zs) none ∙ append-nil r.done in
         let is : es ≡ numbered 0 old = r.is ∙ ap₂ (λ zs ws. zs ++ numbered 0 ws) none (sym all) in
         let long = ap length is ∙ length-numbered 0 old in (
@@ -354,18 +331,6 @@ module _ {K : Type 0} where
           ap keys_of is ∙ keys_of-numbered 0 old,
           long,
         )
-      where
-        nil : (zs : List (K × ℕ)) → length zs ≡ 0 → zs ≡ []
-        nil [] l = refl
-        nil (z ∷ zs) l = absurd (omega arith)
-
-  -- the first entry is there
-  pub Renumbers-pops : (eq : K → K → Bool) (old es : List (K × ℕ)) (row : List ℕ) (place : ℕ)
-      → Renumbers eq old es row place → place < length old → first_of es ≡ None → ⊥
-  Renumbers-pops eq old es row place r l n =
-      let s = Renumbers-next r l in
-      let some : first_of es ≡ Some s.0 = ap first_of (r.is ∙ ap (λ zs. zs ++ numbered 0 r.done) s.2) in
-      none-some s.0 (sym n ∙ some)
 
   pub Renumbers-step : {S : Type 0} (eq : K → K → Bool) (old : List (K × ℕ)) (a b c : MapState K ℕ S)
       (row after : List ℕ) (place : ℕ) (key : K) (v : ℕ)
@@ -397,9 +362,3 @@ module _ {K : Type 0} where
             (marked_last (numbered 0 r.done) key place row after m r.marked);
         distinct = d;
       }
-
-  -- the node that was freed serves the key again
-  pub Renumbers-inserts : {S : Type 0} (eq : K → K → Bool) (a b c : MapState K ℕ S)
-      (place : ℕ) (key : K) (v : ℕ) (pair : K × ℕ) → PopsFront a b (Some (key, v))
-      → Inserts eq b c key place (length b.entries) (Err pair) → ⊥
-  Renumbers-inserts eq a b c place key v pair p i = omega arith

@@ -1,4 +1,5 @@
 -- What stands before a place, by the rows of sums, and a change at a place.
+use Rattle.std.proofs.lemmas.Bool.{cases_lt}
 use Rattle.std.proofs.Common.{◌≡◌, ◌≢◌, ℕ, zero, suc, ◌+◌, ◌-◌, ◌*◌, ◌/◌, ◌^◌, ◌<◌, ◌≤◌, Bool, true, false}
 use Rattle.std.proofs.Common.{List, [], ◌∷◌, ◌++◌, length, take, drop, get_or, set, replicate, refl, sym, ap}
 use Rattle.std.proofs.Common.{ap₂, ◌∙◌, ◌⊎◌, inl, inr, arith, cond, subst, subst₂}
@@ -17,9 +18,6 @@ use Rattle.std.proofs.lemmas.Grind.{get_or_default_zero, get_or-set_at}
 use Rattle.std.specs.declared.alloc.Global.{Global}
 use Rattle.hashlink_curve.specs.Marks.{Marked, HasSums, HasRows, AreSummed, rows_of, sum_before, HasNode}
 use Rattle.hashlink_curve.specs.Marks.{changed, CanChange}
-
-pub below_or_at : (i j : ℕ) → (i < j) ⊎ (j ≤ i)
-below_or_at i j = grind arith
 
 -- ---- sums of the first entries
 
@@ -76,7 +74,7 @@ module _ (row sums : List ℕ) (h : HasSums row sums) (x : ℕ) (l : x < length 
       let long = length-set sums (x / 64) w in
       let wide = length-set row x v in
       record {
-        each = λ j high. by w (omega arith) j (omega arith) (below_or_at (x / 64) j);
+        each = λ j high. by w (omega arith) j (omega arith) (cases_lt (x / 64) j);
         all = omega arith;
       }
     where
@@ -189,33 +187,17 @@ pub count_by-cons : {X : Type 0} (p : X → Bool) (x : X) (xs : List X)
     → count_by p (x ∷ xs) ≡ cond (p x) 1 0 + count_by p xs
 count_by-cons p x xs = sum_by-cons (λ y. cond (p y) 1 0) x xs
 
--- where the first passes the test, and where it does not
-abbrev one_if : Bool → ℕ
-one_if b = cond b 1 0
-
-pub count_by-yes : {X : Type 0} (p : X → Bool) (x : X) (xs : List X) → p x ≡ true
-    → count_by p (x ∷ xs) ≡ suc (count_by p xs)
-count_by-yes p x xs t = omega (arith, count_by-cons p x xs, ap one_if t)
-
-pub count_by-no : {X : Type 0} (p : X → Bool) (x : X) (xs : List X) → p x ≡ false
-    → count_by p (x ∷ xs) ≡ count_by p xs
-count_by-no p x xs t = omega (arith, count_by-cons p x xs, ap one_if t)
-
-one_more : (x p : ℕ) → cond (nat_lt p (suc x)) 1 0 ≡ cond (nat_lt p x) 1 0 + cond (nat_eq x p) 1 0
-one_more x p = grind (arith, nat_tests)
-
 count_by-next : (x : ℕ) (places : List ℕ)
     → count_by (λ p. nat_lt p (suc x)) places ≡ count_by (λ p. nat_lt p x) places + count_by (nat_eq x) places
 count_by-next x [] = refl
 count_by-next x (p ∷ places) =
-    let b = count_by-next x places in
-    let l = count_by-cons (λ q. nat_lt q (suc x)) p places in
-    omega (arith, one_more x p, count_by-cons (λ q. nat_lt q x) p places, count_by-cons (nat_eq x) p places)
+    let more = count_by-cons (λ q. nat_lt q (suc x)) p places in
+    let less = count_by-cons (λ q. nat_lt q x) p places in
+    grind (arith, nat_tests, more, less, count_by-cons (nat_eq x) p places, count_by-next x places)
 
 count_by-none : (places : List ℕ) → count_by (λ p. nat_lt p 0) places ≡ 0
 count_by-none [] = refl
-count_by-none (p ∷ places) =
-    count_by-no (λ q. nat_lt q 0) p places (grind (arith, nat_tests)) ∙ count_by-none places
+count_by-none (p ∷ places) = grind (arith, count_by-cons (λ q. nat_lt q 0) p places, count_by-none places)
 
 pub marks_before : (row places : List ℕ) → Marked row places → (x : ℕ) → x ≤ length row
     → sum (take x row) ≡ count_by (λ p. nat_lt p x) places

@@ -1,8 +1,5 @@
 -- The elements that a removal leaves.
-use Rattle.std.proofs.Common.{◌≡◌, Bool, Option, ap, ◌∙◌}
-use Rattle.std.specs.Map.{keys_of}
-use Rattle.std.specs.Set.{remove_key}
-use Rattle.hashlink_model.specs.Sets.{SetState, elements_of}
+use Rattle.hashlink_set.proofs.Names.{◌≡◌, Bool, Option, ap, ◌∙◌, keys_of, remove_key, SetState, elements_of}
 use Rattle.hashlink_model.specs.Steps.{RemovesMatch}
 use Rattle.hashlink_map.proofs.Outcomes.{removes_entries}
 use Rattle.hashlink_model.proofs.SetElements.{keys-remove_entry}

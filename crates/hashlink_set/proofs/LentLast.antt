@@ -1,25 +1,20 @@
 -- What a set ends as whose last element was lent, from the steps before. Assumes `Logic`.
-use Rattle.std.proofs.Common.{◌≡◌, Option, None, Some, Ok, Err, Result, Bool, [], ◌∷◌, refl, sym, ap, subst}
-use Rattle.std.proofs.Common.{◌∙◌}
+use Rattle.hashlink_set.proofs.Names.{◌≡◌, Option, None, Some, Ok, Err, Result, Bool, [], ◌∷◌, refl, sym, ap}
+use Rattle.hashlink_set.proofs.Names.{subst, ◌∙◌, SProp, ent, sep, emp, fact, fact_i, sem, ‵, raw, ◌⊛◌, ◌$◌}
+use Rattle.hashlink_set.proofs.Names.{◌∵◌, !, qed, move, join, split, use0, fpick, Lfts, RattleType, IfOk}
+use Rattle.hashlink_set.proofs.Names.{IfErr, OnOk, IsSome, option_copied, Bor, find, UnwrapsOrElse, SetState}
+use Rattle.hashlink_set.proofs.Names.{elements_of, stored_element, GetsOrInserts, last_of, GetsOrMakes}
+use Rattle.hashlink_set.proofs.Names.{as_seen, PutsElement, MakesElement}
 use seplogic.Ra.Ura.{Ura}
-use base.Logic.{SProp, ent, sep, emp}
-use contract.Monad.{fact, fact_i}
-use types.Logic.{Logic, sem}
-use types.Kit.{‵, raw, ◌⊛◌, ◌$◌, ◌∵◌, !, qed, move, join, split, use0, fpick, fpack, done}
+use types.Logic.{Logic}
+use types.Kit.{fpack, done}
 use base.Fml.{ftrue, flft}
-use contract.Lifetimes.{Lfts, Shares, toks}
+use contract.Lifetimes.{Shares, toks}
 use mathlib.Core.Option.{none}
 use denote.Follow.{follows_by, such_by}
-use denote.RattleType.{RattleType}
-use Rattle.std.specs.Prelude.{IfOk, IfErr, OnOk, IsSome, option_copied, ⊤}
-use Rattle.std.specs.Borrow.{Fml, GName, Bor, follows_so, follows_if}
-use Rattle.std.specs.List.{find}
-use Rattle.std.specs.Option.{UnwrapsOrElse}
+use Rattle.std.specs.Prelude.{⊤}
+use Rattle.std.specs.Borrow.{Fml, GName, follows_so, follows_if}
 use Rattle.std.specs.Result.{result_err}
-use Rattle.hashlink_model.specs.Sets.{SetState, elements_of, stored_element, GetsOrInserts}
-use Rattle.hashlink_model.specs.Walk.{last_of}
-use Rattle.hashlink_set.specs.Made.{GetsOrMakes}
-use Rattle.hashlink_set.specs.SetLends.{as_seen, PutsElement, MakesElement}
 use Rattle.hashlink_set.proofs.Stored.{inserted_last}
 
 module _ {M : Type 1} (𝓤 : Ura M) (A B C : Type 0) where

@@ -1,3 +1,4 @@
+pub mod Names
 pub mod Looking
 pub mod Lookups
 pub mod Copied

@@ -1,5 +1,5 @@
 -- A move of an element, as the map's move of a key whose value is nothing.
-use Rattle.std.proofs.Common.{◌≡◌, ℕ, Bool, true, false, cond, List, [], ◌∷◌, Some, refl, sym, ap, subst, ◌∙◌}
+use Rattle.std.proofs.Common.{◌≡◌, ℕ, Bool, List, [], ◌∷◌, Some, refl, sym, ap, subst, ◌∙◌, arith}
 use Rattle.std.specs.Map.{lookup, set_value}
 use Rattle.hashlink_model.specs.Entries.{moved_match}
 use Rattle.hashlink_model.specs.MapState.{Changes}
@@ -9,11 +9,7 @@ use Rattle.hashlink_model.specs.Sets.{SetState}
 -- nothing that is written changes nothing
 set_value-nothing : {T : Type 0} (test : T → Bool) (es : List (T × Unit {0})) → set_value test es tt ≡ es
 set_value-nothing test [] = refl
-set_value-nothing test (e ∷ es) = by (test e.0) (set_value-nothing test es)
-  where
-    by : (b : Bool) → set_value test es tt ≡ es → cond b ((e.0, tt) ∷ es) (e ∷ set_value test es tt) ≡ e ∷ es
-    by true h = refl
-    by false h = ap (λ r. e ∷ r) h
+set_value-nothing test (e ∷ es) = grind (arith, set_value-nothing test es)
 
 module _ {T S : Type 0} (test : T → Bool) (old new : SetState T S) (b : ℕ) where
   pub moved-element : Some tt ≡ lookup test old.entries → MovesMatchAndWrites test old new b tt

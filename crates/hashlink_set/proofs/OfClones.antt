@@ -1,33 +1,20 @@
 -- What a set is that was made of clones of distinct elements.
-use Rattle.std.proofs.Common.{◌≡◌, Bool, true, cond, List, [], ◌∷◌, ◌++◌, Option, None, Some, map, ap}
-use Rattle.std.proofs.Common.{Result, Ok, Err, subst, sym, ◌∙◌, append-nil}
-use Rattle.std.specs.Prelude.{IfOk, OnErr, MatchResult}
-use Rattle.std.proofs.lemmas.List.{map-id}
-use Rattle.std.proofs.lemmas.Slice.Zip.{AllZip-map}
-use Rattle.std.specs.Borrow.{Bor}
-use Rattle.std.specs.Cmp.{IsEquivalence}
+use Rattle.hashlink_set.proofs.Names.{◌≡◌, Bool, true, cond, List, [], ◌∷◌, ◌++◌, Option, None, Some, map, ap}
+use Rattle.hashlink_set.proofs.Names.{Result, Ok, Err, subst, sym, ◌∙◌, IfOk, Bor, IsEquivalence, AllZip}
+use Rattle.hashlink_set.proofs.Names.{keys_of, TakesFirst, deref, elements_eq, AcceptsAll, MadeFrom, SetState}
+use Rattle.hashlink_set.proofs.Names.{elements_of, SetInserts}
+use Rattle.std.proofs.Common.{append-nil}
+use Rattle.std.specs.Prelude.{OnErr, MatchResult}
+use Rattle.std.proofs.lemmas.List.Elements.{same_from_all_zip}
 use Rattle.std.specs.Iterator.{Yields, Drains}
-use Rattle.std.specs.List.{AllZip, IsDistinct}
-use Rattle.std.specs.Map.{keys_of}
-use Rattle.std.specs.Map.Iter.{TakesFirst, deref}
-use Rattle.hashlink_model.specs.Compare.{elements_eq}
+use Rattle.std.specs.List.{IsDistinct}
 use Rattle.hashlink_model.specs.Entries.{extended}
-use Rattle.hashlink_model.specs.Many.{AcceptsAll, MadeFrom, InsertsPair}
+use Rattle.hashlink_model.specs.Many.{InsertsPair}
 use Rattle.hashlink_model.specs.MapState.{empty_map}
-use Rattle.hashlink_model.specs.Sets.{SetState, elements_of, pairs_of, SetInserts}
+use Rattle.hashlink_model.specs.Sets.{pairs_of}
 use Rattle.hashlink_model.proofs.InTurn.{accepts_entries}
 use Rattle.hashlink_model.proofs.SetElements.{own_elements, clone_of_a_set}
 use Rattle.hashlink_set.specs.Cloned.{IsOfClones}
-
--- one more of each
-pub zip_another : {A B : Type 0} (C : A → B → Type 0) (xs : List A) (ys : List B) (x : A) (y : B)
-    → AllZip C xs ys
-    → C x y
-    → AllZip C (xs ++ x ∷ []) (ys ++ y ∷ [])
-zip_another C [] [] x y z c = (c, tt)
-zip_another C [] (b ∷ ys) x y z c = absurd z
-zip_another C (a ∷ xs) [] x y z c = absurd z
-zip_another C (a ∷ xs) (b ∷ ys) x y z c = (z.0, zip_another C xs ys x y z.1 c)
 
 zip_weaken : {T : Type 0} (C D : T → T → Type 0) → ((x y : T) → C x y → D x y)
     → (xs ys : List T) → AllZip C xs ys
@@ -36,11 +23,6 @@ zip_weaken C D f [] [] z = tt
 zip_weaken C D f [] (b ∷ ys) z = absurd z
 zip_weaken C D f (a ∷ xs) [] z = absurd z
 zip_weaken C D f (a ∷ xs) (b ∷ ys) z = (f a b z.0, zip_weaken C D f xs ys z.1)
-
-zip_same : {T : Type 0} (C : T → T → Type 0) → ((x y : T) → C x y → y ≡ x) → (xs ys : List T) → AllZip C xs ys
-    → ys ≡ xs
-zip_same C f xs ys z =
-    AllZip-map (λ x. x) xs ys (zip_weaken C (λ x y. y ≡ x) f xs ys z) ∙ map-id xs
 
 module _ {T S : Type 0} (eq : T → T → Bool) where
   -- a set's inserts in turn are a map's
@@ -74,7 +56,7 @@ module _ {T S : Type 0} (eq : T → T → Bool) where
               ∙ clone_of_a_set eq laws ts clones distinct
               (zip_weaken C (λ x y. eq x y ≡ true) f ts clones cloned);
           same = λ f. made_elements clones s new made
-              ∙ ap (λ xs. keys_of (extended eq [] (pairs_of xs))) (zip_same C f ts clones cloned)
+              ∙ ap (λ xs. keys_of (extended eq [] (pairs_of xs))) (same_from_all_zip C ts clones cloned f)
               ∙ own_elements eq laws ts distinct;
         }
 

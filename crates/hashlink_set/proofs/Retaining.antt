@@ -1,9 +1,8 @@
 -- What the calls of a closure at pairs are to another one that it calls at each element.
-use Rattle.std.proofs.Common.{◌≡◌, Bool, List, [], ◌∷◌, ◌∙◌, ap, subst, sym}
+use Rattle.hashlink_set.proofs.Names.{◌≡◌, Bool, List, [], ◌∷◌, ◌∙◌, ap, subst, sym, RetainsInOrder, SetState}
 use Rattle.std.specs.List.{FoldsTo}
 use Rattle.std.specs.Map.Calls.{CallableOnEachPair, SomeCallAtPair}
-use Rattle.hashlink_model.specs.Retain.{KeepsInOrder, RetainsInOrder}
-use Rattle.hashlink_model.specs.Sets.{SetState}
+use Rattle.hashlink_model.specs.Retain.{KeepsInOrder}
 
 module _ {C F T : Type 0} (see : C → F) (P : C → T → Unit {0} → Bool → Unit {0} → C → Type 0)
     (Q : F → T → Unit {0} → Bool → Unit {0} → F → Type 0)

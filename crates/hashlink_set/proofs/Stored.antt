@@ -1,39 +1,27 @@
 -- Which element stands last after one came in or moved there.
-use Rattle.std.proofs.Common.{◌≡◌, ℕ, ◌-◌, Result, Bool, true, false, List, [], ◌∷◌, ◌++◌, length, Option}
-use Rattle.std.proofs.Common.{None, Some, Ok, Err, cond, ◌||◌, is_some, unwrap_or, refl, sym, ap, subst, ◌∙◌}
-use Rattle.std.proofs.Common.{arith, length-append}
-use Rattle.std.specs.Prelude.{IfOk, IfErr}
-use Rattle.std.specs.Cmp.{IsEquivalence}
-use Rattle.std.specs.List.{find, IsDistinct}
-use Rattle.std.specs.Map.{keys_of}
-use Rattle.std.specs.Set.{is_member, remove_key}
+use Rattle.hashlink_set.proofs.Names.{◌≡◌, ℕ, ◌-◌, Result, Bool, true, false, List, [], ◌∷◌, ◌++◌, length}
+use Rattle.hashlink_set.proofs.Names.{Option, None, Some, Ok, Err, is_some, refl, sym, ap, subst, ◌∙◌, arith}
+use Rattle.hashlink_set.proofs.Names.{IfOk, IfErr, IsEquivalence, find, keys_of, is_member, remove_key}
+use Rattle.hashlink_set.proofs.Names.{is_some-lookup, SetState, elements_of, put_element, stored_element}
+use Rattle.hashlink_set.proofs.Names.{SetInserts, SetReplaces, Moves, last_of, set_inserts, set_replaces}
+use Rattle.hashlink_set.proofs.Names.{as_value, GetsOrMakes}
+use Rattle.std.proofs.Common.{unwrap_or, length-append}
+use Rattle.std.specs.List.{IsDistinct}
 use Rattle.std.proofs.lemmas.Map.Entries.{length-keys_of}
-use Rattle.std.proofs.lemmas.Map.Made.{is_some-lookup}
 use Rattle.hashlink_model.specs.MapState.{AddsEntry, RefusesEntry}
-use Rattle.hashlink_model.specs.Sets.{SetState, elements_of, put_element, stored_element, SetInserts}
-use Rattle.hashlink_model.specs.Sets.{SetReplaces}
-use Rattle.hashlink_model.specs.Steps.{Moves}
-use Rattle.hashlink_model.specs.Walk.{last_of}
 use Rattle.hashlink_model.proofs.Places.{slice_get_here}
-use Rattle.hashlink_model.proofs.SetElements.{moves_elements, set_inserts, set_replaces, put_element_back}
+use Rattle.hashlink_model.proofs.SetElements.{moves_elements, put_element_back}
 use Rattle.hashlink_model.proofs.SetSteps.{IsDistinct-replaced}
-use Rattle.hashlink_set.specs.Answers.{as_value}
-use Rattle.hashlink_set.specs.Made.{GetsOrMakes}
 
 last_of-end : {X : Type 0} (xs : List X) (x : X) → last_of (xs ++ x ∷ []) ≡ Some x
 last_of-end xs x =
     let n : length (xs ++ x ∷ []) - 1 ≡ length xs = omega (arith, length-append xs (x ∷ [])) in
     rw (n, slice_get_here xs x []) refl
 
-found_by : {T : Type 0} (b : Bool) (x : T) (o : Option T) (c : Bool) → is_some o ≡ c
-    → is_some (cond b (Some x) o) ≡ (b || c)
-found_by true x o c h = refl
-found_by false x o c h = h
-
 is_some-find : {T : Type 0} (eq : T → T → Bool) (t : T) (ts : List T) → is_some (find (eq t) ts)
     ≡ is_member eq ts t
 is_some-find eq t [] = refl
-is_some-find eq t (x ∷ ts) = found_by (eq t x) x (find (eq t) ts) (is_member eq ts t) (is_some-find eq t ts)
+is_some-find eq t (x ∷ ts) = grind (arith, is_some-find eq t ts)
 
 last_put : {T : Type 0} (eq : T → T → Bool) (ts : List T) (t : T)
     → last_of (put_element eq ts t (length ts)) ≡ Some (stored_element eq ts t)
@@ -60,11 +48,7 @@ module _ {T S : Type 0} (eq : T → T → Bool) where
         let absent : is_some (find (eq t) (elements_of old)) ≡ false
         = is_some-find eq t (elements_of old) ∙ sym (is_some-lookup (eq t) old.entries)
         ∙ ap is_some s.absent in
-        inserted_last true s ∙ by (find (eq t) (elements_of old)) absent
-      where
-        by : (o : Option T) → is_some o ≡ false → Some (unwrap_or o t) ≡ Some t
-        by None h = refl
-        by (Some x) h = absurd (cc)
+        inserted_last true s ∙ grind (arith, absent)
 
     -- what is lent where an element was there
     pub moved_gets : (Makes : T → Type 0) → Moves eq old new t (length old.entries) (Some tt)
@@ -104,11 +88,7 @@ unmoved eq old new t n false unfound s =
     let none : is_some (find (eq t) (elements_of old)) ≡ false
     = is_some-find eq t (elements_of old) ∙ sym (is_some-lookup (eq t) old.entries)
     ∙ ap is_some (sym s.answer) in
-    (by (find (eq t) (elements_of old)) none, s.step)
-  where
-    by : {X : Type 0} (o : Option X) → is_some o ≡ false → o ≡ None
-    by None h = refl
-    by (Some x) h = absurd (cc)
+    (grind (arith, none), s.step)
 
 -- no two elements are equal after a replace, as before
 module _ {T S : Type 0} {eq : T → T → Bool} (laws : IsEquivalence eq) (old new : SetState T S) (t : T) where

@@ -1,6 +1,5 @@
-use Rattle.std.proofs.Common.{◌≡◌, ◌+◌, ◌++◌, ◌∷◌, [], take, sym, ap, ◌∙◌, subst}
+use Rattle.hashlink_curve.proofs.Names.{◌≡◌, ◌+◌, ◌++◌, ◌∷◌, [], take, sym, ap, ◌∙◌, subst, Counted}
 use Rattle.std.proofs.lemmas.List.{take_more}
-use Rattle.hashlink_curve.specs.Curve.{Counted}
 use Rattle.hashlink_curve.proofs.curve.miss_curve.Goals as goal
 
 pub loop-key-preserved : goal.loop-key-preserved

@@ -1,5 +1,4 @@
-use Rattle.std.proofs.Common.{take}
-use Rattle.hashlink_curve.specs.Curve.{Counted}
+use Rattle.hashlink_curve.proofs.Names.{take, Counted}
 use Rattle.hashlink_curve.proofs.curve.miss_curve.Given as goal
 
 abbrev pub invariant-loop-key : goal.invariant-loop-key

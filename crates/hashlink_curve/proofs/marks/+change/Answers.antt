@@ -1,5 +1,4 @@
-use Rattle.std.proofs.Common.{sym, subst, ap, ◌∙◌}
-use Rattle.hashlink_curve.specs.Marks.{CanChange, changed, rows_of}
+use Rattle.hashlink_curve.proofs.Names.{sym, subst, ap, ◌∙◌, CanChange, changed, rows_of}
 use Rattle.hashlink_curve.proofs.Sums.{change-step}
 use Rattle.hashlink_curve.proofs.marks.+change.Goals as goal
 

@@ -1,5 +1,4 @@
-use Rattle.std.proofs.Common.{sym}
-use Rattle.hashlink_core.specs.Keyed.{state_of}
+use Rattle.hashlink_curve.proofs.Names.{sym, state_of}
 use Rattle.hashlink_map.proofs.Walking.{on-some}
 use Rattle.hashlink_curve.proofs.Placing.{moves_last}
 use Rattle.hashlink_curve.proofs.recency.move_last.Goals as goal

@@ -1,5 +1,4 @@
-use Rattle.std.proofs.Common.{arith}
-use Rattle.hashlink_core.specs.Keyed.{entries_of, state_of}
+use Rattle.hashlink_curve.proofs.Names.{arith, entries_of, state_of}
 use Rattle.hashlink_curve.proofs.Placing.{Renumbers-step, Renumbers-free, Renumbers-end}
 use Rattle.hashlink_curve.proofs.recency.renumber.Goals as goal
 

@@ -1,5 +1,4 @@
-use Rattle.std.proofs.Common.{◌≡◌, ◌≤◌, ◌+◌, ◌*◌, ◌^◌, length}
-use Rattle.hashlink_core.specs.Keyed.{entries_of}
+use Rattle.hashlink_curve.proofs.Names.{◌≡◌, ◌≤◌, ◌+◌, ◌*◌, ◌^◌, length, entries_of}
 use Rattle.hashlink_curve.proofs.Placing.{Renumbers}
 use Rattle.hashlink_curve.proofs.recency.renumber.Given as goal
 

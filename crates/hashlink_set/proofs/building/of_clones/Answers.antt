@@ -1,12 +1,9 @@
-use Rattle.std.proofs.Common.{[], ◌∷◌, ◌++◌, refl, sym, subst}
+use Rattle.hashlink_set.proofs.Names.{[], ◌∷◌, ◌++◌, refl, sym, subst, AllZip, deref, AcceptsAll, SetInserts}
+use Rattle.hashlink_set.proofs.Names.{accepts_another, on_err}
+use Rattle.std.proofs.lemmas.List.Elements.{AllZip-push}
+use Rattle.hashlink_map.proofs.InTurn.{mapped_another}
+use Rattle.hashlink_set.proofs.OfClones.{first_gave}
 use Rattle.std.proofs.iter.Next as it
-use Rattle.std.specs.List.{AllZip}
-use Rattle.std.specs.Map.Iter.{deref}
-use Rattle.hashlink_model.specs.Many.{AcceptsAll}
-use Rattle.hashlink_model.specs.Sets.{SetInserts}
-use Rattle.hashlink_map.proofs.InTurn.{accepts_another, mapped_another}
-use Rattle.hashlink_map.proofs.Extending.{on_err}
-use Rattle.hashlink_set.proofs.OfClones.{first_gave, zip_another}
 use Rattle.hashlink_set.proofs.building.of_clones.Goals as goal
 
 pub loop-element-init : goal.loop-element-init
@@ -21,7 +18,7 @@ loop-element-preserved g c =
     it.again inv x c.in-Some.is (c.next.ensures.steps, c.next.ensures.goes) (
       h.0 ++ new.0 ∷ [],
       subst (λ l. AllZip g.T.Clone.is_clone l (h.0 ++ new.0 ∷ [])) (sym (mapped_another deref inv.seen x))
-          (zip_another g.T.Clone.is_clone _ _ _ _ h.1 new.2),
+          (AllZip-push g.T.Clone.is_clone _ _ _ _ h.1 new.2),
       accepts_another (SetInserts g.T.PartialEq.eq) c.with_hasher-set.result c.loop-element.set
           c.insert_clone.new.self h.0 new.0 new.1 h.2 new.3,
     )

@@ -1,11 +1,6 @@
 -- Clones of what came so far were inserted in turn.
-use Rattle.std.proofs.Common.{List, map}
+use Rattle.hashlink_set.proofs.Names.{List, map, EndsFrom, items_left, AllZip, deref, AcceptsAll, SetInserts}
 use Rattle.std.proofs.iter.Next as it
-use Rattle.std.specs.Iterator.{EndsFrom, items_left}
-use Rattle.std.specs.List.{AllZip}
-use Rattle.std.specs.Map.Iter.{deref}
-use Rattle.hashlink_model.specs.Many.{AcceptsAll}
-use Rattle.hashlink_model.specs.Sets.{SetInserts}
 use Rattle.hashlink_set.proofs.building.of_clones.Given as goal
 
 abbrev pub invariant-loop-element : goal.invariant-loop-element

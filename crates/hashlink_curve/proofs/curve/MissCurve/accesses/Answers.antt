@@ -1,5 +1,4 @@
-use Rattle.std.proofs.Common.{sym, ◌∙◌, subst}
-use Rattle.hashlink_curve.specs.Curve.{Counted}
+use Rattle.hashlink_curve.proofs.Names.{sym, ◌∙◌, subst, Counted}
 use Rattle.hashlink_curve.proofs.Histories.{Counted-accesses}
 use Rattle.hashlink_curve.proofs.curve.MissCurve.accesses.Goals as goal
 

@@ -1,5 +1,4 @@
-use Rattle.std.proofs.Common.{◌≡◌, length, ap, ◌∙◌}
-use Rattle.hashlink_curve.specs.Curve.{CurveState}
+use Rattle.hashlink_curve.proofs.Names.{◌≡◌, length, ap, ◌∙◌, CurveState}
 use Rattle.hashlink_curve.proofs.Histories.{Counted-distinct}
 use Rattle.hashlink_curve.proofs.curve.MissCurve.distinct.Goals as goal
 

@@ -1,6 +1,5 @@
-use Rattle.std.proofs.Common.{◌≡◌, ◌-◌, length, sym, ap, ap₂, ◌∙◌, subst, arith}
-use Rattle.std.specs.Prelude.{sum}
-use Rattle.hashlink_curve.specs.Curve.{CurveState, ListsFalls, falls_from}
+use Rattle.hashlink_curve.proofs.Names.{◌≡◌, ◌-◌, length, sym, ap, ap₂, ◌∙◌, subst, arith, sum, CurveState}
+use Rattle.hashlink_curve.proofs.Names.{ListsFalls, falls_from}
 use Rattle.hashlink_curve.proofs.FallsListed.{lists_falls}
 use Rattle.hashlink_curve.proofs.curve.MissCurve.falls.Goals as goal
 

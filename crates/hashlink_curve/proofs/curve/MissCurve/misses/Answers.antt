@@ -1,6 +1,5 @@
-use Rattle.std.proofs.Common.{◌≡◌, ◌≤◌, ◌+◌, length, ap, ◌∙◌, arith}
-use Rattle.std.specs.Prelude.{sum, drop}
-use Rattle.hashlink_curve.specs.Curve.{CurveState, misses_at}
+use Rattle.hashlink_curve.proofs.Names.{◌≡◌, ◌≤◌, ◌+◌, length, ap, ◌∙◌, arith, sum, drop, CurveState}
+use Rattle.hashlink_curve.proofs.Names.{misses_at}
 use Rattle.hashlink_curve.proofs.Histories.{sum-drop-all, sum-drop-falls}
 use Rattle.hashlink_curve.proofs.curve.MissCurve.misses.Goals as goal
 

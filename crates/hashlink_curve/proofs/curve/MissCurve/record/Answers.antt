@@ -1,5 +1,4 @@
-use Rattle.std.proofs.Common.{◌+◌, ◌++◌, ◌∷◌, [], sym, ap, ◌∙◌, subst, get_or, set}
-use Rattle.hashlink_curve.specs.Curve.{Counted}
+use Rattle.hashlink_curve.proofs.Names.{◌+◌, ◌++◌, ◌∷◌, [], sym, ap, ◌∙◌, subst, get_or, set, Counted}
 use Rattle.hashlink_curve.proofs.Histories.{Counted-absent, Counted-again}
 use Rattle.hashlink_curve.proofs.curve.MissCurve.record.Goals as goal
 

@@ -1,7 +1,5 @@
-use Rattle.std.proofs.Common.{refl, ◌≡◌, ◌+◌, ◌++◌, [], sym, ap, ◌∙◌, subst, set, true}
-use Rattle.std.specs.List.{list_any}
-use Rattle.hashlink_curve.specs.Curve.{Counted}
-use Rattle.hashlink_curve.specs.Recency.{MovesPast}
+use Rattle.hashlink_curve.proofs.Names.{refl, ◌≡◌, ◌+◌, ◌++◌, [], sym, ap, ◌∙◌, subst, set, true, list_any}
+use Rattle.hashlink_curve.proofs.Names.{Counted, MovesPast}
 use Rattle.hashlink_curve.proofs.Histories.{Counted-again, list_any-here, test_is}
 use Rattle.hashlink_curve.proofs.curve.MissCurve.record_match.Goals as goal
 

@@ -1,6 +1,4 @@
-use Rattle.std.proofs.Common.{sym, ap, ◌∙◌, subst}
-use Rattle.std.specs.List.{list_any}
-use Rattle.hashlink_curve.specs.Curve.{Counts, CurveState}
+use Rattle.hashlink_curve.proofs.Names.{sym, ap, ◌∙◌, subst, list_any, Counts, CurveState}
 use Rattle.hashlink_curve.proofs.Histories.{Counts-alike, test_is}
 use Rattle.hashlink_curve.proofs.curve.MissCurve.record_with.Goals as goal
 

@@ -1,6 +1,5 @@
-use Rattle.std.proofs.Common.{◌≡◌, ◌-◌, length}
-use Rattle.std.specs.Prelude.{sum}
-use Rattle.hashlink_curve.specs.Curve.{Falling, falls_from}
+use Rattle.hashlink_curve.proofs.Names.{◌≡◌, ◌-◌, length, sum, falls_from}
+use Rattle.hashlink_curve.specs.Curve.{Falling}
 use Rattle.hashlink_curve.proofs.falls.FallsIterator.next.Given as goal
 
 abbrev pub invariant-loop-count : goal.invariant-loop-count

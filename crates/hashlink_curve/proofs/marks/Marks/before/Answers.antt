@@ -1,5 +1,4 @@
-use Rattle.std.proofs.Common.{sym, subst, refl, ap, length, arith}
-use Rattle.hashlink_curve.specs.Marks.{Marked}
+use Rattle.hashlink_curve.proofs.Names.{sym, subst, refl, ap, length, arith, Marked}
 use Rattle.hashlink_curve.proofs.Sums.{Read, reads, marks_before}
 use Rattle.hashlink_curve.proofs.marks.Marks.before.Goals.{After-deref-2}
 use Rattle.hashlink_curve.proofs.marks.Marks.before.Goals as goal

@@ -1,8 +1,6 @@
-use Rattle.std.proofs.Common.{◌≡◌, ℕ, List, ap, ap₂, get_or, length, set, ◌+◌, ◌-◌, ◌∙◌, ◌≤◌, ◌<◌, arith}
-use Rattle.std.specs.Prelude.{All}
+use Rattle.hashlink_curve.proofs.Names.{◌≡◌, ℕ, List, ap, ap₂, get_or, length, set, ◌+◌, ◌-◌, ◌∙◌, ◌≤◌, ◌<◌}
+use Rattle.hashlink_curve.proofs.Names.{arith, All, get_or_default_zero, rows_of}
 use Rattle.std.proofs.lemmas.List.Elements.{All-get_or}
-use Rattle.std.proofs.lemmas.Grind.{get_or_default_zero}
-use Rattle.hashlink_curve.specs.Marks.{rows_of}
 use Rattle.hashlink_curve.proofs.Sums.{AreSummed-can_change, AreSummed-changed}
 use Rattle.hashlink_curve.proofs.marks.Marks.change_at.Goals as goal
 

@@ -1,7 +1,5 @@
-use Rattle.std.proofs.Common.{◌≡◌, ◌+◌, ◌/◌, ◌∙◌, ◌++◌, ◌∷◌, [], List, ℕ, ap, subst, sym, arith, rules}
-use Rattle.std.specs.Prelude.{replicate}
-use Rattle.std.proofs.lemmas.List.{map-append}
-use Rattle.hashlink_curve.specs.Marks.{rows_of}
+use Rattle.hashlink_curve.proofs.Names.{◌≡◌, ◌+◌, ◌/◌, ◌∙◌, ◌++◌, ◌∷◌, [], List, ℕ, ap, subst, sym, arith}
+use Rattle.hashlink_curve.proofs.Names.{rules, replicate, map-append, rows_of}
 use Rattle.hashlink_curve.proofs.Sums.{OpenRows, OpenRows-push, OpenRows-end}
 use Rattle.hashlink_curve.proofs.marks.Marks.with_places.Goals as goal
 

@@ -1,6 +1,4 @@
-use Rattle.std.proofs.Common.{◌≡◌, ◌≤◌, ◌^◌}
-use Rattle.std.specs.Prelude.{replicate}
-use Rattle.hashlink_curve.specs.Marks.{rows_of}
+use Rattle.hashlink_curve.proofs.Names.{◌≡◌, ◌≤◌, ◌^◌, replicate, rows_of}
 use Rattle.hashlink_curve.proofs.Sums.{OpenRows}
 use Rattle.hashlink_curve.proofs.marks.Marks.with_places.Given as goal
 

@@ -1,11 +1,9 @@
-use Rattle.std.proofs.Common.{◌<◌, ◌-◌, length, ◌∙◌, subst, arith, rules}
-use Rattle.std.specs.Map.{keys_of}
-use Rattle.hashlink_core.specs.Keyed.{entries_of}
-use Rattle.hashlink_curve.specs.Recency.{MovesPast, GoesLast}
+use Rattle.hashlink_curve.proofs.Names.{◌<◌, ◌-◌, length, ◌∙◌, subst, arith, rules, keys_of, entries_of}
+use Rattle.hashlink_curve.proofs.Names.{MovesPast, GoesLast}
 use Rattle.hashlink_curve.proofs.Placing.{Found, found, found_moves, found_placed, found_free, free_at}
 use Rattle.hashlink_curve.proofs.Placing.{absent_last, placed_last}
-use Rattle.hashlink_curve.proofs.recency.Recency.touch.Given as given
 use Rattle.hashlink_curve.proofs.recency.Recency.touch.Goals.{In-Ok-Some}
+use Rattle.hashlink_curve.proofs.recency.Recency.touch.Given as given
 use Rattle.hashlink_curve.proofs.recency.Recency.touch.Goals as goal
 
 -- the entry that the key had

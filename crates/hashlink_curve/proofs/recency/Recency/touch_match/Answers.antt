@@ -1,15 +1,10 @@
-use Rattle.std.proofs.Common.{◌<◌, ◌-◌, length, sym, ap, ◌∙◌, subst, arith, rules}
-use Rattle.std.specs.List.{list_any}
-use Rattle.std.specs.Map.{keys_of}
-use Rattle.hashlink_core.specs.Keyed.{entries_of}
-use Rattle.hashlink_curve.specs.Recency.{MovesPast}
-use Rattle.hashlink_model.specs.Entries.{IsEntries}
+use Rattle.hashlink_curve.proofs.Names.{◌<◌, ◌-◌, length, sym, ap, ◌∙◌, subst, arith, rules, list_any}
+use Rattle.hashlink_curve.proofs.Names.{keys_of, entries_of, MovesPast, IsEntries, none_from_lookup}
 use Rattle.hashlink_model.proofs.Puts.{IsEntries-put}
-use Rattle.hashlink_model.proofs.Splits.{none_from_lookup}
 use Rattle.hashlink_curve.proofs.Placing.{Found, found_match, found_moves, found_placed, found_free}
 use Rattle.hashlink_curve.proofs.Placing.{list_any-keys}
-use Rattle.hashlink_curve.proofs.recency.Recency.touch_match.Given as given
 use Rattle.hashlink_curve.proofs.recency.Recency.touch_match.Goals.{In-Some}
+use Rattle.hashlink_curve.proofs.recency.Recency.touch_match.Given as given
 use Rattle.hashlink_curve.proofs.recency.Recency.touch_match.Goals as goal
 
 pub returns-in_default-clause-touched : goal.returns-in_default-clause-touched

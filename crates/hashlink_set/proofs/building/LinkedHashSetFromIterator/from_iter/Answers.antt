@@ -1,5 +1,4 @@
-use Rattle.hashlink_model.specs.Many.{MadeFrom}
-use Rattle.hashlink_model.specs.Sets.{SetInserts}
+use Rattle.hashlink_set.proofs.Names.{MadeFrom, SetInserts}
 use Rattle.hashlink_map.proofs.Extending.{made_by_answer}
 use Rattle.hashlink_set.proofs.building.LinkedHashSetFromIterator.from_iter.Goals as goal
 

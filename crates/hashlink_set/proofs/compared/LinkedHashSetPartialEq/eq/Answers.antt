@@ -1,6 +1,5 @@
-use Rattle.std.proofs.Common.{sym, ◌∙◌}
+use Rattle.hashlink_set.proofs.Names.{sym, ◌∙◌, elements_of}
 use Rattle.std.specs.Cmp.Lexicographic.{unequal}
-use Rattle.hashlink_model.specs.Sets.{elements_of}
 use Rattle.hashlink_set.proofs.compared.LinkedHashSetPartialEq.eq.Goals as goal
 
 pub returns-then-len : goal.returns-then-len

@@ -1,6 +1,5 @@
 -- What is left is as long on both sides, and equal where the whole lists are.
-use Rattle.std.proofs.Common.{◌≡◌, length}
-use Rattle.hashlink_model.specs.Compare.{elements_eq}
+use Rattle.hashlink_set.proofs.Names.{◌≡◌, length, elements_eq}
 use Rattle.hashlink_set.proofs.compared.LinkedHashSetPartialEq.eq.Given as goal
 
 abbrev pub invariant-loop-element : goal.invariant-loop-element

@@ -1,6 +1,5 @@
-use Rattle.hashlink_model.specs.MapState.{Grows}
-use Rattle.hashlink_model.specs.Sets.{SetInserts}
-use Rattle.hashlink_map.proofs.Extending.{grows-none, took_all, took_some, stopped_at_last, cuts_item}
+use Rattle.hashlink_set.proofs.Names.{Grows, SetInserts, grows-none, took_all, took_some, stopped_at_last}
+use Rattle.hashlink_map.proofs.Extending.{cuts_item}
 use Rattle.hashlink_set.proofs.extend.LinkedHashSetExtend.extend.Goals as goal
 
 pub returns-in_err-extend-clause-ran : goal.returns-in_err-extend-clause-ran

@@ -1,8 +1,6 @@
-use Rattle.std.proofs.Common.{map}
-use Rattle.std.specs.Map.Iter.{deref}
-use Rattle.hashlink_model.specs.MapState.{Grows}
-use Rattle.hashlink_model.specs.Sets.{SetInserts}
-use Rattle.hashlink_map.proofs.Extending.{grows-none, took_all, took_some, stopped_at_last, cuts_copy}
+use Rattle.hashlink_set.proofs.Names.{map, deref, Grows, SetInserts, grows-none, took_all, took_some}
+use Rattle.hashlink_set.proofs.Names.{stopped_at_last}
+use Rattle.hashlink_map.proofs.Extending.{cuts_copy}
 use Rattle.hashlink_set.proofs.extend.LinkedHashSetExtendRef.extend.Goals as goal
 
 pub returns-in_err-extend_ref-clause-ran : goal.returns-in_err-extend_ref-clause-ran

@@ -1,7 +1,5 @@
-use Rattle.std.proofs.Common.{◌∙◌, rules}
+use Rattle.hashlink_set.proofs.Names.{◌∙◌, rules, TakesFirst, deref, elements_of}
 use Rattle.std.proofs.result.Match.{if_ok_then}
-use Rattle.std.specs.Map.Iter.{TakesFirst, deref}
-use Rattle.hashlink_model.specs.Sets.{elements_of}
 use Rattle.hashlink_set.proofs.OfClones.{is_of_items, given_all}
 use Rattle.hashlink_set.proofs.set.LinkedHashSet.clone.Goals as goal
 

@@ -1,6 +1,4 @@
-use Rattle.std.proofs.Common.{◌∙◌}
-use Rattle.hashlink_core.specs.Keyed.{entries_of}
-use Rattle.std.proofs.lemmas.Map.Made.{is_some-lookup}
+use Rattle.hashlink_set.proofs.Names.{◌∙◌, entries_of, is_some-lookup}
 use Rattle.hashlink_set.proofs.set.LinkedHashSet.contains.Goals as goal
 
 pub returns-clause-found : goal.returns-clause-found

@@ -1,7 +1,6 @@
-use Rattle.std.proofs.Common.{[], ◌∷◌, ◌++◌, ◌∙◌}
+use Rattle.hashlink_set.proofs.Names.{[], ◌∷◌, ◌++◌, ◌∙◌, SetInserts, accepts_another}
+use Rattle.hashlink_map.proofs.InTurn.{stops_after, counts_another}
 use Rattle.std.proofs.iter.Next as it
-use Rattle.hashlink_model.specs.Sets.{SetInserts}
-use Rattle.hashlink_map.proofs.InTurn.{accepts_another, stops_after, counts_another}
 use Rattle.hashlink_set.proofs.set.LinkedHashSet.extend_from.Goals as goal
 
 pub returns-in-Err-clause-stopped : goal.returns-in-Err-clause-stopped

@@ -1,9 +1,7 @@
 -- The elements that came so far are in.
-use Rattle.std.proofs.Common.{◌≡◌, ◌-◌, ◌^◌, length, min}
+use Rattle.hashlink_set.proofs.Names.{◌≡◌, ◌-◌, ◌^◌, length, EndsFrom, items_left, AcceptsAll, SetInserts}
+use Rattle.std.proofs.Common.{min}
 use Rattle.std.proofs.iter.Next as it
-use Rattle.std.specs.Iterator.{EndsFrom, items_left}
-use Rattle.hashlink_model.specs.Many.{AcceptsAll}
-use Rattle.hashlink_model.specs.Sets.{SetInserts}
 use Rattle.hashlink_set.proofs.set.LinkedHashSet.extend_from.Given as goal
 
 abbrev pub invariant-loop-element : goal.invariant-loop-element

@@ -1,7 +1,6 @@
-use Rattle.std.proofs.Common.{[], subst, sym}
+use Rattle.hashlink_set.proofs.Names.{[], subst, sym, AcceptsAll, SetInserts}
 use Rattle.std.proofs.lemmas.Result.{on_ok_weaker, IfErr-weaker}
-use Rattle.hashlink_model.specs.Many.{AcceptsAll, StopsAt}
-use Rattle.hashlink_model.specs.Sets.{SetInserts}
+use Rattle.hashlink_model.specs.Many.{StopsAt}
 use Rattle.hashlink_set.proofs.Copied.{copied_all, copied_some}
 use Rattle.hashlink_set.proofs.set.LinkedHashSet.extend_ref.Goals as goal
 

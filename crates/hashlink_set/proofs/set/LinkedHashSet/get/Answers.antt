@@ -1,6 +1,4 @@
-use Rattle.std.proofs.Common.{option_copied, ap, ◌∙◌}
-use Rattle.std.specs.Option.{option_map}
-use Rattle.hashlink_core.specs.Keyed.{entries_of}
+use Rattle.hashlink_set.proofs.Names.{option_copied, ap, ◌∙◌, option_map, entries_of}
 use Rattle.hashlink_set.proofs.Lookups.{element-found}
 use Rattle.hashlink_set.proofs.set.LinkedHashSet.get.Goals as goal
 

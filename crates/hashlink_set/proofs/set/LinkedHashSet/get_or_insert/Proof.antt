@@ -1,52 +1,29 @@
 -- `get_or_insert` puts the element in, and lends the last of what is there then.
-use Rattle.std.proofs.Common.{◌≡◌, List, [], ◌∷◌, ◌++◌, refl, sym, ap, subst, ◌∙◌}
-use base.Logic.{SProp, ent, id⊢, emp}
-use mir.Syntax.{a_type, named, ty_ptr, dcons, dnil}
-use mir.MapTy.{inst_fn}
-use mir.Val.{Val, of_list, vptr, vstruct}
-use prog.Wp.{WpFn}
-use types.Logic.{sem}
-use types.Kit.{‵, raw, ◌⊛◌, some, later, ◌$◌, ◌∵◌, !, qed, by, move, keep, drop, split, join, fsplit, fjoin}
-use types.Kit.{fpick, feq_l, pick, await, rewrite, use0, use1}
-use types.Part.{whole, sub}
-use types.Run.{stop, fld, of_opd, addr, and_then, no_more, returns, enter}
-use types.ByLocal.{alloc_all, pass_all, free_all, look_at, get, get_in, through, sets, lands_as}
-use contract.BorrowLft.{◌⊑◌}
-use contract.Monad.{fact, fact_i}
-use contract.Lifetimes.{Lfts}
-use contract.Running.{tables}
-use denote.Exit.{no}
-use denote.Laws.{Is, shows}
-use denote.Param.{bounded, layout, param}
-use denote.Param.Laws.{Laws, param_laws, of_field}
-use denote.Param.Shared.{copy_shared}
-use denote.RattleType.{RattleType, Valss}
-use denote.Ref.{MutRef, ShrRef, NamedLft, mut_vals, mut_Tells}
-use denote.Signature.{plain, mut_ref_to, types_at}
-use denote.Steps.{nothing, peeks, only, heard}
-use denote.Struct.Field.{shr_ref_field}
-use denote.Struct.Laws.{shr_ref_laws, shr_ref_copy}
-use denote.Struct.Struct.{as_fields}
-use denote.Struct.Tuple.{Tuple}
-use denote.Triple.Call.{calls_at}
-use denote.Triple.Clauses.{lasts, Lasts}
-use denote.Triple.Entry.{alive, on_entry}
-use denote.Triple.Spec.{triple_of}
-use denote.Triple.Table.{framed}
-use denote.Triple.Walked.{Stays, stay_dropped, walk_of, Goes-spent_ref, Goes-dropped}
-use Rattle.std.proofs.raw_atomic.Walks.{proved_at, leaves}
-use Rattle.std.proofs.option.Option.TheLaws as option_laws
-use Rattle.std.proofs.result.Result.TheLaws as result_laws
-use Rattle.std.specs.Prelude.{IfOk, IfErr, IsSome, None, Some, option_copied}
-use Rattle.std.specs.contracts.option.Option as option
-use Rattle.std.specs.contracts.result.Result as result
-use Rattle.hashlink_map.proofs.PairValues.{value_of, valued}
-use Rattle.hashlink_model.specs.Sets.{elements_of, stored_element, GetsOrInserts}
-use Rattle.hashlink_model.specs.Walk.{last_of}
-use Rattle.hashlink_set.specs.SetLends.{as_seen, PutsElement, EndsInserted, StaysAsItWas}
-use Rattle.hashlink_set.specs.contracts.set.LinkedHashSet as set
+use Rattle.hashlink_set.proofs.Names.{◌≡◌, List, [], ◌∷◌, ◌++◌, refl, sym, ap, subst, ◌∙◌, SProp, ent, id⊢}
+use Rattle.hashlink_set.proofs.Names.{emp, a_type, named, ty_ptr, dcons, dnil, inst_fn, Val, of_list, vptr}
+use Rattle.hashlink_set.proofs.Names.{vstruct, WpFn, sem, ‵, raw, ◌⊛◌, some, later, ◌$◌, ◌∵◌, !, qed, by}
+use Rattle.hashlink_set.proofs.Names.{move, keep, drop, split, join, fsplit, fjoin, fpick, feq_l, pick, await}
+use Rattle.hashlink_set.proofs.Names.{rewrite, use0, use1, whole, sub, stop, fld, of_opd, addr, and_then}
+use Rattle.hashlink_set.proofs.Names.{no_more, returns, enter, alloc_all, pass_all, free_all, look_at, get}
+use Rattle.hashlink_set.proofs.Names.{get_in, through, sets, lands_as, ◌⊑◌, fact, fact_i, Lfts, tables, no}
+use Rattle.hashlink_set.proofs.Names.{Is, shows, bounded, layout, param, Laws, param_laws, of_field}
+use Rattle.hashlink_set.proofs.Names.{copy_shared, RattleType, Valss, MutRef, ShrRef, NamedLft, mut_vals}
+use Rattle.hashlink_set.proofs.Names.{mut_Tells, plain, mut_ref_to, types_at, nothing, peeks, only, heard}
+use Rattle.hashlink_set.proofs.Names.{shr_ref_field, shr_ref_laws, shr_ref_copy, as_fields, Tuple, calls_at}
+use Rattle.hashlink_set.proofs.Names.{lasts, Lasts, alive, on_entry, triple_of, framed, Stays, stay_dropped}
+use Rattle.hashlink_set.proofs.Names.{walk_of, Goes-spent_ref, Goes-dropped, proved_at, leaves, IfOk, IfErr}
+use Rattle.hashlink_set.proofs.Names.{IsSome, None, Some, option_copied, value_of, valued, elements_of}
+use Rattle.hashlink_set.proofs.Names.{stored_element, GetsOrInserts, last_of, as_seen, PutsElement}
+use Rattle.hashlink_set.proofs.Names.{StaysAsItWas}
+use Rattle.hashlink_set.specs.SetLends.{EndsInserted}
 use Rattle.hashlink_set.proofs.LentLast.{Asks, asked, ends_so, there_is_last, answers_insert, is_stored}
 use Rattle.hashlink_set.proofs.LentLast.{is_given}
+use Rattle.hashlink_set.proofs.set.LinkedHashSet.get_or_insert.Statement.{statement}
+use Rattle.std.proofs.option.Option.TheLaws as option_laws
+use Rattle.std.proofs.result.Result.TheLaws as result_laws
+use Rattle.std.specs.contracts.option.Option as option
+use Rattle.std.specs.contracts.result.Result as result
+use Rattle.hashlink_set.specs.contracts.set.LinkedHashSet as set
 use Rattle.hashlink_set.specs.contracts.set.LinkedHashSet.get_or_insert as f
 use Rattle.hashlink_set.specs.contracts.set.LinkedHashSet.put_last as puts
 use Rattle.hashlink_set.specs.contracts.set.LinkedHashSet.last_for_good as lends
@@ -54,7 +31,6 @@ use Rattle.hashlink_set.specs.contracts.set.LinkedHashSet.lent_or_refused as ans
 use Rattle.hashlink_set.proofs.set.LinkedHashSet.put_last.Met as put
 use Rattle.hashlink_set.proofs.set.LinkedHashSet.last_for_good.Met as lent
 use Rattle.hashlink_set.proofs.set.LinkedHashSet.lent_or_refused.Met as answered
-use Rattle.hashlink_set.proofs.set.LinkedHashSet.get_or_insert.Statement.{statement}
 use Rattle.hashlink_set.proofs.set.LinkedHashSet.get_or_insert.Code as code
 
 pub get_or_insert_spec : {M : Type 1} → statement M

@@ -1,57 +1,34 @@
 -- `get_or_insert_with` moves the element or makes it, and lends the last of what is there then.
-use Rattle.std.proofs.Common.{◌≡◌, List, [], ◌∷◌, ◌++◌, refl, sym, ap, subst, ◌∙◌}
-use base.Logic.{SProp, ent, sep, id⊢, emp}
-use mir.Syntax.{a_type, named, ty_ptr, dcons, dnil}
-use mir.MapTy.{inst_fn}
-use mir.Val.{Val, of_list, vptr, vstruct}
-use prog.Wp.{WpFn}
-use types.Logic.{sem}
-use types.Kit.{‵, raw, ◌⊛◌, some, later, ◌$◌, ◌∵◌, !, qed, by, move, keep, drop, split, join, fsplit, fjoin}
-use types.Kit.{fpick, feq_l, pick, await, rewrite, use0, use1}
-use types.Part.{whole, sub}
-use types.Run.{stop, fld, of_opd, addr, and_then, no_more, returns, enter}
-use types.ByLocal.{alloc_all, pass_all, free_all, look_at, get, get_in, through, sets, lands_as}
-use contract.BorrowLft.{◌⊑◌}
-use contract.Monad.{fact, fact_i}
-use contract.Lifetimes.{Lfts}
-use contract.Running.{tables}
-use denote.Exit.{yes, no}
-use denote.Laws.{Is, shows}
-use denote.Param.{bounded, layout, param}
-use denote.Param.Laws.{Laws, param_laws, of_field}
-use denote.Param.Shared.{copy_shared}
-use denote.RattleType.{RattleType, Valss}
-use denote.Ref.{MutRef, ShrRef, NamedLft, mut_vals, mut_Tells, shr_vals, shr_Tells}
-use denote.Signature.{plain, mut_ref_to, shr_ref_to, types_at}
-use denote.Steps.{nothing, peeks, only, heard}
-use denote.Struct.Field.{shr_ref_field}
-use denote.Struct.Laws.{shr_ref_laws, shr_ref_copy}
-use denote.Struct.Struct.{as_fields}
-use denote.Struct.Tuple.{Tuple}
-use denote.Triple.Call.{calls_at}
-use denote.Triple.Clauses.{lasts, Lasts}
-use denote.Triple.Entry.{alive, on_entry}
-use denote.Triple.Spec.{triple_of}
-use denote.Triple.Table.{framed}
-use denote.Triple.Walked.{Stays, stay_dropped, walk_of, Goes-spent_ref, Goes-dropped}
-use Rattle.std.proofs.raw_atomic.Walks.{proved_at, leaves}
-use Rattle.std.proofs.option.Option.TheLaws as option_laws
-use Rattle.std.proofs.result.Result.TheLaws as result_laws
-use Rattle.std.specs.Prelude.{IfOk, IfErr, IsSome, None, Some, option_copied}
-use Rattle.std.specs.Fn.{FnOnceReturnsAt}
-use Rattle.std.specs.List.{find}
-use Rattle.std.specs.Option.{UnwrapsOrElse}
-use Rattle.std.specs.contracts.option.Option as option
-use Rattle.std.specs.contracts.result.Result as result
-use Rattle.hashlink_map.proofs.PairValues.{value_of, valued}
-use Rattle.hashlink_model.specs.Sets.{elements_of}
-use Rattle.hashlink_model.specs.Walk.{last_of}
-use Rattle.hashlink_set.specs.Made.{CanMakeAbsent, GetsOrMakes}
-use Rattle.hashlink_set.specs.SetLends.{as_seen, MakesElement, EndsMade, StaysAsItWas}
-use Rattle.hashlink_set.specs.contracts.set.LinkedHashSet as set
+use Rattle.hashlink_set.proofs.Names.{◌≡◌, List, [], ◌∷◌, ◌++◌, refl, sym, ap, subst, ◌∙◌, SProp, ent, sep}
+use Rattle.hashlink_set.proofs.Names.{id⊢, emp, a_type, named, ty_ptr, dcons, dnil, inst_fn, Val, of_list}
+use Rattle.hashlink_set.proofs.Names.{vptr, vstruct, WpFn, sem, ‵, raw, ◌⊛◌, some, later, ◌$◌, ◌∵◌, !, qed}
+use Rattle.hashlink_set.proofs.Names.{by, move, keep, drop, split, join, fsplit, fjoin, fpick, feq_l, pick}
+use Rattle.hashlink_set.proofs.Names.{await, rewrite, use0, use1, whole, sub, stop, fld, of_opd, addr}
+use Rattle.hashlink_set.proofs.Names.{and_then, no_more, returns, enter, alloc_all, pass_all, free_all}
+use Rattle.hashlink_set.proofs.Names.{look_at, get, get_in, through, sets, lands_as, ◌⊑◌, fact, fact_i, Lfts}
+use Rattle.hashlink_set.proofs.Names.{tables, no, Is, shows, bounded, layout, param, Laws, param_laws}
+use Rattle.hashlink_set.proofs.Names.{of_field, copy_shared, RattleType, Valss, MutRef, ShrRef, NamedLft}
+use Rattle.hashlink_set.proofs.Names.{mut_vals, mut_Tells, plain, mut_ref_to, types_at, nothing, peeks, only}
+use Rattle.hashlink_set.proofs.Names.{heard, shr_ref_field, shr_ref_laws, shr_ref_copy, as_fields, Tuple}
+use Rattle.hashlink_set.proofs.Names.{calls_at, lasts, Lasts, alive, on_entry, triple_of, framed, Stays}
+use Rattle.hashlink_set.proofs.Names.{stay_dropped, walk_of, Goes-spent_ref, Goes-dropped, proved_at, leaves}
+use Rattle.hashlink_set.proofs.Names.{IfOk, IfErr, IsSome, None, Some, option_copied, FnOnceReturnsAt, find}
+use Rattle.hashlink_set.proofs.Names.{UnwrapsOrElse, value_of, valued, elements_of, last_of, GetsOrMakes}
+use Rattle.hashlink_set.proofs.Names.{as_seen, MakesElement, StaysAsItWas}
+use denote.Exit.{yes}
+use denote.Ref.{shr_vals, shr_Tells}
+use denote.Signature.{shr_ref_to}
+use Rattle.hashlink_set.specs.Made.{CanMakeAbsent}
+use Rattle.hashlink_set.specs.SetLends.{EndsMade}
 use Rattle.hashlink_set.proofs.LentLast.{Asks, asked, ends_so, there_is_made, answers_made, is_lent, is_made}
 use Rattle.hashlink_set.proofs.LentLast.{lifetimes_left, shares_left, Left as TokensLeft, Aside, set_aside}
 use Rattle.hashlink_set.proofs.LentLast.{taken_back}
+use Rattle.hashlink_set.proofs.set.LinkedHashSet.get_or_insert_with.Statement.{statement}
+use Rattle.std.proofs.option.Option.TheLaws as option_laws
+use Rattle.std.proofs.result.Result.TheLaws as result_laws
+use Rattle.std.specs.contracts.option.Option as option
+use Rattle.std.specs.contracts.result.Result as result
+use Rattle.hashlink_set.specs.contracts.set.LinkedHashSet as set
 use Rattle.hashlink_set.specs.contracts.set.LinkedHashSet.get_or_insert_with as f
 use Rattle.hashlink_set.specs.contracts.set.LinkedHashSet.put_or_make as puts
 use Rattle.hashlink_set.specs.contracts.set.LinkedHashSet.last_for_good as lends

@@ -1,5 +1,5 @@
-use Rattle.hashlink_set.proofs.set.LinkedHashSet.insert_clone.Goals as goal
 use Rattle.hashlink_set.proofs.set.LinkedHashSet.insert_clone.Goals.{in-Ok, in-Err}
+use Rattle.hashlink_set.proofs.set.LinkedHashSet.insert_clone.Goals as goal
 
 pub returns : goal.returns
 returns g c = elim c.match-insert.branch [

@@ -1,7 +1,4 @@
-use Rattle.std.proofs.Common.{length, refl, subst, rules}
-use Rattle.std.specs.Fn.{FnOnceReturnsAt}
-use Rattle.hashlink_model.specs.Steps.{Moves}
-use Rattle.hashlink_set.specs.Answers.{as_value}
+use Rattle.hashlink_set.proofs.Names.{length, refl, subst, rules, FnOnceReturnsAt, Moves, as_value}
 use Rattle.hashlink_set.proofs.Stored.{moved_gets, made_gets, made_refused, inserts_absent, unmoved}
 use Rattle.hashlink_set.proofs.set.LinkedHashSet.move_or_make.Goals as goal
 

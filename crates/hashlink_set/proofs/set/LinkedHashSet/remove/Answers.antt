@@ -1,5 +1,4 @@
-use Rattle.std.proofs.Common.{is_some, ap, ◌∙◌}
-use Rattle.hashlink_core.specs.Keyed.{entries_of, state_of}
+use Rattle.hashlink_set.proofs.Names.{is_some, ap, ◌∙◌, entries_of, state_of}
 use Rattle.hashlink_set.proofs.Lookups.{member-entry}
 use Rattle.hashlink_set.proofs.Leaving.{removes_match_elements}
 use Rattle.hashlink_set.proofs.set.LinkedHashSet.remove.Goals as goal

@@ -1,5 +1,4 @@
-use Rattle.std.proofs.Common.{rules}
-use Rattle.hashlink_core.specs.Keyed.{state_of}
+use Rattle.hashlink_set.proofs.Names.{rules, state_of}
 use Rattle.hashlink_set.proofs.Entering.{replaces_by_answer}
 use Rattle.hashlink_set.proofs.Stored.{replaces_distinct}
 use Rattle.hashlink_set.proofs.set.LinkedHashSet.replace.Goals as goal

@@ -1,6 +1,5 @@
-use Rattle.std.proofs.Common.{rules, subst}
+use Rattle.hashlink_set.proofs.Names.{rules, subst, elements_in}
 use Rattle.std.specs.List.{IsDistinct}
-use Rattle.hashlink_set.specs.Elements.{elements_in}
 use Rattle.hashlink_model.proofs.Members.{IsDistinct-difference}
 use Rattle.hashlink_set.proofs.sifted.Difference+T+S.of.Goals as goal
 

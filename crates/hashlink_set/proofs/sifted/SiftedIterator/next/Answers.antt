@@ -1,7 +1,4 @@
-use Rattle.std.proofs.Common.{◌≡◌, true, not, ap, sym, ◌∙◌, rules}
-use Rattle.std.specs.Prelude.{eqb}
-use Rattle.hashlink_set.specs.Elements.{elements_in}
-use Rattle.hashlink_set.specs.Walks.{sifts}
+use Rattle.hashlink_set.proofs.Names.{◌≡◌, true, not, ap, sym, ◌∙◌, rules, eqb, elements_in, sifts}
 use Rattle.hashlink_set.proofs.Looking.{some_looks, none_looks, sifts_asked, sifted_steps}
 use Rattle.hashlink_set.proofs.sifted.SiftedIterator.next.Goals as goal
 

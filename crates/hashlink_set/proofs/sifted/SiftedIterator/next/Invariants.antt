@@ -1,8 +1,4 @@
-use Rattle.std.proofs.Common.{◌≡◌, length, not}
-use Rattle.std.specs.Prelude.{eqb}
-use Rattle.hashlink_model.specs.Algebra.{first_passing}
-use Rattle.hashlink_set.specs.Elements.{elements_in}
-use Rattle.hashlink_set.specs.Walks.{sifts}
+use Rattle.hashlink_set.proofs.Names.{◌≡◌, length, not, eqb, first_passing, elements_in, sifts}
 use Rattle.hashlink_set.proofs.sifted.SiftedIterator.next.Given as goal
 
 -- what was looked at does not pass

@@ -1,5 +1,4 @@
-use Rattle.std.proofs.Common.{◌≤◌, length, not, sym, subst}
-use Rattle.std.specs.Prelude.{eqb}
+use Rattle.hashlink_set.proofs.Names.{◌≤◌, length, not, sym, subst, eqb}
 use Rattle.hashlink_model.proofs.LazyWalks.{length-filter-le}
 use Rattle.hashlink_set.specs.Walks.{sifted_rest}
 use Rattle.hashlink_set.proofs.sifted.SiftedIterator.size_hint.Goals as goal

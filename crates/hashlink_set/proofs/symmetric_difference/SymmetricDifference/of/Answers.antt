@@ -1,6 +1,5 @@
-use Rattle.std.proofs.Common.{◌++◌, sym, ap₂, subst}
+use Rattle.hashlink_set.proofs.Names.{◌++◌, sym, ap₂, subst, elements_in}
 use Rattle.std.specs.List.{IsDistinct}
-use Rattle.hashlink_set.specs.Elements.{elements_in}
 use Rattle.hashlink_model.proofs.Members.{IsDistinct-symmetric_difference}
 use Rattle.hashlink_set.proofs.symmetric_difference.SymmetricDifference.of.Goals as goal
 

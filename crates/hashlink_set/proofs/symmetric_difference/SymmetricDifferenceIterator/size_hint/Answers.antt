@@ -1,10 +1,6 @@
-use Rattle.std.proofs.Common.{◌≡◌, length, sym, subst, rules}
-use Rattle.std.specs.Prelude.{IfSome}
-use Rattle.std.specs.Iterator.{at_most, UpTo}
-use Rattle.hashlink_model.specs.Algebra.{at_most_both}
-use Rattle.hashlink_model.proofs.LazyWalks.{left_to_give-at_most}
-use Rattle.hashlink_set.specs.Elements.{elements_in}
-use Rattle.hashlink_set.specs.Walks.{lacks, symmetric_difference_rest, symmetric_difference_walk}
+use Rattle.hashlink_set.proofs.Names.{◌≡◌, length, sym, subst, rules, IfSome, at_most, UpTo, at_most_both}
+use Rattle.hashlink_set.proofs.Names.{left_to_give-at_most, elements_in, lacks, symmetric_difference_rest}
+use Rattle.hashlink_set.specs.Walks.{symmetric_difference_walk}
 use Rattle.hashlink_set.proofs.Looking.{bounds_both}
 use Rattle.hashlink_set.proofs.symmetric_difference.SymmetricDifferenceIterator.size_hint.Goals
     as goal

@@ -1,6 +1,5 @@
-use Rattle.std.proofs.Common.{◌++◌, sym, ap₂, ◌∙◌, subst}
+use Rattle.hashlink_set.proofs.Names.{◌++◌, sym, ap₂, ◌∙◌, subst, elements_in}
 use Rattle.std.specs.List.{IsDistinct}
-use Rattle.hashlink_set.specs.Elements.{elements_in}
 use Rattle.hashlink_model.proofs.LazyWalks.{filter-all}
 use Rattle.hashlink_model.proofs.Members.{IsDistinct-union}
 use Rattle.hashlink_set.proofs.union.Union.of.Goals as goal
