@@ -8,14 +8,10 @@ said_of-requires g c = record {
 }
 
 pub to_front-requires : goal.to_front-requires
-to_front-requires g c = record {
-  says = rw c.in-ToFront.is at c.requires.says;
-}
+to_front-requires g c = record { says = rw c.in-ToFront.is at c.requires.says }
 
 pub to_back-requires : goal.to_back-requires
-to_back-requires g c = record {
-  says = rw c.in-ToBack.is at c.requires.says;
-}
+to_back-requires g c = record { says = rw c.in-ToBack.is at c.requires.says }
 
 pub said_of-requires-in-Front : goal.said_of-requires-in-Front
 said_of-requires-in-Front g c = record {
@@ -36,9 +32,7 @@ keep_where-requires g c = record {
 }
 
 pub reply_of_entry-requires : goal.reply_of_entry-requires
-reply_of_entry-requires g c = record {
-  says = rw c.in-Entry.is at c.requires.says;
-}
+reply_of_entry-requires g c = record { says = rw c.in-Entry.is at c.requires.says }
 
 pub returns-in-Shrink : goal.returns-in-Shrink
 returns-in-Shrink g c =

@@ -24,7 +24,8 @@ said_of_entry-requires-in-OrInsert g c = record {
       there_at_end g.K.PartialEq.eq e _ _ refl refl _ _ c.to_back.ensures.moves
       (ap (λ e. e.place) c.to_back.ensures.stands) in
       let found = sym (there g.K.PartialEq.eq e _ _ refl refl) ∙ sym moved ∙ read in
-      c.requires.says pair (⊎_elim (λ given. rw (given.1, found) refl) (λ given. rw given found) c.in-OrInsert.is);
+      c.requires.says pair
+      (⊎_elim (λ given. rw (given.1, found) refl) (λ given. rw given found) c.in-OrInsert.is);
 }
 
 pub said_of_entry-requires-in-ToFront : goal.said_of_entry-requires-in-ToFront
