@@ -63,7 +63,7 @@ where
     V: Drop,
     S: BuildHasher,
     F: Fn(&K, &V) -> B,
-    requires { CallableOn F.Fn says.now
+    requires says { CallableOn F.Fn says.now
         (λ pair. lookup_entry (K.eq key) (entries_of cache.old) ≡ Some pair) }
     ensures { CacheStep K.eq (ClosureSays F.Fn says.now) (state_of cache.old) (Use key value) (result ∷ [])
         (state_of cache.new) }
@@ -83,7 +83,7 @@ where
     K: Eq + Hash,
     S: BuildHasher,
     F: Fn(&K, &V) -> B,
-    requires { CallableOn F.Fn says.now
+    requires says { CallableOn F.Fn says.now
         (λ pair. lookup_entry (K.eq key.now) (entries_of cache.old) ≡ Some pair) }
     ensures gets { CacheGets K.eq (state_of cache.old) (state_of cache.new) key.now
         (lookup (K.eq key.now) (entries_of cache.old)) }

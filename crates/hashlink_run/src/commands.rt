@@ -239,12 +239,12 @@ where
     V: Drop,
     S: BuildHasher,
     G: Fn(&K, &V) -> bool,
-    requires { CallableOn G.Fn keep.now (IsEntryOf (entries_of map.old)) }
+    requires keep { CallableOn G.Fn keep.now (IsEntryOf (entries_of map.old)) }
     ensures { KeepsWhere (ClosureSays G.Fn keep.now) (state_of map.old) (state_of map.new) }
 {
     map.retain(
         |key, value|
-            requires { CallableAt G.Fn keep.now key.now value.old }
+            requires keep { CallableAt G.Fn keep.now key.now value.old }
             ensures says { ClosureSays G.Fn keep.entry.now key.now value.old result }
             ensures unchanged { (value.new ≡ value.old) × (keep.exit ≡ keep.entry) }
         { keep(key, value) },
@@ -276,7 +276,7 @@ fn shrink_reply<K, V, B>(answer: Result<(), AllocError>) -> Reply<K, V, B>
 pub fn said_of<K, V, B, F>(pair: Option<(&K, &V)>, says: &F) -> Option<B>
 where
     F: Fn(&K, &V) -> B,
-    requires { CallableOn F.Fn says.now (λ read. option_map deref_pair pair ≡ Some read) }
+    requires says { CallableOn F.Fn says.now (λ read. option_map deref_pair pair ≡ Some read) }
     ensures { SaysOf (ClosureSays F.Fn says.now) (option_map deref_pair pair.entry) result }
 {
     let (key, value) = pair?;
@@ -289,7 +289,7 @@ where
     K: Eq + Hash,
     S: BuildHasher,
     F: Fn(&K, &V) -> B,
-    requires { CallableOn F.Fn says.now
+    requires says { CallableOn F.Fn says.now
         (λ pair. lookup_entry (K.eq key.now) (entries_of map.old) ≡ Some pair) }
     ensures moved { Moves K.eq (state_of map.old) (state_of map.new) key.now 0
         (lookup (K.eq key.now) (entries_of map.old)) }
@@ -306,7 +306,7 @@ where
     K: Eq + Hash,
     S: BuildHasher,
     F: Fn(&K, &V) -> B,
-    requires { CallableOn F.Fn says.now
+    requires says { CallableOn F.Fn says.now
         (λ pair. lookup_entry (K.eq key.now) (entries_of map.old) ≡ Some pair) }
     ensures moved { Moves K.eq (state_of map.old) (state_of map.new) key.now (length (entries_of map.old))
         (lookup (K.eq key.now) (entries_of map.old)) }

@@ -50,7 +50,7 @@ where
     V: Drop,
     S: BuildHasher,
     F: Fn(&K, &V) -> B,
-    requires { CallableOn F.Fn says.now (ReadByStep (cursor_state cursor.old) step) }
+    requires says { CallableOn F.Fn says.now (ReadByStep (cursor_state cursor.old) step) }
     ensures same_map { (cursor_map cursor.new).ghost_name ≡ (cursor_map cursor.old).ghost_name }
     ensures stepped { CursorStepped K.eq (ClosureSays F.Fn says.now)
         (cursor_state cursor.old) step (result ∷ []) (cursor_state cursor.new) }

@@ -1,7 +1,7 @@
 //! One step on a map's entry.
 ghost use Rattle.std.specs.Prelude.{◌≡◌, [], ◌∷◌, Some, slice_get};
 ghost use Rattle.hashlink_core.specs.Keyed.{state_of};
-ghost use Rattle.hashlink_map.specs.Entry.{occupied_place, occupied_state};
+ghost use Rattle.hashlink_map.specs.Entry.{occupied_map, occupied_place, occupied_state};
 ghost use Rattle.hashlink_run.specs.CallReplies.{reply_or_refused};
 ghost use Rattle.hashlink_run.specs.EntrySteps.{EntrySteps, ReadAtEntry};
 ghost use Rattle.hashlink_run.specs.Reads.{CallableOn, ClosureSays, SaysOf};
@@ -24,7 +24,7 @@ where
     V: Drop,
     S: BuildHasher,
     F: Fn(&K, &V) -> B,
-    requires { CallableOn F.Fn says.now (ReadAtEntry K.eq (state_of map.old) key step) }
+    requires says { CallableOn F.Fn says.now (ReadAtEntry K.eq (state_of map.old) key step) }
     ensures { EntrySteps K.eq (ClosureSays F.Fn says.now) (state_of map.old) key step (result ∷ [])
         (state_of map.new) }
 {
@@ -48,22 +48,16 @@ where
     V: Drop,
     S: BuildHasher,
     F: Fn(&K, &V) -> B,
-    requires { CallableOn F.Fn says.now (ReadAtEntry K.eq (state_of map.old) key step) }
+    requires says { CallableOn F.Fn says.now (ReadAtEntry K.eq (state_of map.old) key step) }
     ensures { EntrySteps K.eq (ClosureSays F.Fn says.now) (state_of map.old) key step
         (reply_or_refused result ∷ []) (state_of map.new) }
 {
     match map.entry(key) {
         Entry::Occupied(mut entry) => match step {
-            EntryStep::Get => {
-                let said = said_of_entry(&entry, says);
-                entry.into_key();
-                Ok(Reply::Seen(Some(said)))
-            }
+            EntryStep::Get => Ok(Reply::Seen(Some(said_of_entry(entry, says)))),
             EntryStep::OrInsert(_) | EntryStep::ToBack => {
                 entry.to_back();
-                let said = said_of_entry(&entry, says);
-                entry.into_key();
-                Ok(Reply::Seen(Some(said)))
+                Ok(Reply::Seen(Some(said_of_entry(entry, says))))
             }
             EntryStep::Insert(value) => {
                 let old = entry.insert(value);
@@ -75,9 +69,7 @@ where
             EntryStep::ReplaceKey => Ok(Reply::Key(Some(entry.replace_key()))),
             EntryStep::ToFront => {
                 entry.to_front();
-                let said = said_of_entry(&entry, says);
-                entry.into_key();
-                Ok(Reply::Seen(Some(said)))
+                Ok(Reply::Seen(Some(said_of_entry(entry, says))))
             }
             EntryStep::Remove => Ok(Reply::Value(Some(entry.remove()))),
             EntryStep::RemoveEntry => Ok(Reply::Pair(Some(entry.remove_entry()))),
@@ -104,16 +96,19 @@ where
     }
 }
 
-// Returns what the closure returns for the entry's pair.
-fn said_of_entry<K, V, S, B, F>(entry: &OccupiedEntry<'_, K, V, S>, says: &F) -> B
+// Returns what the closure returns for the entry's pair, and ends the entry.
+fn said_of_entry<K, V, S, B, F>(entry: OccupiedEntry<'_, K, V, S>, says: &F) -> B
 where
-    K: Eq + Hash,
+    K: Eq + Hash + Drop,
     S: BuildHasher,
     F: Fn(&K, &V) -> B,
-    requires { CallableOn F.Fn says.now (λ pair.
-        slice_get (occupied_state entry.now).map.entries (occupied_place entry.now) ≡ Some pair) }
-    ensures { SaysOf (ClosureSays F.Fn says.now)
-        (slice_get (occupied_state entry.now).map.entries (occupied_place entry.now)) (Some result) }
+    requires says { CallableOn F.Fn says.now (λ pair.
+        slice_get (occupied_state entry).map.entries (occupied_place entry) ≡ Some pair) }
+    ensures said { SaysOf (ClosureSays F.Fn says.now)
+        (slice_get (occupied_state entry.entry).map.entries (occupied_place entry.entry)) (Some result) }
+    ensures unchanged { entry.exit.0.now ≡ (occupied_map entry.entry).now }
 {
-    says(entry.key(), entry.get())
+    let said = says(entry.key(), entry.get());
+    entry.into_key();
+    said
 }

@@ -69,7 +69,10 @@ fn reply_total<K, V>(commands: &[Command<K, V>]) -> Result<usize, AllocError>
 {
     let mut total: usize = 0;
     for command in commands {
-        total = total.checked_add(reply_count(command)).ok_or(AllocError)?;
+        let Some(sum) = total.checked_add(reply_count(command)) else {
+            return Err(AllocError);
+        };
+        total = sum;
     }
     Ok(total)
 }

@@ -50,7 +50,7 @@ fn weighted_reply<K, V, B>(answer: Result<Option<V>, WeightError<K, V>>) -> Repl
 fn said_of_value<K, V, B, F>(key: &K, value: Option<&V>, says: &F) -> Option<B>
 where
     F: Fn(&K, &V) -> B,
-    requires { CallableOn F.Fn says.now
+    requires says { CallableOn F.Fn says.now
         (λ pair. option_map (λ v. (key.now, v)) (option_copied value) ≡ Some pair) }
     ensures { SaysOf (ClosureSays F.Fn says.now)
         (option_map (λ v. (key.now, v)) (option_copied value.entry)) result }

@@ -7,7 +7,7 @@ pub retain-requires : goal.retain-requires
 retain-requires g c =
     callable_on_each _ (ClosureSays g.G.Fn c.args.keep.now) _ (λ k v b w h call. search rules) _ _
     (λ pair is key value first second. λ p q first' second'.
-    c.requires pair (record { stands = is }) p q (first' ∙ first) (second' ∙ second))
+    c.requires.keep pair (record { stands = is }) p q (first' ∙ first) (second' ∙ second))
 
 pub returns : goal.returns
 returns g c = retained-asked _ (ClosureSays g.G.Fn c.args.keep.now) _ (λ k v b w h call. search rules) _ _ _

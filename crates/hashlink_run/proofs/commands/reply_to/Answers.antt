@@ -2,29 +2,37 @@ use Rattle.std.proofs.Common.{[], ◌∷◌, ap, sym, ◌∙◌}
 use Rattle.hashlink_run.proofs.commands.reply_to.Goals as goal
 
 pub said_of-requires : goal.said_of-requires
-said_of-requires g c = λ pair read.
-    (rw c.in-Get.is at c.requires.says) pair (sym c.get_key_value.ensures.found ∙ read)
+said_of-requires g c = record {
+  says = λ pair read.
+      (rw c.in-Get.is at c.requires.says) pair (sym c.get_key_value.ensures.found ∙ read);
+}
 
 pub to_front-requires : goal.to_front-requires
-to_front-requires g c = rw c.in-ToFront.is at c.requires.says
+to_front-requires g c = record { says = rw c.in-ToFront.is at c.requires.says }
 
 pub to_back-requires : goal.to_back-requires
-to_back-requires g c = rw c.in-ToBack.is at c.requires.says
+to_back-requires g c = record { says = rw c.in-ToBack.is at c.requires.says }
 
 pub said_of-requires-in-Front : goal.said_of-requires-in-Front
-said_of-requires-in-Front g c = λ pair read.
-    (rw c.in-Front.is at c.requires.says) pair (sym c.front.ensures.found ∙ read)
+said_of-requires-in-Front g c = record {
+  says = λ pair read.
+      (rw c.in-Front.is at c.requires.says) pair (sym c.front.ensures.found ∙ read);
+}
 
 pub said_of-requires-in-Back : goal.said_of-requires-in-Back
-said_of-requires-in-Back g c = λ pair read.
-    (rw c.in-Back.is at c.requires.says) pair (sym c.back.ensures.found ∙ read)
+said_of-requires-in-Back g c = record {
+  says = λ pair read.
+      (rw c.in-Back.is at c.requires.says) pair (sym c.back.ensures.found ∙ read);
+}
 
 pub keep_where-requires : goal.keep_where-requires
-keep_where-requires g c = λ pair is.
-    c.requires.keep pair (record { asks = rw c.in-Keep.is is.stands })
+keep_where-requires g c = record {
+  keep = λ pair is.
+      c.requires.keep pair (record { asks = rw c.in-Keep.is is.stands });
+}
 
 pub reply_of_entry-requires : goal.reply_of_entry-requires
-reply_of_entry-requires g c = rw c.in-Entry.is at c.requires.says
+reply_of_entry-requires g c = record { says = rw c.in-Entry.is at c.requires.says }
 
 pub returns-in-Shrink : goal.returns-in-Shrink
 returns-in-Shrink g c =

@@ -6,7 +6,7 @@ use Rattle.hashlink_run.proofs.commands.said_of.Goals as goal
 
 pub says-requires : goal.says-requires
 says-requires g c =
-    c.requires (c.in_ok-key.key.now, c.in_ok-key.value.now) (ap (option_map deref_pair) c.in_ok-key.was)
+    c.requires.says (c.in_ok-key.key.now, c.in_ok-key.value.now) (ap (option_map deref_pair) c.in_ok-key.was)
     c.in_ok-key.key c.in_ok-key.value refl refl
 
 pub returns : goal.returns

@@ -17,12 +17,14 @@ returns-clause-moved g c =
     (rw c.in_ok-to_front.was at (c.to_front.follows.holds c.in_ok-to_front.field-0.now))
 
 pub said_of-requires : goal.said_of-requires
-said_of-requires g c = λ pair is.
-    let there =
-    first_of-new g.met.K.Eq.laws c.args.key.now c.to_front.ensures.distinct
-    (sym c.in_ok-to_front.ensures.value)
-    (rw c.in_ok-to_front.was at (c.to_front.follows.holds c.in_ok-to_front.field-0.now)) refl in
-    c.requires pair (sym there ∙ sym c.front.ensures.found ∙ is)
+said_of-requires g c = record {
+  says = λ pair is.
+      let there =
+      first_of-new g.met.K.Eq.laws c.args.key.now c.to_front.ensures.distinct
+      (sym c.in_ok-to_front.ensures.value)
+      (rw c.in_ok-to_front.was at (c.to_front.follows.holds c.in_ok-to_front.field-0.now)) refl in
+      c.requires.says pair (sym there ∙ sym c.front.ensures.found ∙ is);
+}
 
 pub returns-clause-said : goal.returns-clause-said
 returns-clause-said g c =

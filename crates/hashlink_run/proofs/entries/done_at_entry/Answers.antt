@@ -9,45 +9,52 @@ use Rattle.hashlink_run.proofs.AtEntry.{at_occupied, at_vacant, added, handed_on
 use Rattle.hashlink_run.proofs.AtEntry.{there, there_at_end, there_at_front}
 use Rattle.hashlink_run.proofs.entries.done_at_entry.Goals as goal
 
-pub said_of_entry-said-requires : goal.said_of_entry-said-requires
-said_of_entry-said-requires g c = λ pair read.
-    let found = sym (there g.K.PartialEq.eq c.in-Occupied.ensures.entry _ _ refl refl) ∙ read in
-    c.requires pair (rw c.in-Get.is found)
+pub said_of_entry-requires : goal.said_of_entry-requires
+said_of_entry-requires g c = record {
+  says = λ pair read.
+      let found = sym (there g.K.PartialEq.eq c.in-Occupied.ensures.entry _ _ refl refl) ∙ read in
+      c.requires.says pair (rw c.in-Get.is found);
+}
 
-pub said_of_entry-said-requires-in-OrInsert : goal.said_of_entry-said-requires-in-OrInsert
-said_of_entry-said-requires-in-OrInsert g c = λ pair read.
-    let e = c.in-Occupied.ensures.entry in
-    let moved =
-    there_at_end g.K.PartialEq.eq e _ _ refl refl _ _ c.to_back.ensures.moves
-    (ap (λ e. e.place) c.to_back.ensures.stands) in
-    let found = sym (there g.K.PartialEq.eq e _ _ refl refl) ∙ sym moved ∙ read in
-    c.requires pair (⊎_elim (λ given. rw (given.1, found) refl) (λ given. rw given found) c.in-OrInsert.is)
+pub said_of_entry-requires-in-OrInsert : goal.said_of_entry-requires-in-OrInsert
+said_of_entry-requires-in-OrInsert g c = record {
+  says = λ pair read.
+      let e = c.in-Occupied.ensures.entry in
+      let moved =
+      there_at_end g.K.PartialEq.eq e _ _ refl refl _ _ c.to_back.ensures.moves
+      (ap (λ e. e.place) c.to_back.ensures.stands) in
+      let found = sym (there g.K.PartialEq.eq e _ _ refl refl) ∙ sym moved ∙ read in
+      c.requires.says pair
+      (⊎_elim (λ given. rw (given.1, found) refl) (λ given. rw given found) c.in-OrInsert.is);
+}
 
-pub said_of_entry-said-requires-in-ToFront : goal.said_of_entry-said-requires-in-ToFront
-said_of_entry-said-requires-in-ToFront g c = λ pair read.
-    let e = c.in-Occupied.ensures.entry in
-    let moved =
-    there_at_front g.K.PartialEq.eq e _ _ refl refl _ _ c.to_front.ensures.moves
-    (ap (λ e. e.place) c.to_front.ensures.stands) in
-    let found = sym (there g.K.PartialEq.eq e _ _ refl refl) ∙ sym moved ∙ read in
-    c.requires pair (rw c.in-ToFront.is found)
+pub said_of_entry-requires-in-ToFront : goal.said_of_entry-requires-in-ToFront
+said_of_entry-requires-in-ToFront g c = record {
+  says = λ pair read.
+      let e = c.in-Occupied.ensures.entry in
+      let moved =
+      there_at_front g.K.PartialEq.eq e _ _ refl refl _ _ c.to_front.ensures.moves
+      (ap (λ e. e.place) c.to_front.ensures.stands) in
+      let found = sym (there g.K.PartialEq.eq e _ _ refl refl) ∙ sym moved ∙ read in
+      c.requires.says pair (rw c.in-ToFront.is found);
+}
 
 pub returns-in-OrInsert : goal.returns-in-OrInsert
 returns-in-OrInsert g c =
     let eq = g.K.PartialEq.eq in
     let Says = ClosureSays g.F.Fn c.args.says.now in
     let e = c.in-Occupied.ensures.entry in
-    let b = c.said_of_entry-said-in-OrInsert.result in
+    let b = c.said_of_entry-in-OrInsert.result in
     let new = state_of c.to_back.new.self.map.now in
     let moves = c.to_back.ensures.moves in
     let moved = there_at_end eq e _ _ refl refl new _ moves (ap (λ e. e.place) c.to_back.ensures.stands) in
-    let said = rw moved at c.said_of_entry-said-in-OrInsert.ensures in
+    let said = rw moved at c.said_of_entry-in-OrInsert.ensures.said in
     let step =
     ⊎_elim
     (λ given. at_occupied eq Says e given.1 (Seen (Some b) ∷ []) new refl (moves, (Some b, said, refl)))
     (λ given. at_occupied eq Says e given (Seen (Some b) ∷ []) new refl (moves, (Some b, said, refl)))
     c.in-OrInsert.is in
-    let same = sym c.into_key-in-OrInsert.ensures.unchanged in
+    let same = sym c.said_of_entry-in-OrInsert.ensures.unchanged in
     let done = rw same at step in
     search rules
 
@@ -92,7 +99,7 @@ says-requires g c =
     let new =
     read_new g.K.PartialEq.eq c.in-Vacant.ensures.entry (state_of inserted.map.now) c.in-OrInsert-step.value
     (raw_place inserted) pair done.adds done.last c.get_key_value.ensures in
-    c.requires pair (rw c.in-OrInsert-step.is new.1) c.get_key_value.result.0 c.get_key_value.result.1 refl
+    c.requires.says pair (rw c.in-OrInsert-step.is new.1) c.get_key_value.result.0 c.get_key_value.result.1 refl
     refl
 
 pub returns-in_err-inserted-in-OrInsert-step : goal.returns-in_err-inserted-in-OrInsert-step

@@ -4,14 +4,14 @@ use Rattle.hashlink_run.proofs.Said.{said_by}
 use Rattle.hashlink_run.proofs.AtEntry.{pair_at}
 use Rattle.hashlink_run.proofs.entries.said_of_entry.Goals as goal
 
-pub says-requires : goal.says-requires
-says-requires g c =
+pub says-said-requires : goal.says-said-requires
+says-said-requires g c =
     let there =
-    pair_at (occupied_state c.args.entry.now).map.entries (occupied_place c.args.entry.now)
-    c.key.result.now c.get.result.now c.key.ensures c.get.ensures in
-    c.requires (c.key.result.now, c.get.result.now) there c.key.result c.get.result refl refl
+    pair_at (occupied_state c.args.entry).map.entries (occupied_place c.args.entry) c.key.result.now
+    c.get.result.now c.key.ensures c.get.ensures in
+    c.requires.says (c.key.result.now, c.get.result.now) there c.key.result c.get.result refl refl
 
-pub returns : goal.returns
-returns g c =
+pub returns-clause-said : goal.returns-clause-said
+returns-clause-said g c =
     rw (pair_at _ _ _ _ c.key.ensures c.get.ensures)
-    (said_by c.key.result c.get.result (record { met = c.says.ensures }))
+    (said_by c.key.result c.get.result (record { met = c.says-said.ensures }))

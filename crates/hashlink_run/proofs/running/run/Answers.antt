@@ -62,3 +62,12 @@ returns-clause-ran g c =
 
 pub returns-clause-spare : goal.returns-clause-spare
 returns-clause-spare g c = spare_at_the_end _ _ _ _ _ _ _ (returns-clause-ran g c).runs
+
+pub returns-in_err-reply_total-clause-none : goal.returns-in_err-reply_total-clause-none
+returns-in_err-reply_total-clause-none g c = λ none.
+    absurd (omega (arith, c.in_err-reply_total.ensures.above, ap reply_total c.deref.ensures.value))
+
+pub returns-in_err-replies-clause-none : goal.returns-in_err-replies-clause-none
+returns-in_err-replies-clause-none g c = λ none.
+    let total = c.in_ok-reply_total.ensures.total ∙ ap reply_total c.deref.ensures.value ∙ none in
+    absurd (let failed = c.in_err-replies.ensures.succeeds total in cc)

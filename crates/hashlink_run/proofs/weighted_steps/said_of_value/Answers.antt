@@ -5,7 +5,7 @@ use Rattle.hashlink_run.proofs.weighted_steps.said_of_value.Goals as goal
 
 pub says-requires : goal.says-requires
 says-requires g c =
-    c.requires (c.args.key.now, c.in_ok-value.value.now)
+    c.requires.says (c.args.key.now, c.in_ok-value.value.now)
     (ap (λ o. option_map (λ v. (c.args.key.now, v)) (option_copied o)) c.in_ok-value.was)
     c.args.key c.in_ok-value.value refl refl
 
