@@ -11,6 +11,7 @@ use Rattle.std.specs.Cmp.{IsEquivalence}
 use Rattle.std.specs.List.{AllPass, list_any}
 use Rattle.std.specs.List.Sorted.{IsNonDecreasingBy}
 use Rattle.std.specs.Map.{lookup, lookup_entry, keys_of, remove_entry, set_value}
+use Rattle.std.specs.Map.Iter.{TakesFirst}
 use Rattle.std.specs.Set.{is_member}
 use Rattle.std.proofs.lemmas.Bool.{le-leb, lt-leb}
 use Rattle.std.proofs.lemmas.List.{map-append, map-id, take-append-drop}
@@ -23,7 +24,7 @@ use Rattle.std.proofs.lemmas.Map.{NonePasses, keys-set_value}
 use Rattle.std.proofs.lemmas.Map.Entries.{place_from_lookup}
 use Rattle.std.proofs.lemmas.Map.Made.{is_some-lookup}
 use Rattle.std.proofs.lemmas.Option.{none-some, same_Some, slice_get-get_or}
-use Rattle.hashlink_model.specs.Cache.{CacheState, CacheInserts, cache_put}
+use Rattle.hashlink_model.specs.Cache.{CacheState, CacheInserts, IsWithin, cache_put}
 use Rattle.hashlink_model.specs.Entries.{IsEntries, place_left, place_of, place_without, place_or_end}
 use Rattle.hashlink_model.specs.Entries.{moved_at, moved_match, put, stored_key, without}
 use Rattle.hashlink_model.specs.MapState.{MapState, Inserts}
@@ -39,10 +40,13 @@ use Rattle.hashlink_run.specs.CallReplies.{insert_reply, is_refused}
 use Rattle.hashlink_run.specs.Chain.{Answered, replies_of}
 use Rattle.hashlink_run.specs.Run.{LawfulRun, Run, ShownBy, TakesKeysWhereShorter, keeps_nodes}
 use Rattle.hashlink_run.specs.Step.{KeepAsks, ReadBy, Step}
+use Rattle.hashlink_lru.specs.Evicted.{evicted_by}
+use Rattle.hashlink_lru.proofs.Evicting.{long, named, named_first, unnamed}
 use Rattle.hashlink_map.proofs.Outcomes.{inserts_entries}
 use Rattle.hashlink_core.proofs.AtKeyNode.{is_some-map}
 use Rattle.hashlink_model.proofs.Distinct.{IsEntries-middle, IsEntries-insert}
 use Rattle.hashlink_model.proofs.Finds.{lookup_is}
+use Rattle.hashlink_model.proofs.Puts.{none_without}
 use Rattle.hashlink_model.proofs.SetElements.{keys-filter, set_inserts}
 use Rattle.hashlink_model.proofs.SetViews.{keys_of-pairs_of, pairs_of-keys_of}
 use Rattle.hashlink_model.proofs.Splits.{Stands, splits, remove_entry-here, none_from_lookup}
@@ -386,6 +390,71 @@ module _ {K V : Type 0} (eq : K → K → Bool) (laws : IsEquivalence eq) where
           (none_equal eq laws p.0 q pairs t (IsEntries-head eq p pairs e)) in
           rw (laws.symm q p.0, t, none) refl
       by false t = rw (laws.symm q p.0, t) refl
+
+-- ---- what is found at a key once an entry left, of which no two have equal keys
+
+module _ {K V : Type 0} (eq : K → K → Bool) (laws : IsEquivalence eq) (q : K) where
+  lookup-behind : (e : K × V) (es : List (K × V)) → IsEntries eq (e ∷ es)
+      → lookup (eq q) es ≡ cond (eq e.0 q) None (lookup (eq q) (e ∷ es))
+  lookup-behind e es d =
+      let none : eq e.0 q ≡ true → lookup (eq q) es ≡ None
+      = λ t. lookup-none (eq q) es (none_equal eq laws e.0 q es t (IsEntries-head eq e es d)) in
+      grind (arith, none, laws.symm q e.0)
+
+  -- goal: `lookup` after `remove_lru` or `pop_front`
+  pub lookup-takes_first : (es left : List (K × V)) (o : Option (K × V)) → IsEntries eq es
+      → TakesFirst (λ e. e) es o left
+      → lookup (eq q) left ≡ option_map_or (λ e. cond (eq e.0 q) None (lookup (eq q) es)) o (lookup (eq q) es)
+  lookup-takes_first es left None d t = ap (lookup (eq q)) (t.1 ∙ sym t.0)
+  lookup-takes_first es left (Some e) d t =
+      lookup-behind e left (subst (IsEntries eq) t d)
+      ∙ ap (λ zs. cond (eq e.0 q) None (lookup (eq q) zs)) (sym t)
+
+  -- goal: `lookup` after a cache's insert, by the entry that `evicted_by` names
+  module _ {S : Type 0} (old new : CacheState K V S) (k : K) (v : V) where
+    pub lookup-cache_inserts : (w : Option V) → CacheInserts eq old new k v (Ok w)
+        → IsEntries eq old.map.entries → IsWithin old 0 → 1 ≤ old.cap
+        → lookup (eq q) new.map.entries
+        ≡ cond (eq k q) (Some v) (cond (option_map_or (λ e. eq e.0 q)
+        (evicted_by (eq k) old.map.entries old.cap) false) None (lookup (eq q) old.map.entries))
+    lookup-cache_inserts w s d within some =
+        ap (lookup (eq q)) (cache_inserts_entries eq old new k v w s)
+        ∙ by (evicted_by (eq k) old.map.entries old.cap) refl
+      where
+        es : List (K × V)
+        es = old.map.entries
+
+        zs : List (K × V)
+        zs = put eq es k v (length es)
+
+        found : lookup (eq q) zs ≡ cond (eq k q) (Some v) (lookup (eq q) es)
+        found = lookup-put eq laws q es k v (length es) d
+
+        by : (o : Option (K × V)) → evicted_by (eq k) es old.cap ≡ o
+            → lookup (eq q) (cache_put eq es old.cap k v)
+            ≡ cond (eq k q) (Some v) (cond (option_map_or (λ e. eq e.0 q) o false) None (lookup (eq q) es))
+        by None n = ap (lookup (eq q)) (unnamed eq es old.cap k v n some) ∙ found
+        by (Some e) n =
+            let first = named_first eq es old.cap k v e n in
+            let whole : zs ≡ e ∷ drop 1 zs = first.1 ∙ ap (λ ys. e ∷ ys) (sym (ap (drop 1) first.1)) in
+            let full = named eq es old.cap k v e n in
+            let other = (subst (NonePasses (eq k)) (by_first (without eq es k) (Some e) (sym full.1))
+            (none_without eq laws es k d)).0 in
+            let more = long eq es old.cap k v in
+            let one : length zs - old.cap ≡ 1
+            = grind (
+              arith,
+              more,
+              full.0,
+              within,
+              length-put_absent eq es k v (length es),
+              length-put_there eq es k v (length es),
+            ) in
+            let behind = lookup-behind e (drop 1 zs) (subst (IsEntries eq) whole
+            (IsEntries-put eq laws es k v (length es) d)) in
+            let none = ap (λ o. cond (eq e.0 q) None o) (sym (ap (lookup (eq q)) whole) ∙ found) in
+            ap (λ m. lookup (eq q) (drop m zs)) one ∙ behind ∙ none
+            ∙ grind (arith, other, laws.congr k q e.0, laws.symm q e.0)
 
 -- ---- a retain whose closure captures: `Holds` says what it holds to, as which time it compares with
 

@@ -1,13 +1,13 @@
 //! A cache of pages before a store, to which a changed page goes when it leaves the cache.
-ghost use Rattle.std.specs.Prelude.{◌≡◌, ℕ, ◌≤◌, ◌-◌, false, IfOk, IsFalse, MatchResult, List, OnErr, OnOk};
-ghost use Rattle.std.specs.Prelude.{None, if◌then◌else◌, length, nat_eq};
+ghost use Rattle.std.specs.Prelude.{◌≡◌, ◌≤◌, ◌-◌, ℕ, None, false, if◌then◌else◌, length, nat_eq};
+ghost use Rattle.std.specs.Prelude.{IfOk, IfSome, IsFalse, MatchResult, OnErr, OnOk};
 ghost use Rattle.std.specs.Map.{lookup};
 ghost use Rattle.std.specs.Option.{option_map};
-ghost use Rattle.hashlink.specs.Cache.{IsWithin, cache_get, cache_put};
-ghost use Rattle.hashlink.specs.Entries.{IsEntries, put};
-ghost use Rattle.hashlink.specs.Cached.{entries_of, state_of, StaysWithin};
+ghost use Rattle.hashlink.specs.Entries.{IsEntries};
+ghost use Rattle.hashlink.specs.Cached.{entries_of, state_of};
+ghost use Rattle.hashlink.specs.Evicted.{evicted_by};
 ghost use Rattle.hashlink_uses.specs.declared.pages.Page.{Page};
-ghost use Rattle.hashlink_uses.specs.Contents.{Follows, IsSound, Reads, content};
+ghost use Rattle.hashlink_uses.specs.Contents.{IsSound, Pages, content};
 
 use hashlink::LruCache;
 use std::alloc::Global;
@@ -39,14 +39,14 @@ pub struct Page<V> {
 }
 
 /// Why a page cannot be read or written: memory ran out, or the store failed.
-#[derive(Debug, PartialEq, Eq, Drop)]
+#[derive(PartialEq, Eq, Drop)]
 pub enum PageError<E> {
     Memory,
     Store(E),
 }
 
-/// A store with a cache before it. A clause sees the pages in the cache and the store, of which `content`
-/// tells what is read under each number: what was last written there.
+/// A store with a cache before it. A clause sees the pages in the cache, how many it may hold, and the store.
+/// `content` tells of them what is read under each number: what was last written there.
 #[derive(Drop)]
 pub struct PageCache<V, T: Store<V>> {
     pages: LruCache<u64, Page<V>>,
@@ -54,9 +54,13 @@ pub struct PageCache<V, T: Store<V>> {
 }
 
 impl<V, T: Store<V>> Model for PageCache<V, T> {
-    ghost Value = { List (ℕ × Page V) × T };
+    ghost Value = { Pages V T };
 
-    ghost view = { λ c. (entries_of c.pages, c.store) };
+    ghost view = { λ c. record {
+      held = entries_of c.pages;
+      capacity = (state_of c.pages).cap;
+      store = c.store;
+    } };
 
     ghost invariant = { λ c. IsSound (entries_of c.pages) (state_of c.pages).cap (T.page c.store) };
 }
@@ -79,7 +83,7 @@ impl<V: Copy, T: Store<V>> PageCache<V, T> {
         ensures read { IfOk result (λ value. value ≡ content T.page self.old number) }
         ensures same { (n : ℕ) → content T.page self.new n ≡ content T.page self.old n }
     {
-        if let Some(value) = find(&mut self.pages, number) {
+        if let Some(value) = self.find(number) {
             return Ok(value);
         }
         let value = self.store.load(number)?;
@@ -87,7 +91,7 @@ impl<V: Copy, T: Store<V>> PageCache<V, T> {
             value,
             is_changed: false,
         };
-        let _kept = keep(&mut self.pages, &mut self.store, number, page);
+        let _kept = self.keep(number, page);
         Ok(value)
     }
 
@@ -102,108 +106,93 @@ impl<V: Copy, T: Store<V>> PageCache<V, T> {
             value,
             is_changed: true,
         };
-        keep(&mut self.pages, &mut self.store, number, page)
+        self.keep(number, page)
     }
 
     /// Returns the store once it has every page, or the cache and why the store failed.
-    pub fn close(self) -> Result<T, (Self, T::Error)>
+    pub fn close(mut self) -> Result<T, (Self, T::Error)>
         ensures { MatchResult result (λ store. (n : ℕ) → T.page store n ≡ content T.page self n)
             (λ back. (n : ℕ) → content T.page back.0 n ≡ content T.page self n) }
     {
-        let PageCache {
-            mut pages,
-            mut store,
-        } = self;
-        while !pages.is_empty() {
-            if let Err(error) = save_first(&mut pages, &mut store) {
-                return Err((PageCache { pages, store }, error));
+        while !self.pages.is_empty() {
+            if let Err(error) = self.save_first() {
+                return Err((self, error));
             }
         }
-        Ok(store)
+        Ok(self.store)
     }
-}
 
-/// Returns the value of a page that is in the cache, which is then the one used last.
-fn find<V: Copy>(pages: &mut LruCache<u64, Page<V>>, number: u64) -> Option<V>
-    ensures found { result ≡ option_map (λ p. p.value) (lookup (nat_eq number) (entries_of pages.old)) }
-    ensures entries { entries_of pages.new ≡ cache_get nat_eq (entries_of pages.old) number }
-    ensures distinct { IsEntries nat_eq (entries_of pages.old) }
-    ensures capacity { (state_of pages.new).cap ≡ (state_of pages.old).cap }
-{
-    let page = pages.get(&number)?;
-    Some(page.value)
-}
+    /// Returns the value of a page that is in the cache, which is then the one used last.
+    fn find(&mut self, number: u64) -> Option<V>
+        ensures found { result ≡ option_map (λ p. p.value) (lookup (nat_eq number) self.old.held) }
+        ensures same { (n : ℕ) → lookup (nat_eq n) self.new.held ≡ lookup (nat_eq n) self.old.held }
+        ensures store { self.new.store ≡ self.old.store }
+    {
+        self.pages.get(&number).map(|page| page.value)
+    }
 
-/// Puts a page into the cache. If another has to leave for it, the store takes that one first.
-fn keep<V: Copy, T: Store<V>>(
-    pages: &mut LruCache<u64, Page<V>>,
-    store: &mut T,
-    number: u64,
-    page: Page<V>,
-) -> Result<(), PageError<T::Error>>
-    requires some { 1 ≤ (state_of pages.old).cap }
-    requires within { IsWithin (state_of pages.old) 0 }
-    requires stored { page.is_changed ≡ false → (lookup (nat_eq number) (entries_of pages.old) ≡ None)
-        × (page.value ≡ T.page store.old number) }
-    ensures kept { OnOk result ((n : ℕ) (v : V)
-        → Reads (lookup (nat_eq n) (entries_of pages.old)) (T.page store.old n) v
-        → Reads (lookup (nat_eq n) (entries_of pages.new)) (T.page store.new n)
-        (if nat_eq number n then page.value else v)) }
-    ensures failed { OnErr result ((n : ℕ) → Follows (lookup (nat_eq n) (entries_of pages.old))
-        (T.page store.old n) (lookup (nat_eq n) (entries_of pages.new)) (T.page store.new n)) }
-    ensures capacity { (state_of pages.new).cap ≡ (state_of pages.old).cap }
-    ensures stays { StaysWithin (state_of pages.old) (state_of pages.new) }
-{
-    if let Err(error) = make_place(pages, store, number) {
-        return Err(PageError::Store(error));
+    /// Puts a page into the cache. If another has to leave for it, the store takes that one first. A page that
+    /// is not changed has to be as it is stored, and not in the cache.
+    fn keep(&mut self, number: u64, page: Page<V>) -> Result<(), PageError<T::Error>>
+        requires stored { page.is_changed ≡ false → (lookup (nat_eq number) self.old.held ≡ None)
+            × (page.value ≡ T.page self.old.store number) }
+        ensures kept { OnOk result ((n : ℕ) → content T.page self.new n
+            ≡ if nat_eq number n then page.value else content T.page self.old n) }
+        ensures failed { OnErr result ((n : ℕ) → content T.page self.new n ≡ content T.page self.old n) }
+    {
+        if let Err(error) = self.save_leaving(number) {
+            return Err(PageError::Store(error));
+        }
+        let Ok(_) = self.pages.insert(number, page) else {
+            return Err(PageError::Memory);
+        };
+        Ok(())
     }
-    match pages.insert(number, page) {
-        Ok(_) => Ok(()),
-        Err(_) => Err(PageError::Memory),
-    }
-}
 
-/// Lets the store take the page that an insert would evict, and removes it. Then an insert evicts none.
-fn make_place<V: Copy, T: Store<V>>(
-    pages: &mut LruCache<u64, Page<V>>,
-    store: &mut T,
-    number: u64,
-) -> Result<(), T::Error>
-    requires some { 1 ≤ (state_of pages.old).cap }
-    requires within { IsWithin (state_of pages.old) 0 }
-    ensures free { OnOk result ((page : Page V)
-        → cache_put nat_eq (entries_of pages.new) (state_of pages.new).cap number page
-        ≡ put nat_eq (entries_of pages.new) number page (length (entries_of pages.new))) }
-    ensures follows { (n : ℕ) → Follows (lookup (nat_eq n) (entries_of pages.old)) (T.page store.old n)
-        (lookup (nat_eq n) (entries_of pages.new)) (T.page store.new n) }
-    ensures distinct { IsEntries nat_eq (entries_of pages.new) }
-    ensures capacity { (state_of pages.new).cap ≡ (state_of pages.old).cap }
-    ensures stays { StaysWithin (state_of pages.old) (state_of pages.new) }
-{
-    if pages.evicted_by(&number).is_none() {
-        return Ok(());
+    /// Lets the store take the page that an insert of this one would evict.
+    fn save_leaving(&mut self, number: u64) -> Result<(), T::Error>
+        ensures distinct { IsEntries nat_eq self.new.held }
+        ensures pages { (self.new.held ≡ self.old.held) × (self.new.capacity ≡ self.old.capacity) }
+        ensures same { (n : ℕ) → content T.page self.new n ≡ content T.page self.old n }
+        ensures saved { OnOk result (IfSome (evicted_by (nat_eq number) self.old.held self.old.capacity)
+            (λ e. T.page self.new.store e.0 ≡ content T.page self.old e.0)) }
+    {
+        match self.pages.evicted_by(&number) {
+            Some((leaving, _)) => {
+                let leaving = *leaving;
+                self.save(leaving)
+            }
+            None => Ok(()),
+        }
     }
-    save_first(pages, store)
-}
 
-/// Removes the page used least recently, once the store has it.
-fn save_first<V: Copy, T: Store<V>>(
-    pages: &mut LruCache<u64, Page<V>>,
-    store: &mut T,
-) -> Result<(), T::Error>
-    ensures left { OnOk result (length (entries_of pages.new) ≡ length (entries_of pages.old) - 1) }
-    ensures follows { (n : ℕ) → Follows (lookup (nat_eq n) (entries_of pages.old)) (T.page store.old n)
-        (lookup (nat_eq n) (entries_of pages.new)) (T.page store.new n) }
-    ensures distinct { IsEntries nat_eq (entries_of pages.new) }
-    ensures capacity { (state_of pages.new).cap ≡ (state_of pages.old).cap }
-    ensures stays { StaysWithin (state_of pages.old) (state_of pages.new) }
-{
-    let Some((number, page)) = pages.peek_lru() else {
-        return Ok(());
-    };
-    if page.is_changed {
-        store.save(*number, page.value)?;
+    /// Removes the page used least recently, once the store has it.
+    fn save_first(&mut self) -> Result<(), T::Error>
+        ensures left { OnOk result (length self.new.held ≡ length self.old.held - 1) }
+        ensures same { (n : ℕ) → content T.page self.new n ≡ content T.page self.old n }
+    {
+        let Some((first, _)) = self.pages.peek_lru() else {
+            return Ok(());
+        };
+        let first = *first;
+        self.save(first)?;
+        self.pages.remove_lru();
+        Ok(())
     }
-    pages.remove_lru();
-    Ok(())
+
+    /// Lets the store take a page, if it is in the cache and changed.
+    fn save(&mut self, number: u64) -> Result<(), T::Error>
+        ensures distinct { IsEntries nat_eq self.new.held }
+        ensures pages { (self.new.held ≡ self.old.held) × (self.new.capacity ≡ self.old.capacity) }
+        ensures same { (n : ℕ) → content T.page self.new n ≡ content T.page self.old n }
+        ensures saved { OnOk result (T.page self.new.store number ≡ content T.page self.old number) }
+    {
+        match self.pages.peek(&number) {
+            Some(page) if page.is_changed => {
+                let value = page.value;
+                self.store.save(number, value)
+            }
+            _ => Ok(()),
+        }
+    }
 }
