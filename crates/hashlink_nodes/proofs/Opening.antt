@@ -4,9 +4,8 @@ use Names.{◌≡◌, ℕ, ◌+◌, ◌^◌, ◌<◌, List, [], ◌∷◌, ◌++
 use Names.{arith, is_some, IfSome, AllByRecursion, IsDistinct, keys_of, lookup, remove_entry, length-append}
 use Names.{length-keys_of, IsDistinct-tail, Node, Inside, same_node, state_of, Ring, ring, Holds, IsRing}
 use Names.{IsSound, SoundAt, ring_at, ring_of, walk, entry_of, entries_of, State, IsSome, Held}
-use Rattle.hashlink_nodes.proofs.Paths.{length-walk, walk-linked, walk-chain}
-use Rattle.hashlink_nodes.proofs.Cuts.{Cut, Gap, cut, cut-looked, cut-removed}
-use Rattle.hashlink_nodes.proofs.Rings.{InRing, in_ring}
+use Rattle.hashlink_nodes.proofs.{Paths.length-walk, Paths.walk-linked, Paths.walk-chain, Cuts.Cut, Cuts.Gap}
+use Rattle.hashlink_nodes.proofs.{Cuts.cut, Cuts.cut-looked, Cuts.cut-removed, Rings.InRing, Rings.in_ring}
 
 pub if_some : {X : Type 0} {o : Option X} {x : X} (P : X → Type 0) → o ≡ Some x → P x → IfSome o P
 if_some P e p = subst (λ o. IfSome o P) (sym e) p

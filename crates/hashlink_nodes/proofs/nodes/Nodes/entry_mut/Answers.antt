@@ -1,6 +1,5 @@
 use Rattle.hashlink_nodes.proofs.Names.{ap, ◌∙◌, refl, is_some, option_map, Held, pair_of}
-use Rattle.hashlink_nodes.proofs.Lending.{lent}
-use Rattle.hashlink_nodes.proofs.Opening.{node_in}
+use Rattle.hashlink_nodes.proofs.{Lending.lent, Opening.node_in}
 use Rattle.hashlink_nodes.proofs.nodes.Nodes.entry_mut.Goals as goal
 
 pub entry_mut-requires : goal.entry_mut-requires

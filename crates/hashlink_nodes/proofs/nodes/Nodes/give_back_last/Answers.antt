@@ -1,9 +1,7 @@
 use Rattle.hashlink_nodes.proofs.Names.{option_map, is_some, ◌++◌, ◌∷◌, [], length, ap, sym, ◌∙◌, arith}
 use Rattle.hashlink_nodes.proofs.Names.{state_of, Ring, Held, held, pair_of}
-use Rattle.hashlink_nodes.proofs.Calls.{last, last_in, last_bare, last_gone}
-use Rattle.hashlink_nodes.proofs.Cuts.{same_some}
-use Rattle.hashlink_nodes.proofs.Opening.{empty, opened, seal}
-use Rattle.hashlink_nodes.proofs.Rings.{held_now, held_out}
+use Rattle.hashlink_nodes.proofs.{Calls.last, Calls.last_in, Calls.last_bare, Calls.last_gone, Cuts.same_some}
+use Rattle.hashlink_nodes.proofs.{Opening.empty, Opening.opened, Opening.seal, Rings.held_now, Rings.held_out}
 use Rattle.hashlink_nodes.proofs.nodes.Nodes.give_back_last.Goals as goal
 
 pub unreachable-requires : goal.unreachable-requires

@@ -1,6 +1,5 @@
 use Rattle.std.proofs.Common.{arith, ◌∙◌}
-use Rattle.hashlink_nodes.proofs.Calls.{into_before, ready_moved}
-use Rattle.hashlink_nodes.proofs.Cuts.{cut-entry}
+use Rattle.hashlink_nodes.proofs.{Calls.into_before, Calls.ready_moved, Cuts.cut-entry}
 use Rattle.hashlink_nodes.proofs.Opening.{is_there, guard_of, if_some, node_at, node_in, seal}
 use Rattle.hashlink_nodes.proofs.nodes.Nodes.move_before.Goals as goal
 

@@ -1,6 +1,5 @@
 use Rattle.hashlink_nodes.proofs.Names.{ap, ◌∙◌, is_some, option_map, Held, with_key}
-use Rattle.hashlink_nodes.proofs.Calls.{renewed}
-use Rattle.hashlink_nodes.proofs.Cuts.{cut-looked}
+use Rattle.hashlink_nodes.proofs.{Calls.renewed, Cuts.cut-looked}
 use Rattle.hashlink_nodes.proofs.Opening.{if_some, node_in, seal}
 use Rattle.hashlink_nodes.proofs.nodes.Nodes.set_key.Goals as goal
 

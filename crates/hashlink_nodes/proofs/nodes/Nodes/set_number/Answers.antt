@@ -1,6 +1,4 @@
-use Rattle.hashlink_nodes.proofs.Names.{ap, is_some, state_of}
-use Rattle.hashlink_nodes.proofs.Calls.{renumbered}
-use Rattle.hashlink_nodes.proofs.Cuts.{cut-looked}
+use Rattle.hashlink_nodes.proofs.{Names.ap, Names.is_some, Names.state_of, Calls.renumbered, Cuts.cut-looked}
 use Rattle.hashlink_nodes.proofs.Opening.{if_some, node_in, seal}
 use Rattle.hashlink_nodes.proofs.Rings.{has_still, held_now}
 use Rattle.hashlink_nodes.proofs.nodes.Nodes.set_number.Goals as goal

@@ -1,6 +1,5 @@
 use Rattle.hashlink_nodes.proofs.Names.{Some, ap, refl, ◌∙◌, lookup, with_entry, same_node, held, state}
-use Rattle.hashlink_nodes.proofs.ArenaBlocks.{found}
-use Rattle.hashlink_nodes.proofs.StateLemmas.{held_anew}
+use Rattle.hashlink_nodes.proofs.{ArenaBlocks.found, StateLemmas.held_anew}
 use Rattle.hashlink_nodes.proofs.pool.Pool.fill.Goals as goal
 
 pub returns : goal.returns
