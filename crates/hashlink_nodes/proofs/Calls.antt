@@ -8,7 +8,7 @@ use Names.{AreThere, IsPlace, put_before, put_after, held, pair_of, with_number}
 use Rattle.std.proofs.Common.{drop}
 use Rattle.hashlink_nodes.specs.declared.pool.Pool.{Pool}
 use Rattle.hashlink_nodes.proofs.Paths.{head_or, last_or}
-use Rattle.hashlink_nodes.proofs.Cuts.{Gap, cut-removed, cut-renewed, before_place, after_place, same_some}
+use Rattle.hashlink_nodes.proofs.Cuts.{Gap, before_place, after_place, same_some}
 use Rattle.hashlink_nodes.proofs.Rings.{Linked, linked, attach, Entries, InRing, in_ring, detach, held_out}
 use Rattle.hashlink_nodes.proofs.Rings.{holds_now, held_now, added, dropped, spared, take_spare, renew, Taken}
 use Rattle.hashlink_nodes.proofs.Rings.{guarded, held_anew}
@@ -82,7 +82,7 @@ module _ {K V : Type 0} where
         → Leaves s' guard first len spare (ring (set_value (same_node n) v.entries w) v.free v.link_writes)
     set_held {s'} w is =
         leaves at.is
-        (subst (λ es. IsRing s' [] g first (ring es v.free v.link_writes)) (sym (cut-renewed at.cut w))
+        (subst (λ es. IsRing s' [] g first (ring es v.free v.link_writes)) (sym (at.cut.renewed w))
         (renew n at.cut.value at.cut.before at.cut.after cut_open w is))
         (length-set_value (same_node n) v.entries w ∙ at.whole.is_len) at.whole.is_spare
 
@@ -108,7 +108,7 @@ module _ {K V : Type 0} where
         → IsRing s₁ (n ∷ []) g first (ring rest v.free (v.link_writes + 2))
     taken_out {s₁} is =
         subst (λ es. IsRing s₁ (n ∷ []) g first (ring es v.free (v.link_writes + 2)))
-        (sym (cut-removed at.cut)) (detach at.cut.value at.cut.before at.cut.after cut_open is)
+        (sym at.cut.removed) (detach at.cut.value at.cut.before at.cut.after cut_open is)
 
     -- it is spare then
     pub removed : {s₁ s₂ s₃ : State K V} → s₁ ≡ detached n s → s₂ ≡ hold n None s₁ →

@@ -5,7 +5,7 @@ use Names.{arith, is_some, IfSome, AllByRecursion, IsDistinct, keys_of, lookup, 
 use Names.{length-keys_of, IsDistinct-tail, Node, Inside, same_node, state_of, Ring, ring, Holds, IsRing}
 use Names.{IsSound, SoundAt, ring_at, ring_of, walk, entry_of, entries_of, State, IsSome, Held}
 use Rattle.hashlink_nodes.proofs.{Paths.length-walk, Paths.walk-linked, Paths.walk-chain, Cuts.Cut, Cuts.Gap}
-use Rattle.hashlink_nodes.proofs.{Cuts.cut, Cuts.cut-looked, Cuts.cut-removed, Rings.InRing, Rings.in_ring}
+use Rattle.hashlink_nodes.proofs.{Cuts.cut, Rings.InRing, Rings.in_ring}
 
 pub if_some : {X : Type 0} {o : Option X} {x : X} (P : X → Type 0) → o ≡ Some x → P x → IfSome o P
 if_some P e p = subst (λ o. IfSome o P) (sym e) p
@@ -19,7 +19,7 @@ module _ {X : Type 0} (es : List (Node × X)) where
   length-removed {n} c =
       omega (
         arith,
-        ap length (cut-removed c),
+        ap length c.removed,
         ap length c.is,
         length-append c.before ((n, c.value) ∷ c.after),
         length-append c.before c.after,
@@ -161,7 +161,7 @@ module _ {K V : Type 0} where
           whole = o;
           cut = c;
           here = here;
-          shows = cut-looked c ∙ sym here.holds;
+          shows = c.looked ∙ sym here.holds;
           some = omega (arith, o.is_len, length-removed v.entries c);
         }
 

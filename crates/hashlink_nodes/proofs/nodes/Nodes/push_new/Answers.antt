@@ -1,4 +1,4 @@
-use Rattle.hashlink_nodes.proofs.Names.{◌+◌, Some, length, ap, sym, subst, refl, ◌∙◌, arith, state_of, held}
+use Rattle.hashlink_nodes.proofs.Names.{refl, ◌∙◌, arith}
 use Rattle.hashlink_nodes.proofs.{Calls.guard_stays, Calls.into_before, Calls.ready_new, Opening.seal}
 use Rattle.hashlink_nodes.proofs.nodes.Nodes.push_new.Goals as goal
 
