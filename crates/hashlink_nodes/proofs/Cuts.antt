@@ -1,8 +1,8 @@
 -- A node of a list of entries, and a place in it: what comes before, what comes after, and what the words of
 -- the contracts say there.
-use Rattle.hashlink_nodes.proofs.Names.{subst, alter, ◌≡◌, Bool, true, false, cond, List, [], ◌∷◌, ◌++◌, Option}
-use Rattle.hashlink_nodes.proofs.Names.{None, Some, refl, sym, ap, ◌∙◌, is_some, slice_get, unwrap_or, lookup}
-use Rattle.hashlink_nodes.proofs.Names.{lookup_entry, remove_entry, set_value, keys_of, append_assoc}
+use Rattle.hashlink_nodes.proofs.Names.{subst, alter, ◌≡◌, Bool, true, false, cond, List, [], ◌∷◌, ◌++◌}
+use Rattle.hashlink_nodes.proofs.Names.{Option, None, Some, refl, sym, ap, ◌∙◌, is_some, slice_get, unwrap_or}
+use Rattle.hashlink_nodes.proofs.Names.{lookup, lookup_entry, remove_entry, set_value, keys_of, append_assoc}
 use Rattle.hashlink_nodes.proofs.Names.{append-nil, Node, same_node, eq-same_node, same_node-refl, put_before}
 use Rattle.hashlink_nodes.proofs.Names.{put_before_node, put_after, put_after_node, IsPlace, Holds}
 use Rattle.hashlink_nodes.proofs.Names.{node_after, node_before, last_node, next_place, prev_place}
@@ -28,6 +28,8 @@ module _ {X : Type 0} where
     pub put_in_after : (y : Node × X) → put_after_node n y es ≡ (before ++ (n, value) ∷ []) ++ y ∷ after
     pub comes_before : (o : Option Node) → node_before n o (keys_of es) ≡ last_node o (keys_of before)
     pub comes_after : node_after n (keys_of es) ≡ slice_get (keys_of after) 0
+    pub others : (m : Node) → same_node m n ≡ false
+        → lookup (same_node m) (before ++ after) ≡ lookup (same_node m) es
 
   pub cut : (es : List (Node × X)) (n : Node) → Holds es n → Cut es n
   cut [] n there = absurd (cc there)
@@ -50,6 +52,7 @@ module _ {X : Type 0} where
               put_in_after = λ y. rw here;
               comes_before = λ o. rw here;
               comes_after = rw here;
+              others = λ m off. rw off;
             })
         | false ↦ λ other rest. let c = cut es n rest in record {
           before = e ∷ c.before;
@@ -65,6 +68,7 @@ module _ {X : Type 0} where
           put_in_after = λ y. rw other (ap (λ l. e ∷ l) (c.put_in_after y));
           comes_before = λ o. rw other (c.comes_before (Some e.0));
           comes_after = rw other c.comes_after;
+          others = λ m off. ap (λ o. cond (same_node m e.0) (Some e.1) o) (c.others m off);
         }
       ]) refl there
 
@@ -72,14 +76,6 @@ module _ {X : Type 0} where
   pub cut_at : (es : List (Node × X)) (n : Node) (x : X) → lookup (same_node n) es ≡ Some x
       → (c : Cut es n) × (c.value ≡ x)
   cut_at es n x e = let c = cut es n (ap is_some e) in (c, same_some (sym c.looked ∙ e))
-
-  -- another node is found without it
-  pub others_found : (n : Node) (x : X) (ys : List (Node × X)) (m : Node) → same_node m n ≡ false
-      → (xs : List (Node × X))
-      → lookup (same_node m) (xs ++ ys) ≡ lookup (same_node m) (xs ++ (n, x) ∷ ys)
-  others_found n x ys m off [] = rw off
-  others_found n x ys m off (e ∷ xs) =
-      ap (λ o. cond (same_node m e.0) (Some e.1) o) (others_found n x ys m off xs)
 
   pub last-pushed : (a : Node) (xs : List (Node × X)) (e : Node × X) →
       last_or a (keys_of (xs ++ e ∷ [])) ≡ e.0
@@ -107,12 +103,7 @@ module _ {X : Type 0} where
     beside = refl;
   }
   before_place es g (Some n) is = let c = cut es n is in record {
-    gap = record {
-      before = c.before;
-      after = (n, c.value) ∷ c.after;
-      is = c.is;
-      puts = c.put_in_before;
-    };
+    gap = record { before = c.before; after = (n, c.value) ∷ c.after; is = c.is; puts = c.put_in_before };
     node = refl;
     beside = c.comes_before None;
   }

@@ -6,7 +6,7 @@ use Names.{same_node, same_node-refl, Differs, same_node_equiv, eq-same_node, St
 use Names.{next_in, prev_in, held_in, store_next, store_prev, hold, Adds, MakesGuard, Drops, Node, Link, Kept}
 use Names.{kept, alter, entry_in, with_links, with_pair, held, pair_of, option_map, Held}
 use Rattle.hashlink_nodes.proofs.{ArenaBlocks.found_entry, Opening.length-removed}
-use Rattle.hashlink_nodes.proofs.Cuts.{cut, cut_at, others_found}
+use Rattle.hashlink_nodes.proofs.Cuts.{cut, cut_at}
 use Rattle.hashlink_nodes.proofs.Paths.{set_at_here, set_at_other}
 use Rattle.hashlink_nodes.specs.declared.pool.links.Links.{Links}
 
@@ -197,8 +197,7 @@ module _ {K V : Type 0} where
       → Drops n (state bs count) (state bs' count)
   dropped bs bs' count n there is =
       let c = cut bs n there in record {
-        differs = differs bs bs' (λ m k. ap (lookup (same_node m)) (is ∙ c.removed)
-            ∙ others_found n c.value c.after m k c.before ∙ ap (lookup (same_node m)) (sym c.is));
+        differs = differs bs bs' (λ m k. ap (lookup (same_node m)) (is ∙ c.removed) ∙ c.others m k);
         size = ap (λ (cs : Blocks K V). length cs + 1) is ∙ length-removed bs c;
         link_writes = refl;
       }
