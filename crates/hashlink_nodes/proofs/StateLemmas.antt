@@ -32,10 +32,15 @@ set_same f n x is = λ i m. (elim (same_node m n) as (λ (y : Bool). same_node m
 ]) refl i
 
 -- what is mapped to y
-pub mapped : {X Y : Type 0} (f : X → Y) (o : Option X) {y : Y} → option_map f o ≡ Some y
+mapped : {X Y : Type 0} (f : X → Y) (o : Option X) {y : Y} → option_map f o ≡ Some y
     → (x : X) × (o ≡ Some x) × (f x ≡ y)
 mapped f None e = absurd (cc e)
 mapped f (Some x) e = (x, refl, cc)
+
+pub links_at : {K V : Type 0} (bs : Blocks K V) (n : Node) {l : Links}
+    → option_map (λ (k : Kept (K × V)). k.links) (lookup (same_node n) bs) ≡ Some l
+    → (k : Kept (K × V)) × (lookup (same_node n) bs ≡ Some k) × (k.links ≡ l)
+links_at {K} {V} bs n e = mapped (λ (k : Kept (K × V)). k.links) (lookup (same_node n) bs) e
 
 -- what a look-up of an arena found: the pair with its number
 pub record PairAt {K V : Type 0} (bs : Blocks K V) (n : Node) (p : K × V) : Type 0 where
