@@ -252,10 +252,4 @@ module _ {K V : Type 0} where
       → v.entries ≡ [] → v.free ≡ [] → Drops g s s'
       → s'.size ≡ 0
   guard_gone {v = v} o no_entries no_free drops =
-      omega (
-        arith,
-        o.ring.size,
-        drops.size,
-        ap length no_entries,
-        ap length no_free,
-      )
+      omega (arith, o.ring.size, drops.size, ap length no_entries, ap length no_free)

@@ -17,24 +17,14 @@ is_there e = ap is_some e
 module _ {X : Type 0} (es : List (Node × X)) where
   pub length-removed : {n : Node} → Cut es n → length (remove_entry (same_node n) es) + 1 ≡ length es
   length-removed {n} c =
-      omega (
-        arith,
-        ap length c.removed,
-        ap length c.is,
-        length-append c.before ((n, c.value) ∷ c.after),
-        length-append c.before c.after,
-      )
+      let old = length-append c.before ((n, c.value) ∷ c.after) in let new = length-append c.before c.after in
+      omega (arith, ap length c.removed, ap length c.is, old, new)
 
   pub length-gap : {put : Node × X → List (Node × X)} → Gap es put → (e : Node × X)
       → length (put e) ≡ length es + 1
   length-gap gap e =
-      omega (
-        arith,
-        ap length (gap.puts e),
-        ap length gap.is,
-        length-append gap.before (e ∷ gap.after),
-        length-append gap.before gap.after,
-      )
+      let new = length-append gap.before (e ∷ gap.after) in let old = length-append gap.before gap.after in
+      omega (arith, ap length (gap.puts e), ap length gap.is, new, old)
 
 module _ {K V : Type 0} where
   -- ---- a ring is closed
