@@ -23,9 +23,9 @@ def below(name, lines):
 
 
 def stands_on_of(file):
-    """Each crate of a crates.txt, lowest first, with what it stands on."""
+    """Each crate of a crates.txt, lowest first, with those of them that it stands on."""
     lines = lines_of(file)
-    return {name: below(name, lines) for name in lines}
+    return {name: [it for it in below(name, lines) if it in lines] for name in lines}
 
 
 def all_below(name, stands_on):

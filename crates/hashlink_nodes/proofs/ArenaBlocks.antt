@@ -1,5 +1,5 @@
 -- One block is taken out of an arena's and put back. Assumes `Logic`.
-use Rattle.hashlink_nodes.proofs.Cuts.{cut_at, cut-removed, cut-altered}
+use Rattle.hashlink_nodes.proofs.Cuts.{cut_at}
 use Rattle.hashlink_nodes.proofs.Names
 use Names.{◌++◌, id⊢, ◌≡◌, ℕ, ◌+◌, ◌^◌, ◌<◌, arith, List, [], ◌∷◌, Option, None, Some, IsSome, refl, sym}
 use Names.{subst, lookup, remove_entry, IfSome, nothing, Ura, ent, sep, via, fst∗, snd∗, never, never_e, Fml}
@@ -57,7 +57,7 @@ module _ (R : RattleType) {M : Type 1} {𝓤 : Ura M} (𝓛 : Logic 𝓤) (n : N
       let c = cut_at bs n x e in
       subst (λ (t : Entries × Kept R.Denot × Entries). ent 𝓤 (sem 𝓛 (blocks_own R t.0))
       (sep 𝓤 (sem 𝓛 (One t.1)) (sem 𝓛 (blocks_own R t.2))))
-      (λ i. (sym c.0.is i, c.1 i, sym (cut-removed c.0) i)) (out_of c.0.value c.0.after c.0.before)
+      (λ i. (sym c.0.is i, c.1 i, sym c.0.removed i)) (out_of c.0.value c.0.after c.0.before)
 
   -- a block goes to the place of the one that came out
   pub blocks_glue : (bs : Entries) (x : Kept R.Denot) (f : Kept R.Denot → Kept R.Denot)
@@ -68,7 +68,7 @@ module _ (R : RattleType) {M : Type 1} {𝓤 : Ura M} (𝓛 : Logic 𝓤) (n : N
       let c = cut_at bs n x e in
       subst (λ (t : Kept R.Denot × Entries × Entries).
       ent 𝓤 (sep 𝓤 (sem 𝓛 (One (f t.0))) (sem 𝓛 (blocks_own R t.1))) (sem 𝓛 (blocks_own R t.2)))
-      (λ i. (c.1 i, sym (cut-removed c.0) i, sym (cut-altered c.0 f) i))
+      (λ i. (c.1 i, sym c.0.removed i, sym (c.0.altered f) i))
       (back_in (f c.0.value) c.0.after c.0.before)
 
   -- a `&` to the arena shows the value of n

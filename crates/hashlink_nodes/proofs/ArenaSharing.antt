@@ -1,9 +1,9 @@
 -- A `&` to an arena is made where one to each part of its blocks is. Assumes `Logic`.
 use Rattle.hashlink_nodes.proofs.Names
-use Names.{ℕ, List, [], ◌∷◌, Option, Some, None, Ura, full_share, Lft, Incl, ftrue, fsep, Logic, ⊑_static}
-use Names.{usize, Laws, Sharable, copy_shared, RattleType, RowLaws, Ptr, lies_at, ShrLaws, said, beside}
-use Names.{beside_shr_laws, nothing_shr_laws, said_shr_laws, Shares-less, usize-field, usize-copy, Lends}
-use Names.{lent_at, lent_at_shr_laws, Lends-lies, Lends-first, Lends-both, Lends-said, Lends-nothing, Kept}
+use Names.{ℕ, List, [], ◌∷◌, Option, Some, None, Ura, Lft, Incl, ftrue, Logic, ⊑_static, usize, Laws}
+use Names.{Sharable, copy_shared, RattleType, RowLaws, Ptr, ShrLaws, said, beside, beside_shr_laws}
+use Names.{nothing_shr_laws, said_shr_laws, Shares-less, usize-field, usize-copy, Lends, lent_at}
+use Names.{lent_at_shr_laws, Lends-lies, Lends-first, Lends-both, Lends-said, Lends-nothing, Kept}
 use Names.{number_word, Links, blocks_lent, blocks_own, block_lent, block_owns, pair_lent, pair_owns}
 use Names.{is_small, deed_owns, number_of, links_of, Node, pair_place}
 use Rattle.hashlink_nodes.proofs.pool.links.Links.TheLaws as links_laws

@@ -8,7 +8,7 @@ use Names.{AreThere, IsPlace, put_before, put_after, held, pair_of, with_number}
 use Rattle.std.proofs.Common.{drop}
 use Rattle.hashlink_nodes.specs.declared.pool.Pool.{Pool}
 use Rattle.hashlink_nodes.proofs.Paths.{head_or, last_or}
-use Rattle.hashlink_nodes.proofs.Cuts.{Gap, cut-removed, cut-renewed, before_place, after_place, same_some}
+use Rattle.hashlink_nodes.proofs.Cuts.{Gap, before_place, after_place, same_some}
 use Rattle.hashlink_nodes.proofs.Rings.{Linked, linked, attach, Entries, InRing, in_ring, detach, held_out}
 use Rattle.hashlink_nodes.proofs.Rings.{holds_now, held_now, added, dropped, spared, take_spare, renew, Taken}
 use Rattle.hashlink_nodes.proofs.Rings.{guarded, held_anew}
@@ -82,7 +82,7 @@ module _ {K V : Type 0} where
         → Leaves s' guard first len spare (ring (set_value (same_node n) v.entries w) v.free v.link_writes)
     set_held {s'} w is =
         leaves at.is
-        (subst (λ es. IsRing s' [] g first (ring es v.free v.link_writes)) (sym (cut-renewed at.cut w))
+        (subst (λ es. IsRing s' [] g first (ring es v.free v.link_writes)) (sym (at.cut.renewed w))
         (renew n at.cut.value at.cut.before at.cut.after cut_open w is))
         (length-set_value (same_node n) v.entries w ∙ at.whole.is_len) at.whole.is_spare
 
@@ -108,7 +108,7 @@ module _ {K V : Type 0} where
         → IsRing s₁ (n ∷ []) g first (ring rest v.free (v.link_writes + 2))
     taken_out {s₁} is =
         subst (λ es. IsRing s₁ (n ∷ []) g first (ring es v.free (v.link_writes + 2)))
-        (sym (cut-removed at.cut)) (detach at.cut.value at.cut.before at.cut.after cut_open is)
+        (sym at.cut.removed) (detach at.cut.value at.cut.before at.cut.after cut_open is)
 
     -- it is spare then
     pub removed : {s₁ s₂ s₃ : State K V} → s₁ ≡ detached n s → s₂ ≡ hold n None s₁ →
@@ -216,31 +216,34 @@ module _ {K V : Type 0} where
     is = ap (λ l. e ∷ l) rest.is;
   }
 
-  module _ {s : State K V} {g first n : Node} {len spare : ℕ} {v : Ring K V}
-      (o : Opened s g first len spare v)
-      (some : 0 < length v.entries) (is_n : n ≡ s.prev g) where
-    pub last : LastIs s n v.entries
+  module _ {n : Inside K V} (sound : IsSound n) {v : Ring K V} (view : ring_of n ≡ v) {g m : Node}
+      (is : n.guard ≡ Some g) (some : 0 < length v.entries) (is_m : m ≡ (state_of n.pool).prev g) where
+    abbrev o : Opened (state_of n.pool) g n.first_spare n.len n.spare v
+    o = opened sound view is
+
+    pub last : LastIs (state_of n.pool) m v.entries
     last =
-        subst (λ m. LastIs s m v.entries)
-        (sym (is_n ∙ (linked o.ring v.entries [] (sym (append-nil v.entries))).back))
-        (last_of s g v.entries some)
+        subst (λ k. LastIs (state_of n.pool) k v.entries)
+        (sym (is_m ∙ (linked o.ring v.entries [] (sym (append-nil v.entries))).back))
+        (last_of (state_of n.pool) g v.entries some)
 
-    pub last_in : InRing s n last.value
-    last_in = in_ring o.ring last.before n last.value [] last.is
+    pub last_in : InRing (state_of n.pool) m last.value
+    last_in = in_ring o.ring last.before m last.value [] last.is
 
-    pub last_bare : {s₁ s₂ : State K V} → s₁ ≡ detached n s → s₂ ≡ hold n None s₁
-        → IsRing s₂ (n ∷ []) g first (ring last.before v.free (v.link_writes + 2))
+    pub last_bare : {s₁ s₂ : State K V} → s₁ ≡ detached m (state_of n.pool) → s₂ ≡ hold m None s₁
+        → IsRing s₂ (m ∷ []) g n.first_spare (ring last.before v.free (v.link_writes + 2))
     last_bare {s₁} {s₂} is₁ is₂ =
+        let first = n.first_spare in let s = state_of n.pool in
         let r = subst (λ es. IsRing s [] g first (ring es v.free v.link_writes)) last.is o.ring in
-        subst (λ es. IsRing s₂ (n ∷ []) g first (ring es v.free (v.link_writes + 2))) (append-nil last.before)
+        subst (λ es. IsRing s₂ (m ∷ []) g first (ring es v.free (v.link_writes + 2))) (append-nil last.before)
         (holds_now (detach last.value last.before [] r is₁) None is₂)
 
-    pub last_gone : {guard : Option Node} {s₁ s₂ s₃ : State K V} → guard ≡ Some g → s₁ ≡ detached n s
-        → s₂ ≡ hold n None s₁ → Drops n s₂ s₃
-        → Leaves s₃ guard first (len - 1) spare (ring last.before v.free (v.link_writes + 2))
-    last_gone is is₁ is₂ drops =
+    pub last_gone : {s₁ s₂ s₃ : State K V} → s₁ ≡ detached m (state_of n.pool) → s₂ ≡ hold m None s₁
+        → Drops m s₂ s₃
+        → Leaves s₃ n.guard n.first_spare (n.len - 1) n.spare (ring last.before v.free (v.link_writes + 2))
+    last_gone is₁ is₂ drops =
         leaves is (dropped (last_bare is₁ is₂) drops)
-        (omega (arith, o.is_len, ap length last.is, length-append last.before ((n, last.value) ∷ [])))
+        (omega (arith, o.is_len, ap length last.is, length-append last.before ((m, last.value) ∷ [])))
         o.is_spare
 
   -- the guard is the last to go
@@ -249,10 +252,4 @@ module _ {K V : Type 0} where
       → v.entries ≡ [] → v.free ≡ [] → Drops g s s'
       → s'.size ≡ 0
   guard_gone {v = v} o no_entries no_free drops =
-      omega (
-        arith,
-        o.ring.size,
-        drops.size,
-        ap length no_entries,
-        ap length no_free,
-      )
+      omega (arith, o.ring.size, drops.size, ap length no_entries, ap length no_free)

@@ -4,9 +4,7 @@ use Rattle.hashlink_nodes.proofs.Names.{lookup, Node, Inside, Ring, same_node, s
 use Rattle.hashlink_nodes.proofs.Names.{ring_of, Held, Holds, pair_of, ring, with_value, entry_in, refl}
 use Rattle.hashlink_nodes.specs.NodesLends.{with_value_at}
 use Rattle.hashlink_nodes.proofs.StateLemmas.{pair_at, pair_anew, paired}
-use Rattle.hashlink_nodes.proofs.Cuts.{cut-looked}
-use Rattle.hashlink_nodes.proofs.Opening.{Leaves, node_in}
-use Rattle.hashlink_nodes.proofs.Calls.{renewed}
+use Rattle.hashlink_nodes.proofs.{Opening.Leaves, Opening.node_in, Calls.renewed}
 
 pub lent : {K V : Type 0} {n : Inside K V} {v : Ring K V} → IsSound n → ring_of n ≡ v → (m : Node)
     → Holds v.entries m → (p : K × V) → option_map pair_of ((state_of n.pool).held m) ≡ Some p → (w : V)
@@ -20,5 +18,5 @@ lent {K} {V} {n} {v} sound view m there p is w =
     (λ es. Leaves (state_of (pool_with n.pool m (p.0, w))) n.guard n.first_spare n.len n.spare
     (ring es v.free v.link_writes))
     (sym (ap (λ o. option_map_or (λ h. set_value (same_node m) v.entries (change h)) o v.entries)
-    (cut-looked at.cut)))
+    at.cut.looked))
     (renewed at change (pair_anew bs n.pool.writes.count m p found (p.0, w) change refl))

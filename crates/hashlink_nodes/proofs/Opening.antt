@@ -4,9 +4,8 @@ use Names.{◌≡◌, ℕ, ◌+◌, ◌^◌, ◌<◌, List, [], ◌∷◌, ◌++
 use Names.{arith, is_some, IfSome, AllByRecursion, IsDistinct, keys_of, lookup, remove_entry, length-append}
 use Names.{length-keys_of, IsDistinct-tail, Node, Inside, same_node, state_of, Ring, ring, Holds, IsRing}
 use Names.{IsSound, SoundAt, ring_at, ring_of, walk, entry_of, entries_of, State, IsSome, Held}
-use Rattle.hashlink_nodes.proofs.Paths.{length-walk, walk-linked, walk-chain}
-use Rattle.hashlink_nodes.proofs.Cuts.{Cut, Gap, cut, cut-looked, cut-removed}
-use Rattle.hashlink_nodes.proofs.Rings.{InRing, in_ring}
+use Rattle.hashlink_nodes.proofs.{Paths.length-walk, Paths.walk-linked, Paths.walk-chain, Cuts.Cut, Cuts.Gap}
+use Rattle.hashlink_nodes.proofs.{Cuts.cut, Rings.InRing, Rings.in_ring}
 
 pub if_some : {X : Type 0} {o : Option X} {x : X} (P : X → Type 0) → o ≡ Some x → P x → IfSome o P
 if_some P e p = subst (λ o. IfSome o P) (sym e) p
@@ -18,24 +17,14 @@ is_there e = ap is_some e
 module _ {X : Type 0} (es : List (Node × X)) where
   pub length-removed : {n : Node} → Cut es n → length (remove_entry (same_node n) es) + 1 ≡ length es
   length-removed {n} c =
-      omega (
-        arith,
-        ap length (cut-removed c),
-        ap length c.is,
-        length-append c.before ((n, c.value) ∷ c.after),
-        length-append c.before c.after,
-      )
+      let old = length-append c.before ((n, c.value) ∷ c.after) in let new = length-append c.before c.after in
+      omega (arith, ap length c.removed, ap length c.is, old, new)
 
   pub length-gap : {put : Node × X → List (Node × X)} → Gap es put → (e : Node × X)
       → length (put e) ≡ length es + 1
   length-gap gap e =
-      omega (
-        arith,
-        ap length (gap.puts e),
-        ap length gap.is,
-        length-append gap.before (e ∷ gap.after),
-        length-append gap.before gap.after,
-      )
+      let new = length-append gap.before (e ∷ gap.after) in let old = length-append gap.before gap.after in
+      omega (arith, ap length (gap.puts e), ap length gap.is, new, old)
 
 module _ {K V : Type 0} where
   -- ---- a ring is closed
@@ -162,13 +151,16 @@ module _ {K V : Type 0} where
           whole = o;
           cut = c;
           here = here;
-          shows = cut-looked c ∙ sym here.holds;
+          shows = c.looked ∙ sym here.holds;
           some = omega (arith, o.is_len, length-removed v.entries c);
         }
 
     -- where a node is held there is a guard
     pub guard_of : (m : Node) → Holds v.entries m → (g : Node) × (n.guard ≡ Some g)
     guard_of m there = guarded (λ is. cc (subst (λ (r : Ring K V). Holds r.entries m) (empty is) there))
+
+    pub not_empty : 0 < length v.entries → n.guard ≡ None → ⊥
+    not_empty some is = omega (arith, some, ap (λ (r : Ring K V). length r.entries) (empty is))
 
     pub spare_guard : 0 < length v.free → (g : Node) × (n.guard ≡ Some g)
     spare_guard some = guarded (λ is. omega (arith, some, ap (λ (r : Ring K V). length r.free) (empty is)))

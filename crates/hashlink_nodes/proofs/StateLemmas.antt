@@ -5,9 +5,8 @@ use Names.{◌∙◌, arith, IsNone, is_some, lookup, set_value, remove_entry, l
 use Names.{same_node, same_node-refl, Differs, same_node_equiv, eq-same_node, State, Blocks, state, set_at}
 use Names.{next_in, prev_in, held_in, store_next, store_prev, hold, Adds, MakesGuard, Drops, Node, Link, Kept}
 use Names.{kept, alter, entry_in, with_links, with_pair, held, pair_of, option_map, Held}
-use Rattle.hashlink_nodes.proofs.ArenaBlocks.{found_entry}
-use Rattle.hashlink_nodes.proofs.Cuts.{cut, cut_at, cut-altered, cut-renewed, cut-removed, others_found}
-use Rattle.hashlink_nodes.proofs.Opening.{length-removed}
+use Rattle.hashlink_nodes.proofs.{ArenaBlocks.found_entry, Opening.length-removed}
+use Rattle.hashlink_nodes.proofs.Cuts.{cut, cut_at}
 use Rattle.hashlink_nodes.proofs.Paths.{set_at_here, set_at_other}
 use Rattle.hashlink_nodes.specs.declared.pool.links.Links.{Links}
 
@@ -33,10 +32,15 @@ set_same f n x is = λ i m. (elim (same_node m n) as (λ (y : Bool). same_node m
 ]) refl i
 
 -- what is mapped to y
-pub mapped : {X Y : Type 0} (f : X → Y) (o : Option X) {y : Y} → option_map f o ≡ Some y
+mapped : {X Y : Type 0} (f : X → Y) (o : Option X) {y : Y} → option_map f o ≡ Some y
     → (x : X) × (o ≡ Some x) × (f x ≡ y)
 mapped f None e = absurd (cc e)
 mapped f (Some x) e = (x, refl, cc)
+
+pub links_at : {K V : Type 0} (bs : Blocks K V) (n : Node) {l : Links}
+    → option_map (λ (k : Kept (K × V)). k.links) (lookup (same_node n) bs) ≡ Some l
+    → (k : Kept (K × V)) × (lookup (same_node n) bs ≡ Some k) × (k.links ≡ l)
+links_at {K} {V} bs n e = mapped (λ (k : Kept (K × V)). k.links) (lookup (same_node n) bs) e
 
 -- what a look-up of an arena found: the pair with its number
 pub record PairAt {K V : Type 0} (bs : Blocks K V) (n : Node) (p : K × V) : Type 0 where
@@ -68,7 +72,7 @@ module _ {K V : Type 0} (bs : Blocks K V) (count count' : ℕ) (n : Node) (k : K
   is_set : (f : Kept (K × V) → Kept (K × V)) → changed f ≡ set_value (same_node n) bs (f k)
   is_set f =
       let c = cut_at bs n k e in
-      cut-altered c.0 f ∙ sym (cut-renewed c.0 (f c.0.value))
+      c.0.altered f ∙ sym (c.0.renewed (f c.0.value))
       ∙ ap (λ x. set_value (same_node n) bs (f x)) c.1
 
   abbrev S : State K V
@@ -198,8 +202,7 @@ module _ {K V : Type 0} where
       → Drops n (state bs count) (state bs' count)
   dropped bs bs' count n there is =
       let c = cut bs n there in record {
-        differs = differs bs bs' (λ m k. ap (lookup (same_node m)) (is ∙ cut-removed c)
-            ∙ others_found n c.value c.after m k c.before ∙ ap (lookup (same_node m)) (sym c.is));
+        differs = differs bs bs' (λ m k. ap (lookup (same_node m)) (is ∙ c.removed) ∙ c.others m k);
         size = ap (λ (cs : Blocks K V). length cs + 1) is ∙ length-removed bs c;
         link_writes = refl;
       }

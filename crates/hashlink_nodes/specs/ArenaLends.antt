@@ -1,12 +1,9 @@
 -- What an arena ends as, once a `&mut` into one of its blocks has ended.
 use Rattle.std.specs.Borrow.{Fml, RattleType, MutBor, Lends}
-use Rattle.hashlink_nodes.specs.Node.{same_node}
+use Rattle.hashlink_nodes.specs.{Node.same_node, declared.node.Node.Node, declared.pool.links.Links.Links}
+use Rattle.hashlink_nodes.specs.{declared.arena.Arena.Arena, contracts.arena.Arena.the_row}
 use Rattle.hashlink_nodes.specs.Kept.{Kept, alter, with_links, with_pair}
-use Rattle.hashlink_nodes.specs.declared.node.Node.{Node}
-use Rattle.hashlink_nodes.specs.declared.pool.links.Links.{Links}
 use Rattle.hashlink_nodes.specs.contracts.pool.links.Links as links
-use Rattle.hashlink_nodes.specs.declared.arena.Arena.{Arena}
-use Rattle.hashlink_nodes.specs.contracts.arena.Arena.{the_row}
 
 -- the same arena with f of what the node's block keeps
 abbrev pub altered : {T : Type 0} → Arena T → Node → (Kept T → Kept T) → Arena T

@@ -1,10 +1,7 @@
 -- What a ring ends as, once a `&mut` to a value has ended.
-use Rattle.std.specs.Map.{lookup, set_value}
-use Rattle.std.specs.Option.{option_map_or}
+use Rattle.std.{specs.Map.lookup, specs.Map.set_value, specs.Option.option_map_or}
 use Rattle.std.specs.Borrow.{Fml, RattleType, MutBor, Lends}
-use Rattle.hashlink_nodes.specs.declared.node.Node.{Node}
-use Rattle.hashlink_nodes.specs.contracts.nodes.Nodes.{the_row}
-use Rattle.hashlink_nodes.specs.Node.{same_node}
+use Rattle.hashlink_nodes.specs.{declared.node.Node.Node, contracts.nodes.Nodes.the_row, Node.same_node}
 use Rattle.hashlink_nodes.specs.Ring.{Ring, with_value}
 
 -- the same ring with w as the value of the node's entry

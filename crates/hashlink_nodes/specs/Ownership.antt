@@ -1,20 +1,12 @@
 -- What an arena owns and lends, at pairs of the row R.
 use Rattle.std.specs.Prelude.{◌≡◌, ℕ, ◌+◌, ◌^◌, List, [], ◌∷◌, Option, None, Some, refl}
-use base.Fraction.{full_share}
-use base.Fml.{Lft, Fml, ftrue, fsep, fwand, flt}
-use denote.Builtin.{usize}
-use denote.RattleType.{RattleType}
-use denote.Memory.{lone}
-use denote.Sharing.{nothing, said, beside}
-use denote.Struct.Lending.{lent_at}
-use Rattle.std.specs.declared.alloc.Global.{Global}
-use Rattle.std.specs.contracts.impls.GlobalAllocator.TheImpl.{ghosts}
-use mir.Syntax.{Ty, ty_struct, tcons, tnil}
-use mir.Raw.{raw}
+use base.{Fraction.full_share, Fml.Lft, Fml.Fml, Fml.ftrue, Fml.fsep, Fml.fwand, Fml.flt}
+use denote.{Builtin.usize, RattleType.RattleType, Memory.lone, Sharing.nothing, Sharing.said, Sharing.beside}
+use denote.{Struct.Lending.lent_at, RawPtr.Ptr, RawPtr.lies_at, RawPtr.room_for, RawPtr.◌+ₚ◌}
+use Rattle.std.{specs.declared.alloc.Global.Global, specs.contracts.impls.GlobalAllocator.TheImpl.ghosts}
+use mir.{Syntax.Ty, Syntax.ty_struct, Syntax.tcons, Syntax.tnil, Raw.raw}
 use prog.Memory.{size, align, up}
-use denote.RawPtr.{Ptr, lies_at, room_for, ◌+ₚ◌}
-use Rattle.hashlink_nodes.specs.Kept.{Kept, number_word}
-use Rattle.hashlink_nodes.specs.declared.node.Node.{Node}
+use Rattle.hashlink_nodes.specs.{Kept.Kept, Kept.number_word, declared.node.Node.Node}
 use Rattle.hashlink_nodes.specs.contracts.pool.links.Links as links
 
 -- what the members say at every handle alike

@@ -1,10 +1,7 @@
 -- What the blocks of a ring end as, once a `&mut` to a value has ended.
 use Rattle.std.specs.Borrow.{Fml, RattleType, Bor, MutBor, Lends}
-use Rattle.hashlink_nodes.specs.declared.node.Node.{Node}
-use Rattle.hashlink_nodes.specs.declared.pool.Pool.{Pool}
-use Rattle.hashlink_nodes.specs.contracts.pool.Pool.{the_row}
-use Rattle.hashlink_nodes.specs.ArenaLends.{altered}
-use Rattle.hashlink_nodes.specs.Kept.{with_pair}
+use Rattle.hashlink_nodes.specs.{declared.node.Node.Node, declared.pool.Pool.Pool}
+use Rattle.hashlink_nodes.specs.{contracts.pool.Pool.the_row, ArenaLends.altered, Kept.with_pair}
 
 -- the same blocks with p as the node's pair
 abbrev pub pool_with : {K V : Type 0} → Pool K V → Node → K × V → Pool K V

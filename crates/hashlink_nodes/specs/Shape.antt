@@ -1,15 +1,9 @@
 -- How the links of the blocks make a ring and a chain of spare nodes.
 use Rattle.std.specs.Prelude.{◌≡◌, ℕ, zero, suc, ◌+◌, ◌^◌, ◌<◌, true, List, [], ◌∷◌, ◌++◌, length, Option}
 use Rattle.std.specs.Prelude.{None, Some}
-use Rattle.std.specs.List.{AllByRecursion, IsDistinct}
-use Rattle.std.specs.Map.{keys_of}
-use Rattle.hashlink_nodes.specs.declared.node.Node.{Node}
-use Rattle.hashlink_nodes.specs.declared.held.Held.{Held}
-use Rattle.hashlink_nodes.specs.Node.{same_node}
-use Rattle.hashlink_nodes.specs.Ring.{Ring}
-use Rattle.hashlink_nodes.specs.State.{State}
-use Rattle.hashlink_nodes.specs.Pool.{state_of}
-use Rattle.hashlink_nodes.specs.declared.nodes.Nodes.TheInside.{Inside}
+use Rattle.std.{specs.List.AllByRecursion, specs.List.IsDistinct, specs.Map.keys_of}
+use Rattle.hashlink_nodes.specs.{declared.node.Node.Node, declared.held.Held.Held, Node.same_node, Ring.Ring}
+use Rattle.hashlink_nodes.specs.{State.State, Pool.state_of, declared.nodes.Nodes.TheInside.Inside}
 
 -- f leads from a along the nodes to z, and b leads back
 abbrev pub IsLinked : (Node → Node) → (Node → Node) → Node → List Node → Node → Type 0

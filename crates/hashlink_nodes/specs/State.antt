@@ -1,13 +1,9 @@
 -- What the blocks of a ring say, read at any node: its links and what it holds.
 use Rattle.std.specs.Prelude.{ℕ, ◌+◌, ◌≡◌, Bool, true, false, cond, List, length, Option, None, Some, is_some}
-use Rattle.std.specs.Map.{lookup}
+use Rattle.std.{specs.Map.lookup, specs.Option.option_map}
 use denote.RawPtr.{null_ptr}
-use Rattle.hashlink_nodes.specs.Node.{same_node}
-use Rattle.hashlink_nodes.specs.declared.node.Node.{Node}
-use Rattle.hashlink_nodes.specs.declared.held.Held.{Held}
+use Rattle.hashlink_nodes.specs.{Node.same_node, declared.node.Node.Node, declared.held.Held.Held, Ring.held}
 use Rattle.hashlink_nodes.specs.Kept.{Kept, entry_in}
-use Rattle.hashlink_nodes.specs.Ring.{held}
-use Rattle.std.specs.Option.{option_map}
 
 pub record State (K V : Type 0) : Type 0 where
   pub next : Node → Node

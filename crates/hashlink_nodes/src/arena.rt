@@ -1,4 +1,7 @@
 //! The owner of the nodes' blocks. All code that follows a pointer is in this file.
+//!
+//! A block that no arena owns is std's `Vacant`: nothing is in it, and it has the allocator that it goes back
+//! to. It is not `Drop`: code that has one must free it or give it to an arena.
 ghost use Rattle.std.specs.Prelude.{◌≡◌, ◌^◌, ◌<◌, List, [], ◌∷◌, None, Some, IsSome, IsNone, IfSome};
 ghost use Rattle.std.specs.Option.{option_map};
 ghost use Rattle.std.specs.Map.{lookup, remove_entry};

@@ -159,6 +159,7 @@ impl<K, V> Pool<K, V> {
         self.attach(node, prev, next);
     }
 
+    /// Links the node in between two others.
     #[inline]
     fn attach(&mut self, node: Node, prev: Node, next: Node)
         requires { AreThere (state_of self.old) node prev next }

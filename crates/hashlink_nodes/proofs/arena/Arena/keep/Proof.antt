@@ -12,10 +12,9 @@ use Names.{word, word-Good, proved_at, leaves, same_node, Kept, kept, Links, num
 use Names.{Arena, Node, arena_row, IsNone}
 use Rattle.hashlink_nodes.proofs.ArenaSteps.{fits_word, as_handle, no_entry, no_box, args_are, states}
 use Rattle.hashlink_nodes.proofs.ArenaBlocks.{small_shown, apart_from, knows}
-use Rattle.hashlink_nodes.proofs.ArenaSharing.{LL}
+use Rattle.hashlink_nodes.proofs.{ArenaSharing.LL, arena.Arena.keep.Statement.statement}
 use Rattle.hashlink_nodes.proofs.VacantSteps.{both, Vacant, vacant_good, vacant_out}
 use Rattle.hashlink_nodes.specs.contracts.arena.Arena.keep as F
-use Rattle.hashlink_nodes.proofs.arena.Arena.keep.Statement.{statement}
 use Rattle.hashlink_nodes.proofs.arena.Arena.keep.Code as code
 
 pub keep_spec : {M : Type 1} → statement M

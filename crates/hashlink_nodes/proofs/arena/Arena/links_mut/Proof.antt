@@ -4,9 +4,7 @@ use Names.{◌∙◌, [], ◌∷◌, refl, sym, ap, Some, IsSome, lookup, full_s
 use Names.{qed, move, join, fsplit, fsplit3, fjoin, fjoin3, done, follows, RattleType, lies_at, param}
 use Names.{layouts, option_map, usize, block_owns, pair_owns, is_small, deed_owns, number_of, links_of}
 use Names.{links_offset, Links, altered, Kept, with_links, number_word, same_node, mut, arena_row}
-use Rattle.hashlink_nodes.proofs.ArenaBlocks.{found}
-use Rattle.hashlink_nodes.proofs.ArenaSteps.{states}
-use Rattle.hashlink_nodes.proofs.ArenaLends.{lent}
+use Rattle.hashlink_nodes.proofs.{ArenaBlocks.found, ArenaSteps.states, ArenaLends.lent}
 use Rattle.hashlink_nodes.specs.contracts.arena.Arena.links_mut as F
 use Rattle.hashlink_nodes.proofs.arena.Arena.links_mut.Statement.{statement}
 use Rattle.hashlink_nodes.proofs.arena.Arena.links_mut.Code as code

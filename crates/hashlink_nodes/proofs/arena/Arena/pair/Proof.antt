@@ -3,11 +3,9 @@ use Rattle.hashlink_nodes.proofs.Names.{ℕ, Option, ◌∙◌, rewrite, [], ◌
 use Rattle.hashlink_nodes.proofs.Names.{emp, id⊢, ‵, ◌$◌, ◌∵◌, !, qed, move, keep, join, fsplit, use1, done}
 use Rattle.hashlink_nodes.proofs.Names.{fact_i, RattleType, param, layouts, option_map, Kept, entry_in}
 use Rattle.hashlink_nodes.proofs.Names.{block_lent, blocks_lent, pair_lent, pair_offset, same_node, imm}
-use Rattle.hashlink_nodes.proofs.ArenaBlocks.{found_entry, block_seen}
-use Rattle.hashlink_nodes.proofs.ArenaSteps.{states}
-use Rattle.hashlink_nodes.proofs.ArenaLends.{shared}
+use Rattle.hashlink_nodes.proofs.{ArenaBlocks.found_entry, ArenaBlocks.block_seen, ArenaSteps.states}
+use Rattle.hashlink_nodes.proofs.{ArenaLends.shared, arena.Arena.pair.Statement.statement}
 use Rattle.hashlink_nodes.specs.contracts.arena.Arena.pair as F
-use Rattle.hashlink_nodes.proofs.arena.Arena.pair.Statement.{statement}
 use Rattle.hashlink_nodes.proofs.arena.Arena.pair.Code as code
 
 pub pair_spec : {M : Type 1} → statement M

@@ -4,9 +4,7 @@ use Names.{◌≡◌, ℕ, Option, ◌∙◌, [], ◌∷◌, refl, sym, ap, Some
 use Names.{‵, ◌$◌, ◌∵◌, !, qed, move, join, fsplit, fjoin, rewrite, done, follows, RattleType, lies_at, param}
 use Names.{layouts, option_map, usize, block_owns, is_small, deed_owns, number_of, links_of, pair_offset}
 use Names.{Links, altered, Kept, kept, entry_in, with_pair, same_node, pair_place, mut, arena_row}
-use Rattle.hashlink_nodes.proofs.ArenaBlocks.{found_entry}
-use Rattle.hashlink_nodes.proofs.ArenaSteps.{states}
-use Rattle.hashlink_nodes.proofs.ArenaLends.{lent}
+use Rattle.hashlink_nodes.proofs.{ArenaBlocks.found_entry, ArenaSteps.states, ArenaLends.lent}
 use Rattle.hashlink_nodes.specs.contracts.arena.Arena.pair_mut as F
 use Rattle.hashlink_nodes.proofs.arena.Arena.pair_mut.Statement.{statement}
 use Rattle.hashlink_nodes.proofs.arena.Arena.pair_mut.Code as code

@@ -1,5 +1,4 @@
-use Rattle.hashlink_nodes.proofs.Names.{Some, refl}
-use Rattle.hashlink_nodes.proofs.Neighbours.{next_to, told}
+use Rattle.hashlink_nodes.proofs.{Names.Some, Names.refl, Neighbours.next_to, Neighbours.told}
 use Rattle.hashlink_nodes.proofs.Opening.{known, node_in}
 use Rattle.hashlink_nodes.proofs.nodes.Nodes.after.Goals as goal
 

@@ -1,7 +1,6 @@
 use Rattle.hashlink_nodes.proofs.Names.{None, ap, ◌∙◌, sym, arith, option_map, is_some, pair_of}
-use Rattle.hashlink_nodes.proofs.Calls.{removed, taken_out}
+use Rattle.hashlink_nodes.proofs.{Calls.removed, Calls.taken_out, Rings.held_out, Rings.holds_now}
 use Rattle.hashlink_nodes.proofs.Opening.{known, node_in, seal}
-use Rattle.hashlink_nodes.proofs.Rings.{held_out, holds_now}
 use Rattle.hashlink_nodes.proofs.nodes.Nodes.detach_into_free.Goals as goal
 
 pub detach-requires : goal.detach-requires

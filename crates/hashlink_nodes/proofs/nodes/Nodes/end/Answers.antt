@@ -1,5 +1,4 @@
-use Rattle.hashlink_nodes.proofs.Calls.{guard_gone}
-use Rattle.hashlink_nodes.proofs.Opening.{opened}
+use Rattle.hashlink_nodes.proofs.{Calls.guard_gone, Opening.opened}
 use Rattle.hashlink_nodes.proofs.nodes.Nodes.end.Goals as goal
 
 pub end-requires : goal.end-requires

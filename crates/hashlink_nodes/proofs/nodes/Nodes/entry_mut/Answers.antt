@@ -1,6 +1,5 @@
 use Rattle.hashlink_nodes.proofs.Names.{ap, ◌∙◌, refl, is_some, option_map, Held, pair_of}
-use Rattle.hashlink_nodes.proofs.Lending.{lent}
-use Rattle.hashlink_nodes.proofs.Opening.{node_in}
+use Rattle.hashlink_nodes.proofs.{Lending.lent, Opening.node_in, Opening.seal}
 use Rattle.hashlink_nodes.proofs.nodes.Nodes.entry_mut.Goals as goal
 
 pub entry_mut-requires : goal.entry_mut-requires
@@ -8,21 +7,16 @@ entry_mut-requires g c = ap is_some (node_in c.self.invariant c.self.view_is c.a
     c.requires).here.holds
 
 pub invariant_of-self-lent : goal.invariant_of-self-lent
-invariant_of-self-lent g c = λ w. record {
-  at =
-      (lent c.self.invariant c.self.view_is c.args.node c.requires _ c.entry_mut.ensures.pair w).sound;
-}
+invariant_of-self-lent g c = λ w.
+    seal (lent c.self.invariant c.self.view_is c.args.node c.requires _ c.entry_mut.ensures.pair w).sound
 
 pub returns : goal.returns
-returns g c = (
-  (
-    refl,
-    λ w. (lent c.self.invariant c.self.view_is c.args.node c.requires _ c.entry_mut.ensures.pair w).view,
-  ),
-  record {
-    lends = tt;
-    pair =
-        ap (option_map (λ (h : Held g.row.K.Denot g.row.V.Denot). pair_of h))
-        (node_in c.self.invariant c.self.view_is c.args.node c.requires).shows ∙ c.entry_mut.ensures.pair;
-  },
-)
+returns g c =
+    let pair = c.entry_mut.ensures.pair in
+    let at = node_in c.self.invariant c.self.view_is c.args.node c.requires in (
+      (refl, λ w. (lent c.self.invariant c.self.view_is c.args.node c.requires _ pair w).view),
+      record {
+        lends = tt;
+        pair = ap (option_map (λ (h : Held g.row.K.Denot g.row.V.Denot). pair_of h)) at.shows ∙ pair;
+      },
+    )

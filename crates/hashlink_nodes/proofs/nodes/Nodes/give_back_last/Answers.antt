@@ -1,70 +1,54 @@
-use Rattle.hashlink_nodes.proofs.Names.{option_map, is_some, ◌++◌, ◌∷◌, [], length, ap, sym, ◌∙◌, arith}
-use Rattle.hashlink_nodes.proofs.Names.{state_of, Ring, Held, held, pair_of}
-use Rattle.hashlink_nodes.proofs.Calls.{last, last_in, last_bare, last_gone}
-use Rattle.hashlink_nodes.proofs.Cuts.{same_some}
-use Rattle.hashlink_nodes.proofs.Opening.{empty, opened, seal}
+use Rattle.hashlink_nodes.proofs.Names.{option_map, is_some, ◌++◌, ◌∷◌, [], ap, sym, ◌∙◌, arith}
+use Rattle.hashlink_nodes.proofs.Names.{state_of, Held, held, pair_of}
+use Rattle.hashlink_nodes.proofs.{Calls.last, Calls.last_in, Calls.last_bare, Calls.last_gone, Cuts.same_some}
+use Rattle.hashlink_nodes.proofs.Opening.{known, not_empty, seal}
 use Rattle.hashlink_nodes.proofs.Rings.{held_now, held_out}
 use Rattle.hashlink_nodes.proofs.nodes.Nodes.give_back_last.Goals as goal
 
 pub unreachable-requires : goal.unreachable-requires
-unreachable-requires g c =
-    let R : Type 0 = Ring g.row.K.Denot g.row.V.Denot in
-    omega (
-      arith,
-      c.requires,
-      ap (λ (r : R). length r.entries)
-          (empty c.self.invariant c.self.view_is c.in-None.is),
-    )
+unreachable-requires g c = not_empty c.self.invariant c.self.view_is c.requires c.in-None.is
 
 pub detach-requires : goal.detach-requires
 detach-requires g c =
-    (last_in (opened c.self.invariant c.self.view_is c.in-Some.is) c.requires c.prev-node.ensures).fits
+    (last_in c.self.invariant c.self.view_is c.in-Some.is c.requires c.prev-node.ensures).fits
 
 pub number-number-requires : goal.number-number-requires
 number-number-requires g c =
-    ap is_some (held_out (last_in (opened c.self.invariant c.self.view_is c.in-Some.is) c.requires
-    c.prev-node.ensures)
-    c.detach.ensures)
+    ap is_some (held_out (last_in c.self.invariant c.self.view_is c.in-Some.is c.requires
+    c.prev-node.ensures) c.detach.ensures)
 
 pub take-key-requires : goal.take-key-requires
 take-key-requires g c =
-    ap is_some (held_out (last_in (opened c.self.invariant c.self.view_is c.in-Some.is) c.requires
-    c.prev-node.ensures)
-    c.detach.ensures)
+    ap is_some (held_out (last_in c.self.invariant c.self.view_is c.in-Some.is c.requires
+    c.prev-node.ensures) c.detach.ensures)
 
 pub give_back-requires : goal.give_back-requires
 give_back-requires g c =
-    let r = last_bare (opened c.self.invariant c.self.view_is c.in-Some.is) c.requires c.prev-node.ensures
-    c.detach.ensures
-    c.take-key.ensures.is in
+    let r = last_bare c.self.invariant c.self.view_is c.in-Some.is c.requires c.prev-node.ensures
+    c.detach.ensures c.take-key.ensures.is in
     record { has = r.there.0; bare = held_now (state_of c.detach.new.self) c.take-key.ensures.is }
 
 pub overflow_sub-self : goal.overflow_sub-self
-overflow_sub-self g c = omega (
-  arith,
-  c.requires,
-  (opened c.self.invariant c.self.view_is c.in-Some.is).is_len,
-)
+overflow_sub-self g c = omega (arith, c.requires, (known c.self.invariant c.self.view_is).is_len)
 
 pub invariant_of-self : goal.invariant_of-self
 invariant_of-self g c =
-    seal (last_gone (opened c.self.invariant c.self.view_is c.in-Some.is) c.requires
-    c.prev-node.ensures c.in-Some.is c.detach.ensures
-    c.take-key.ensures.is c.give_back.ensures).sound
+    seal (last_gone c.self.invariant c.self.view_is c.in-Some.is c.requires c.prev-node.ensures
+    c.detach.ensures c.take-key.ensures.is c.give_back.ensures).sound
 
 pub returns : goal.returns
 returns g c =
-    let o = opened c.self.invariant c.self.view_is c.in-Some.is in
-    let l = last_gone o c.requires c.prev-node.ensures c.in-Some.is c.detach.ensures c.take-key.ensures.is
-    c.give_back.ensures in
-    let was = sym (held_out (last_in o c.requires c.prev-node.ensures) c.detach.ensures) in
+    let at = last c.self.invariant c.self.view_is c.in-Some.is c.requires c.prev-node.ensures in
+    let here = last_in c.self.invariant c.self.view_is c.in-Some.is c.requires c.prev-node.ensures in
+    let l = last_gone c.self.invariant c.self.view_is c.in-Some.is c.requires c.prev-node.ensures
+    c.detach.ensures c.take-key.ensures.is c.give_back.ensures in
+    let was = sym (held_out here c.detach.ensures) in
     let number = same_some (ap (option_map (λ (h : Held g.row.K.Denot g.row.V.Denot). h.number)) was
     ∙ c.number-number.ensures) in
     let pair = same_some (ap (option_map pair_of) was ∙ c.take-key.ensures.was) in record {
       last = (
         c.prev-node.result,
-        (last o c.requires c.prev-node.ensures).is
-            ∙ (λ i. sym l.entries i ++ (c.prev-node.result, held (number i) (pair i).0 (pair i).1) ∷ []),
+        at.is ∙ (λ i. sym l.entries i ++ (c.prev-node.result, held (number i) (pair i).0 (pair i).1) ∷ []),
       );
       free = l.free;
       link_writes = l.link_writes;

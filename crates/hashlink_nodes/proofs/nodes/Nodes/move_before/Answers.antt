@@ -1,6 +1,5 @@
 use Rattle.std.proofs.Common.{arith, ◌∙◌}
-use Rattle.hashlink_nodes.proofs.Calls.{into_before, ready_moved}
-use Rattle.hashlink_nodes.proofs.Cuts.{cut-entry}
+use Rattle.hashlink_nodes.proofs.{Calls.into_before, Calls.ready_moved}
 use Rattle.hashlink_nodes.proofs.Opening.{is_there, guard_of, if_some, node_at, node_in, seal}
 use Rattle.hashlink_nodes.proofs.nodes.Nodes.move_before.Goals as goal
 
@@ -26,7 +25,7 @@ returns g c =
     let at = node_at c.self.invariant c.self.view_is c.unwrap-guard.ensures c.args.node c.requires.node in
     let i = into_before (ready_moved at c.detach.ensures) c.args.place c.requires.place c.unwrap_or.ensures in
     let l = i.leaves at.is c.attach_before.ensures in record {
-      moved = if_some _ (cut-entry at.cut) l.entries;
+      moved = if_some _ at.cut.entry l.entries;
       free = l.free;
       link_writes = l.link_writes ∙ omega arith;
     }

@@ -5,10 +5,10 @@ use Rattle.hashlink_nodes.proofs.nodes.Nodes.next.Goals as goal
 
 pub returns-in_err-guard : goal.returns-in_err-guard
 returns-in_err-guard g c =
-    let R : Type 0 = Ring g.row.K.Denot g.row.V.Denot in record {
+    record {
       place =
           c.from_residual.ensures ∙ (none_beside c.args.place).0
-          ∙ ap (λ (v : R). next_place (keys_of v.entries) c.args.place)
+          ∙ ap (λ (v : Ring g.row.K.Denot g.row.V.Denot). next_place (keys_of v.entries) c.args.place)
           (sym (empty c.self.invariant c.self.view_is c.in_err-guard.was));
       apart = (known c.self.invariant c.self.view_is).differ;
     }

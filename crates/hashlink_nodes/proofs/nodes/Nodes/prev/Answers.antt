@@ -5,10 +5,10 @@ use Rattle.hashlink_nodes.proofs.nodes.Nodes.prev.Goals as goal
 
 pub returns-in_err-guard : goal.returns-in_err-guard
 returns-in_err-guard g c =
-    let R : Type 0 = Ring g.row.K.Denot g.row.V.Denot in record {
+    record {
       place =
           c.from_residual.ensures ∙ (none_beside c.args.place).1
-          ∙ ap (λ (v : R). prev_place (keys_of v.entries) c.args.place)
+          ∙ ap (λ (v : Ring g.row.K.Denot g.row.V.Denot). prev_place (keys_of v.entries) c.args.place)
           (sym (empty c.self.invariant c.self.view_is c.in_err-guard.was));
       apart = (known c.self.invariant c.self.view_is).differ;
     }

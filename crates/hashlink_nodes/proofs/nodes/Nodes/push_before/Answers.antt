@@ -1,5 +1,4 @@
-use Rattle.hashlink_nodes.proofs.Names.{◌-◌, ◌+◌, ◌≡◌, refl, sym, subst, ◌∙◌, arith, OnOk, nil_from_length}
-use Rattle.hashlink_nodes.proofs.Names.{state_of, held, ring}
+use Rattle.hashlink_nodes.proofs.Names.{◌≡◌, refl, sym, subst, ◌∙◌, arith, OnOk, nil_from_length}
 use Rattle.std.proofs.Common.{drop}
 use Rattle.hashlink_nodes.proofs.Calls.{ready_spare, spare_of, into_before}
 use Rattle.hashlink_nodes.proofs.Opening.{known, opened, seal}

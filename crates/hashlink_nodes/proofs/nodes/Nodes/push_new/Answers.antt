@@ -1,6 +1,5 @@
-use Rattle.hashlink_nodes.proofs.Names.{◌+◌, Some, length, ap, sym, subst, refl, ◌∙◌, arith, state_of, held}
-use Rattle.hashlink_nodes.proofs.Calls.{guard_stays, into_before, ready_new}
-use Rattle.hashlink_nodes.proofs.Opening.{seal}
+use Rattle.hashlink_nodes.proofs.Names.{refl, ◌∙◌, arith}
+use Rattle.hashlink_nodes.proofs.{Calls.guard_stays, Calls.into_before, Calls.ready_new, Opening.seal}
 use Rattle.hashlink_nodes.proofs.nodes.Nodes.push_new.Goals as goal
 
 pub fill-requires : goal.fill-requires

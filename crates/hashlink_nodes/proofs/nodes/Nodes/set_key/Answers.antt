@@ -1,6 +1,5 @@
 use Rattle.hashlink_nodes.proofs.Names.{ap, ◌∙◌, is_some, option_map, Held, with_key}
 use Rattle.hashlink_nodes.proofs.Calls.{renewed}
-use Rattle.hashlink_nodes.proofs.Cuts.{cut-looked}
 use Rattle.hashlink_nodes.proofs.Opening.{if_some, node_in, seal}
 use Rattle.hashlink_nodes.proofs.nodes.Nodes.set_key.Goals as goal
 
@@ -17,7 +16,7 @@ pub returns : goal.returns
 returns g c =
     let at = node_in c.self.invariant c.self.view_is c.args.node c.requires in
     let l = renewed at (λ h. with_key h c.args.key) c.replace_key.ensures.is in record {
-      entries = if_some _ (cut-looked at.cut) l.entries;
+      entries = if_some _ at.cut.looked l.entries;
       free = l.free;
       link_writes = l.link_writes;
       key =

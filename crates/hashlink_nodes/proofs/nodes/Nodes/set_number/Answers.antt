@@ -1,6 +1,4 @@
-use Rattle.hashlink_nodes.proofs.Names.{ap, is_some, state_of}
-use Rattle.hashlink_nodes.proofs.Calls.{renumbered}
-use Rattle.hashlink_nodes.proofs.Cuts.{cut-looked}
+use Rattle.hashlink_nodes.proofs.{Names.ap, Names.is_some, Names.state_of, Calls.renumbered}
 use Rattle.hashlink_nodes.proofs.Opening.{if_some, node_in, seal}
 use Rattle.hashlink_nodes.proofs.Rings.{has_still, held_now}
 use Rattle.hashlink_nodes.proofs.nodes.Nodes.set_number.Goals as goal
@@ -27,4 +25,4 @@ pub returns : goal.returns
 returns g c =
     let at = node_in c.self.invariant c.self.view_is c.args.node c.requires.node in
     let l = renumbered at c.args.number c.take-key.ensures.is c.take-key.ensures.was c.fill.ensures in
-    record { entries = if_some _ (cut-looked at.cut) l.entries; free = l.free; link_writes = l.link_writes }
+    record { entries = if_some _ at.cut.looked l.entries; free = l.free; link_writes = l.link_writes }

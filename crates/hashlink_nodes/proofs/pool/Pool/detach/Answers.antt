@@ -1,5 +1,4 @@
-use Rattle.hashlink_nodes.proofs.Names.{ap, ◌∙◌, detached, state_of}
-use Rattle.hashlink_nodes.proofs.StateLemmas.{next_has}
+use Rattle.hashlink_nodes.proofs.{Names.ap, Names.◌∙◌, Names.detached, Names.state_of, StateLemmas.next_has}
 use Rattle.hashlink_nodes.proofs.pool.Pool.detach.Goals as goal
 
 pub store_prev-requires : goal.store_prev-requires
