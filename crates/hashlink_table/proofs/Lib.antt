@@ -1,15 +1,10 @@
 pub mod Names
-pub mod Cells
-pub mod Chaining
-pub mod Copying
 pub mod Doubling
 pub mod Groups
-pub mod Halves
 pub mod Linking
 pub mod Masks
 pub mod Moving
 pub mod Nodes
-pub mod Paths
 pub mod Sound
 pub mod Storing
 pub mod Threads

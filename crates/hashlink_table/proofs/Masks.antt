@@ -183,17 +183,16 @@ module _ {N : Type 0} where
       → IsFree cells base
       (base + count_trailing_zeros 64 (mask_l (map (λ c. is_none c.kept) (lanes_of cells base))))
   first_free cells base room some =
-      let long = length-chunk base 16 cells room in
-      let f = first_set (λ (c : Cell N). is_none c.kept) (lanes_of cells base) (omega (arith, long)) some in
-      let t = count_trailing_zeros 64 (mask_l (map (λ c. is_none c.kept) (lanes_of cells base))) in
-      let low : t < 16 = omega (arith, f.within, long) in
-      record {
-        from = omega arith;
-        to = omega (arith, low);
-        none = none_by (kept_at cells (base + t))
-            (ap (λ (c : Cell N). is_none c.kept) (sym (get_or-chunk base 16 cells t bare_cell low))
-            ∙ f.here bare_cell);
-      }
+      let none : Cell N → Bool = λ c. is_none c.kept in
+      let all : IsLeft cells base none base (mask_l (map none (lanes_of cells base))) = record {
+        low = omega arith;
+        high = omega arith;
+        bits =
+            let e : 0 ≡ base - base = omega arith in
+            ap (λ n. mask_l (map none (drop n (lanes_of cells base)))) e;
+      } in
+      let h = hit room all some in
+      record { from = omega arith; to = h.to; none = none_by (kept_at cells _) h.here }
     where
       none_by : {A : Type 0} (o : Option A) → is_none o ≡ true → o ≡ None
       none_by None e = refl

@@ -9,10 +9,10 @@ use Rattle.hashlink_table.proofs.Names.{next_at, chain_at, links_of, nodes_in, w
 use Rattle.hashlink_table.proofs.Names.{AreGrouped, AreTaken, IsArranged, IsLinked, SameNodes, bare_cell}
 use Rattle.hashlink_table.proofs.Names.{with_next}
 use Rattle.std.proofs.Math.ListN.{get_or-map}
-use Rattle.hashlink_table.proofs.Cells.{kept_at-set, kept_at-set_other, next_at-set_other, within_by_kept}
-use Rattle.hashlink_table.proofs.Chaining.{kept-same}
+use Rattle.hashlink_table.proofs.Linking.{kept_at-set, kept_at-set_other, next_at-set_other, within_by_kept}
+use Rattle.hashlink_table.proofs.Linking.{kept-same}
 use Rattle.hashlink_table.proofs.Nodes.{nodes_in-set, nodes_in-same}
-use Rattle.hashlink_table.proofs.Walks.{walk_of, walk_at}
+use Rattle.hashlink_table.proofs.Walks.{walk_of}
 
 module _ {N : Type 0} where
   -- a cell with a node is one of the list
@@ -88,8 +88,8 @@ module _ {N : Type 0} where
       → b < length slots → next_at slots b ≡ at → at ≢ END
       → chain_at (length slots) cells at ≡ b
   follower_on slots cells free b at t low is ne =
-      let w = walk_of slots cells free b t low in
-      ap (chain_at (length slots) cells) (sym is) ∙ walk_at w.0 (λ e. ne (sym is ∙ e))
+      ap (chain_at (length slots) cells) (sym is)
+      ∙ (walk_of slots cells free b t low).link.on (λ e. ne (sym is ∙ e))
 
   -- all nodes, where one left an overflow cell or came into one
   pub overflow-taken : (slots later : List (Cell N)) (ks js : List (Hashed N)) (k : Hashed N)

@@ -1,11 +1,12 @@
--- The nodes of a list of cells: what a write does to them, and which there are.
+-- The nodes of a list of cells: what a write does to them, which there are, and a loop that puts them in.
 use Rattle.hashlink_table.proofs.Names.{◌≡◌, ℕ, zero, suc, ◌+◌, ◌<◌, ◌≤◌, List, [], ◌∷◌, ◌++◌, length, get_or}
 use Rattle.hashlink_table.proofs.Names.{set, replicate, take, drop, true, Option, Some, None, is_some, refl}
 use Rattle.hashlink_table.proofs.Names.{sym, ap, ◌∙◌, subst, arith, append_assoc, Contains, IsPermutation}
 use Rattle.hashlink_table.proofs.Names.{take_more, take-append-drop, length-append, IsPermutation-refl}
 use Rattle.hashlink_table.proofs.Names.{IsPermutation-trans, IsPermutation-cons, IsPermutation-middle}
 use Rattle.hashlink_table.proofs.Names.{IsPermutation-to_front, Hashed, Cell, kept_at, stored_in, with_node}
-use Rattle.hashlink_table.proofs.Names.{nodes_in, SameNodes, bare_cell}
+use Rattle.hashlink_table.proofs.Names.{nodes_in, SameNodes, bare_cell, append-nil, length_push}
+use Rattle.hashlink_table.proofs.Names.{length_permutation, Contents, len_of}
 
 module _ {N : Type 0} where
   -- two nodes may be exchanged
@@ -101,30 +102,6 @@ module _ {N : Type 0} where
       elim x.kept as (λ k. is_some k ≡ true → length (with_node k (nodes_in xs)) ≡ suc (length xs))
       [ None ↦ λ e. absurd (cc e) | Some k ↦ λ e. ap suc rest ] (all zero (omega arith))
 
-  -- a cell with a node is a node, and two such cells are two
-  some_node : (cells : List (Cell N)) (i : ℕ) → is_some (kept_at cells i) ≡ true → 0 < length (nodes_in cells)
-  some_node [] i e = absurd (cc e)
-  some_node (x ∷ xs) zero e =
-      elim x.kept as (λ k. is_some k ≡ true → 0 < length (with_node k (nodes_in xs)))
-      [ None ↦ λ e. absurd (cc e) | Some k ↦ λ e. omega arith ] e
-  some_node (x ∷ xs) (suc i) e =
-      let rest = some_node xs i e in
-      elim x.kept as (λ k. 0 < length (with_node k (nodes_in xs))) [ None ↦ rest | Some k ↦ omega arith ]
-
-  pub two_nodes : (cells : List (Cell N)) (i j : ℕ) → i < j → is_some (kept_at cells i) ≡ true
-      → is_some (kept_at cells j) ≡ true
-      → 1 < length (nodes_in cells)
-  two_nodes [] i j h e f = absurd (cc e)
-  two_nodes (x ∷ xs) i zero h e f = absurd (omega arith)
-  two_nodes (x ∷ xs) zero (suc j) h e f =
-      let rest = some_node xs j f in
-      elim x.kept as (λ k. is_some k ≡ true → 1 < length (with_node k (nodes_in xs)))
-      [ None ↦ λ e. absurd (cc e) | Some k ↦ λ e. omega (arith, rest) ] e
-  two_nodes (x ∷ xs) (suc i) (suc j) h e f =
-      let rest = two_nodes xs i j (omega arith) e f in
-      elim x.kept as (λ k. 1 < length (with_node k (nodes_in xs)))
-      [ None ↦ rest | Some k ↦ omega (arith, rest) ]
-
   -- a node in a cell is one of them
   pub contains-at : (cells : List (Cell N)) (i : ℕ) (k : Hashed N) → kept_at cells i ≡ Some k
       → Contains (nodes_in cells) k
@@ -148,3 +125,51 @@ module _ {N : Type 0} where
       by rest None is there = let r = rest there in (suc r.0, r.1)
       by rest (Some j) is (zero, h, e) = (zero, is ∙ ap Some e)
       by rest (Some j) is (suc n, h, e) = let r = rest (n, omega arith, e) in (suc r.0, r.1)
+
+-- these nodes were put in
+pub record IsCopied {N : Type 0} (old : Contents N) (done : List (Hashed N)) (now : Contents N) : Type 0 where
+  pub inserted : IsPermutation (old.nodes ++ done) now.nodes
+  pub room : now.room ≡ old.room
+
+module _ {N : Type 0} (old : Contents N) where
+  -- one node more
+  module _ (done more : List (Hashed N)) (k : Hashed N) (next : more ≡ done ++ k ∷ []) (now : Contents N)
+      (copied : IsCopied old done now) where
+    -- it finds room, and is put in
+    pub has_room : (all : List (Hashed N)) → length more ≤ length all → len_of old + length all ≤ old.room
+        → len_of now < now.room
+    has_room all part enough =
+        omega (
+          arith,
+          part,
+          enough,
+          length_permutation _ _ copied.inserted,
+          length-append old.nodes done,
+          ap length next,
+          length_push done k,
+          copied.room,
+        )
+
+    pub one_copied : (put : Contents N) → IsPermutation (k ∷ now.nodes) put.nodes → put.room ≡ now.room
+        → IsCopied old more put
+    one_copied put nodes room = record {
+      inserted =
+          subst (λ ks. IsPermutation (old.nodes ++ ks) put.nodes) (sym next)
+          (inserted-more old.nodes done now.nodes put.nodes k copied.inserted nodes);
+      room = room ∙ copied.room;
+    }
+
+-- the nodes of the first cells: those of the next cell, which has this, come last
+module _ {N : Type 0} (cells : List (Cell N)) (count : ℕ) (low : count < length cells) (o : Option (Hashed N))
+    (is : o ≡ kept_at cells count) where
+  pub next_in : (p : Option (Hashed N)) → o ≡ p
+      → nodes_in (take (count + 1) cells) ≡ nodes_in (take count cells) ++ with_node p []
+  next_in p e =
+      nodes_in-more_at cells count low ∙ ap (λ q. nodes_in (take count cells) ++ with_node q []) (sym is ∙ e)
+
+  pub next_some : (k : Hashed N) → o ≡ Some k
+      → nodes_in (take (count + 1) cells) ≡ nodes_in (take count cells) ++ k ∷ []
+  next_some k e = next_in (Some k) e
+
+  pub next_none : o ≡ None → nodes_in (take (count + 1) cells) ≡ nodes_in (take count cells)
+  next_none e = next_in None e ∙ append-nil (nodes_in (take count cells))

@@ -1,15 +1,16 @@
 -- The fields of a table agree.
 use Rattle.hashlink_table.proofs.Names.{◌≡◌, ◌≢◌, ℕ, zero, suc, ◌+◌, ◌-◌, ◌*◌, ◌%◌, ◌<◌, ◌≤◌, true, inl, inr}
-use Rattle.hashlink_table.proofs.Names.{List, [], ◌∷◌, ◌++◌, length, max, get_or, replicate, Option, Some}
-use Rattle.hashlink_table.proofs.Names.{None, is_some, refl, sym, ap, ◌∙◌, arith, IsPermutation, cases_eq}
-use Rattle.hashlink_table.proofs.Names.{cases_lt, length-append, length-replicate, length_permutation, Hashed}
-use Rattle.hashlink_table.proofs.Names.{Cell, END, kept_at, next_at, chain_of, nodes_in, links_of, contents}
-use Rattle.hashlink_table.proofs.Names.{AreSizes, IsArranged, IsFilled, IsLinked, IsSound, bare_cell}
-use Rattle.hashlink_table.proofs.Names.{Contents}
-use Rattle.hashlink_table.proofs.Cells.{chain_at_within}
-use Rattle.hashlink_table.proofs.Linking.{bucket_start, free_start, length-starts}
-use Rattle.hashlink_table.proofs.Nodes.{nodes_in-full, nodes_in-bare, two_nodes}
-use Rattle.hashlink_table.proofs.Walks.{begun, walk_of, walk_goes}
+use Rattle.hashlink_table.proofs.Names.{length_push, take, with_node, List, [], ◌∷◌, ◌++◌, length, max}
+use Rattle.hashlink_table.proofs.Names.{get_or, replicate, Option, Some, None, is_some, refl, sym, ap, ◌∙◌}
+use Rattle.hashlink_table.proofs.Names.{arith, IsPermutation, cases_eq, cases_lt, length-append}
+use Rattle.hashlink_table.proofs.Names.{length-replicate, length_permutation, Hashed, Cell, END, kept_at}
+use Rattle.hashlink_table.proofs.Names.{next_at, chain_of, nodes_in, links_of, contents, AreSizes, IsArranged}
+use Rattle.hashlink_table.proofs.Names.{IsFilled, IsLinked, IsSound, bare_cell, Contents}
+use Rattle.hashlink_table.proofs.Linking.{chain_at_within, within_by_kept, bucket_start, free_start}
+use Rattle.hashlink_table.proofs.Linking.{length-starts}
+use Rattle.hashlink_table.proofs.Nodes.{nodes_in-full, nodes_in-bare, nodes_in-more_at, nodes_in-part}
+use Rattle.hashlink_table.proofs.Walks.{bucket_begun}
+use Rattle.hashlink_table.proofs.Threads.{begun}
 
 -- what a cell with a node has
 of_kept : {N : Type 0} (o : Option (Hashed N)) → is_some o ≡ true → (k : Hashed N) × (o ≡ Some k)
@@ -29,17 +30,27 @@ module _ {N : Type 0} where
       → IsLinked {N = N} slots [] END
   linked-none slots none b h =
       let n = length-starts slots END in
+      let starts = links_of slots ++ END ∷ [] in
+      let ends : get_or starts b END ≡ END
+      = elim (cases_lt b (length slots)) as (λ _. get_or starts b END ≡ END) [
+        | inl low ↦ bucket_start slots END b low ∙ none b
+        | inr high ↦ ap (λ i. get_or starts i END) (omega (arith, high, h, n)) ∙ free_start slots END
+      ] in
       record {
-        path = [];
-        linked =
-            elim (cases_lt b (length slots)) as (λ _. get_or (links_of slots ++ END ∷ []) b END ≡ END) [
-              | inl low ↦ bucket_start slots END b low ∙ none b
-              | inr high ↦
-                  ap (λ i. get_or (links_of slots ++ END ∷ []) i END) (omega (arith, high, h, n))
-                  ∙ free_start slots END
-            ];
-        inside = λ i m. absurd m;
-        whole = λ i e. absurd (omega (arith, e, h, n));
+        rank = record {
+          of = λ i. END - i;
+          top = END + 1;
+          ends = omega arith;
+          below = λ i. omega arith;
+          apart = λ i j low high e. omega (arith, low, high, e);
+        };
+        small = λ i e. absurd (omega (arith, e, h, n));
+        started = record {
+          on = λ ne. absurd (ne ends);
+          falls = omega arith;
+          whole = λ i e. absurd (omega (arith, e, h, n));
+        };
+        linked = λ i e. absurd (omega (arith, e, h, n));
       }
 
   pub filled-none : (slots : List (Cell N)) → ((b : ℕ) → next_at slots b ≡ END) → IsFilled slots
@@ -50,10 +61,9 @@ module _ {N : Type 0} where
       → i < length cells
       → is_some (kept_at cells i) ≡ true
   all_taken slots cells free linked e i h =
-      let c = linked (length slots) (omega (arith, length-starts slots free)) in
       let free_chain : kept_at cells i ≡ None → ⊥ = λ none.
-      begun (next_at cells) _ c.path c.linked i
-      (c.whole i (chain_at_within (length slots) cells i h ∙ ap (chain_of (length slots)) none))
+      begun (linked (length slots) (omega (arith, length-starts slots free))) i
+      (chain_at_within (length slots) cells i h ∙ ap (chain_of (length slots)) none)
       (free_start slots free ∙ e) in
       elim (kept_at cells i) as (λ k. (k ≡ None → ⊥) → is_some k ≡ true) [
         | None ↦ λ no. absurd (no refl)
@@ -85,12 +95,19 @@ module _ {N : Type 0} where
       let b = first.0.hash % m in
       let low : b < m = omega (arith, s.counted, s.held, s.sizes.headed, all, both, some) in
       let on = chain_at_within m overflow 0 some ∙ ap (chain_of m) first.1 in
-      let w = walk_of slots overflow free b s.arranged.linked low in
-      let full = s.arranged.filled b low (walk_goes w.0 0 (w.1 0 on)) in
+      let full = s.arranged.filled b low (bucket_begun slots overflow free b 0 s.arranged.linked low on) in
       let base = b - b % 16 in
-      let two = two_nodes slots base (base + 1) (omega arith) (full base (omega arith) (omega arith))
-      (full (base + 1) (omega arith) (omega arith)) in
-      omega (arith, s.counted, all, both, two)
+      let one = one_more base (full base (omega arith) (omega arith)) in
+      let two = one_more (base + 1) (full (base + 1) (omega arith) (omega arith)) in
+      omega (arith, s.counted, all, both, one, two, nodes_in-part slots (base + 1 + 1))
+    where
+      one_more : (i : ℕ) → is_some (kept_at slots i) ≡ true
+          → length (nodes_in (take (i + 1) slots)) ≡ length (nodes_in (take i slots)) + 1
+      one_more i some =
+          let k = of_kept (kept_at slots i) some in
+          let more = nodes_in-more_at slots i (within_by_kept slots i some)
+          ∙ ap (λ o. nodes_in (take i slots) ++ with_node o []) k.1 in
+          omega (arith, ap length more, length_push (nodes_in (take i slots)) k.0)
 
   -- a table without nodes
   pub sound-bare : (n capacity room : ℕ) → AreSizes n capacity room

@@ -48,22 +48,26 @@ module _ {N : Type 0} where
   abbrev pub stored_in : Cell N → Option (Hashed N) × ℕ
   stored_in c = (c.kept, c.hash)
 
--- i is one of the list
-abbrev pub Among : List ℕ → ℕ → Type 0
-Among [] i = ⊥
-Among (x ∷ xs) i = (x ≡ i) ⊎ Among xs i
+-- a rank for each cell, and the lowest for the end
+pub record Ranks : Type 0 where
+  pub of : ℕ → ℕ
+  pub top : ℕ
+  pub ends : of END ≡ 0
+  pub below : (i : ℕ) → of i < top
+  pub apart : (i j : ℕ) → i ≤ END → j ≤ END → of i ≡ of j → i ≡ j
 
--- the links lead from this overflow cell the cells of the list to the end
-abbrev pub IsPath : (ℕ → ℕ) → ℕ → List ℕ → Type 0
-IsPath next from [] = from ≡ END
-IsPath next from (i ∷ is) = (from ≡ i) × (i ≢ END) × IsPath next (next i) is
+-- where the chain b goes on from a cell of this rank: at its cell of the highest rank below, or at the end
+pub record IsLink (rank chain : ℕ → ℕ) (b from to : ℕ) : Type 0 where
+  pub on : to ≢ END → chain to ≡ b
+  pub falls : rank to < from
+  pub whole : (i : ℕ) → chain i ≡ b → rank i < from → rank i ≤ rank to
 
--- the links lead from this overflow cell exactly the cells of chain b
+-- the links lead from this cell along exactly the cells of chain b
 pub record IsChain (next chain : ℕ → ℕ) (from b : ℕ) : Type 0 where
-  pub path : List ℕ
-  pub linked : IsPath next from path
-  pub inside : (i : ℕ) → Among path i → chain i ≡ b
-  pub whole : (i : ℕ) → chain i ≡ b → Among path i
+  pub rank : Ranks
+  pub small : (i : ℕ) → chain i ≡ b → i < END
+  pub started : IsLink rank.of chain b rank.top from
+  pub linked : (i : ℕ) → chain i ≡ b → IsLink rank.of chain b (rank.of i) (next i)
 
 -- each chain starts where the list says
 abbrev pub IsThreaded : List ℕ → (ℕ → ℕ) → (ℕ → ℕ) → Type 0
@@ -78,8 +82,7 @@ IsLinked slots cells free =
 -- the same, but that the cell i is on no chain, whatever else is said of it
 abbrev pub IsLinkedBut : {N : Type 0} → List (Cell N) → List (Cell N) → ℕ → ℕ → Type 0
 IsLinkedBut slots cells free i =
-    (now : ℕ → ℕ) → ((b : ℕ) → b < length slots + 1 → now i ≢ b)
-    → ((j : ℕ) → j ≢ i → now j ≡ chain_at (length slots) cells j)
+    (now : ℕ → ℕ) → length slots < now i → ((j : ℕ) → j ≢ i → now j ≡ chain_at (length slots) cells j)
     → IsThreaded (links_of slots ++ free ∷ []) (next_at cells) now
 
 -- each cell keeps its node and the hash that it stores

@@ -1,13 +1,12 @@
 use Rattle.hashlink_table.proofs.Names.{ℕ, ◌+◌, ◌-◌, ◌%◌, ◌<◌, ◌≤◌, ◌≡◌, ◌++◌, count_by, eqb, false, length}
 use Rattle.hashlink_table.proofs.Names.{Some, refl, ap, ◌∙◌, arith, eq-eqb, eqb-true, chain_at, chain_of}
 use Rattle.hashlink_table.proofs.Names.{kept_at, nodes_in, lanes_of, may_be, Slot, Overflow, tag_of}
-use Rattle.hashlink_table.proofs.Cells.{chain_at_within}
+use Rattle.hashlink_table.proofs.Linking.{chain_at_within, positive_by_power}
 use Rattle.hashlink_table.proofs.Groups.{from_base, group_within, grouped_in, to_base}
-use Rattle.hashlink_table.proofs.Linking.{positive_by_power}
 use Rattle.hashlink_table.proofs.Masks.{no_chain}
 use Rattle.hashlink_table.proofs.Moving.{within_kept}
 use Rattle.hashlink_table.proofs.Views.{contains_found, looked_at, none_left, tag_agrees}
-use Rattle.hashlink_table.proofs.Walks.{walk_of, walk_goes}
+use Rattle.hashlink_table.proofs.Walks.{bucket_begun}
 use Rattle.hashlink_table.proofs.search.seek.Given as given
 use Rattle.hashlink_table.proofs.search.seek.Goals.{After-base_of-base, In_default}
 use Rattle.hashlink_table.proofs.search.seek.Goals as goal
@@ -82,8 +81,7 @@ returns-then-free-ne0-clause-none g c =
     (λ e. c.if-free-ne0.true (c.free.ensures.lanes ∙ e)) in
     let on : chain_at m cells cell ≡ b
     = chain_at_within m cells cell (within_kept cells cell _ is) ∙ ap (chain_of m) is in
-    let w = walk_of slots cells c.requires.arranged.0 b c.requires.arranged.1.linked low in
-    absurd (walk_goes w.0 cell (w.1 cell on) none))
+    absurd (bucket_begun slots cells _ b cell c.requires.arranged.1.linked low on none))
 
 pub returns-in-None-clause-none : goal.returns-in-None-clause-none
 returns-in-None-clause-none g c =

@@ -1,11 +1,9 @@
 use Rattle.hashlink_table.proofs.Names.{◌≡◌, ℕ, ◌<◌, ◌%◌, length, false, sym, ap, ◌∙◌, Some, subst, arith}
 use Rattle.hashlink_table.proofs.Names.{rules, same_Some, IsPowerOfTwo, Hashed, next_at, chain_of}
-use Rattle.hashlink_table.proofs.Cells.{chain_at_within}
-use Rattle.hashlink_table.proofs.Chaining.{on_within}
-use Rattle.hashlink_table.proofs.Linking.{positive_by_power}
+use Rattle.hashlink_table.proofs.Linking.{chain_at_within, on_within, positive_by_power}
 use Rattle.hashlink_table.proofs.Moving.{within_kept}
-use Rattle.hashlink_table.proofs.Walks.{search_start, search_on, search_ends, walk_read, walk_on, walk_at}
-use Rattle.hashlink_table.proofs.Walks.{steps_left, steps_left-falls, IsAt}
+use Rattle.hashlink_table.proofs.Walks.{search_start, search_on, search_ends, walk_read, steps_left}
+use Rattle.hashlink_table.proofs.Walks.{steps_left-falls, IsAt}
 use Rattle.hashlink_table.proofs.search.seek_overflow.Given as given
 use Rattle.hashlink_table.proofs.search.seek_overflow.Goals as goal
 use Rattle.hashlink_table.proofs.search.seek_overflow.Goals.{else-kept-hash-via-then-kept-hash+else-is_match}
@@ -19,28 +17,28 @@ low m bucket hash power is = omega (arith, positive_by_power m power, is)
 pub loop-at-init : goal.loop-at-init
 loop-at-init g c =
     rw c.next-at.ensures.value
-    (search_start c.args.slots.now c.args.cells.now c.requires.linked.0 c.args.bucket _ c.requires.linked.1
+    (search_start c.args.slots.now c.args.cells.now _ c.args.bucket _ c.requires.linked.1
     (low _ _ _ c.requires.masked c.requires.bucket))
 
 pub offset_bounds-cells-at : goal.offset_bounds-cells-at
 offset_bounds-cells-at g c =
     let within : c.loop-at.at < length c.args.cells.now
     = on_within (length c.args.slots.now) c.args.cells.now c.loop-at.at c.args.bucket
-    (walk_at c.loop-at.invariant.walk c.loop-at-test.true)
+    (c.loop-at.invariant.walk.link.on c.loop-at-test.true)
     (low _ _ _ c.requires.masked c.requires.bucket) in
     search rules
 
 pub bounds-cells-at : goal.bounds-cells-at
 bounds-cells-at g c =
     on_within (length c.args.slots.now) c.args.cells.now c.loop-at.at c.args.bucket
-    (walk_at c.loop-at.invariant.walk c.loop-at-test.true)
+    (c.loop-at.invariant.walk.link.on c.loop-at-test.true)
     (low _ _ _ c.requires.masked c.requires.bucket)
 
 -- the cell that was read
 module _ (g : given.Over) (c : After-index-cells-at g) where
   here : IsAt c.args.cells.now c.loop-at.at c.index-cells-at.result
   here =
-      walk_read c.args.cells.now (length c.args.slots.now) c.index-cells-at.result c.loop-at.invariant.walk
+      walk_read c.index-cells-at.result c.loop-at.invariant.walk
       (low _ _ _ c.requires.masked c.requires.bucket) c.loop-at-test.true c.index-cells-at.is
 
 pub look-kept-requires : goal.look-kept-requires
@@ -65,8 +63,9 @@ returns-then-is_match-clause-found g c = (
 
 pub returns-then-is_match-clause-cost : goal.returns-then-is_match-clause-cost
 returns-then-is_match-clause-cost g c =
-    let r = walk_on c.loop-at.invariant.walk c.loop-at-test.true in
-    rw (← c.requires.bucket) (omega (arith, c.loop-at.invariant.cost, r.shorter, c.look-kept.ensures.step))
+    let falls = steps_left-falls c.loop-at.invariant.walk (low _ _ _ c.requires.masked c.requires.bucket)
+    c.loop-at-test.true in
+    rw (← c.requires.bucket) (omega (arith, c.loop-at.invariant.cost, falls, c.look-kept.ensures.step))
 
 pub loop-at-smaller : goal.loop-at-smaller
 loop-at-smaller g c =
@@ -75,12 +74,13 @@ loop-at-smaller g c =
     (length cells) c.loop-at.at)
     ((here g (goal.at.loop-at-smaller g c).After-index-cells-at).next
     ∙ sym c.next-at-in-loop-at.ensures.value)
-    (steps_left-falls c.loop-at.invariant.walk c.loop-at-test.true)
+    (steps_left-falls c.loop-at.invariant.walk (low _ _ _ c.requires.masked c.requires.bucket)
+    c.loop-at-test.true)
 
 pub loop-at-preserved : goal.loop-at-preserved
 loop-at-preserved g c =
     let read = here g (goal.at.loop-at-preserved g c).After-index-cells-at in
-    search_on c.loop-at.invariant c.loop-at-test.true
+    search_on c.loop-at.invariant (low _ _ _ c.requires.masked c.requires.bucket) c.loop-at-test.true
     (λ node sought.
     let same = same_Some _ _ (sym c.look-kept.ensures.value ∙ sym read.kept ∙ sought) in
     elim c.else-kept-hash.branch as (λ _. g.F.Fn.post c.args.is_match.now (node, tt) false) [

@@ -1,19 +1,17 @@
-use Rattle.hashlink_table.proofs.Names.{◌≡◌, length, Some, false, next_at, kept_at, chain_at}
-use Rattle.hashlink_table.proofs.Walks.{IsSearch, steps_left, in_bucket}
+use Rattle.hashlink_table.proofs.Names.{◌≡◌, length, Some, false, next_at, kept_at}
+use Rattle.hashlink_table.proofs.Walks.{IsSearch, steps_left}
 use Rattle.hashlink_table.proofs.search.seek_overflow.Given as goal
 
 -- where no cell that is still to come has the node, none has; and there is a step for each cell of the bucket
 abbrev pub invariant-loop-at : goal.invariant-loop-at
 invariant-loop-at g l =
     IsSearch
-    (next_at l.cells)
-    (chain_at (length l.slots) l.cells)
+    l.cells
+    (length l.slots)
     l.bucket
     l.at
-    (length l.cells)
     (λ cell. (node : g.row.N.Denot) → kept_at l.cells cell ≡ Some (record { hash = l.hash; node = node })
     → goal.F-post g l.is_match node false)
-    (in_bucket l.cells (length l.slots) l.bucket)
     l.initial.steps
     l.steps
 

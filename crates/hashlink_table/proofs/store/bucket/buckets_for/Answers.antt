@@ -1,7 +1,7 @@
 -- Twice a power of two is one, and one from sixteen on is whole groups.
 use Rattle.std.proofs.Common.{◌*◌, refl, arith}
 use Rattle.hashlink_table.proofs.Groups.{whole_power}
-use Rattle.hashlink_table.proofs.Halves.{twice_power}
+use Rattle.hashlink_table.proofs.Doubling.{twice_power}
 use Rattle.hashlink_table.proofs.store.bucket.buckets_for.Goals as goal
 
 pub returns-then-room-clause-power : goal.returns-then-room-clause-power

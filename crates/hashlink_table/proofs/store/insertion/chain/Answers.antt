@@ -1,6 +1,6 @@
 use Rattle.hashlink_table.proofs.Names.{◌-◌, ◌%◌, length, refl, ap, ◌∙◌, inl, inr, arith, cases_eq}
 use Rattle.hashlink_table.proofs.Names.{length_push, Cell, AreTaken, with_next}
-use Rattle.hashlink_table.proofs.Chaining.{chained, chained-nodes, free_within}
+use Rattle.hashlink_table.proofs.Linking.{chained, chained-nodes, free_within}
 use Rattle.hashlink_table.proofs.Moving.{arranged-same, next-same, next-others, overflow-put}
 use Rattle.hashlink_table.proofs.store.insertion.chain.Goals as goal
 

@@ -1,8 +1,7 @@
 use Rattle.hashlink_table.proofs.Names.{◌≡◌, ◌/◌, ◌%◌, ◌<◌, inl, inr, length, None, Some, refl, sym, ap, ◌∙◌}
 use Rattle.hashlink_table.proofs.Names.{arith, same_Some, IsPermutation-trans, common_steps, Hashed, chain_at}
 use Rattle.hashlink_table.proofs.Names.{nodes_in}
-use Rattle.hashlink_table.proofs.Cells.{within_by_kept}
-use Rattle.hashlink_table.proofs.Chaining.{kept-same, on_hash}
+use Rattle.hashlink_table.proofs.Linking.{within_by_kept, kept-same, on_hash}
 use Rattle.hashlink_table.proofs.Groups.{group_within, grouped_in}
 use Rattle.hashlink_table.proofs.Moving.{arranged-set, follower_on, same_length, set-nodes}
 use Rattle.hashlink_table.proofs.store.removal.take.Given as given

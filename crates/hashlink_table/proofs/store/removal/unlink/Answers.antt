@@ -1,10 +1,10 @@
 use Rattle.hashlink_table.proofs.Names.{◌<◌, length, sym, ap, ◌∙◌, subst, inl, inr, arith, map-set_same, Cell}
-use Rattle.hashlink_table.proofs.Names.{next_at, Among, SameNodes, stored_in}
-use Rattle.hashlink_table.proofs.Chaining.{on_within}
-use Rattle.hashlink_table.proofs.Cells.{kept_at_read, next_at_read}
-use Rattle.hashlink_table.proofs.Linking.{unlinked_first, unlinked_next}
+use Rattle.hashlink_table.proofs.Names.{next_at, SameNodes, stored_in}
+use Rattle.hashlink_table.proofs.Linking.{on_within, kept_at_read, next_at_read, unlinked_first}
+use Rattle.hashlink_table.proofs.Linking.{unlinked_next}
 use Rattle.hashlink_table.proofs.Moving.{next-same, next-begun}
-use Rattle.hashlink_table.proofs.Walks.{walk_of, walk_on, walk_at, walk_goes, steps_left, steps_left-falls}
+use Rattle.hashlink_table.proofs.Walks.{rank, to_come, walk_of, walk_on, walk_goes, steps_left}
+use Rattle.hashlink_table.proofs.Walks.{steps_left-falls}
 use Rattle.hashlink_table.proofs.store.removal.unlink.Given as given
 use Rattle.hashlink_table.proofs.store.removal.unlink.Goals.{Start}
 use Rattle.hashlink_table.proofs.store.removal.unlink.Goals as goal
@@ -23,20 +23,19 @@ returns-then-at-cell-clause-unlinked g c = λ free linked.
     (unlinked_first c.args.slots.now cells free c.args.bucket c.args.cell _ c.requires.within
     (sym c.next-at.ensures.value ∙ c.if-at-cell.true)
     (c.next-after.ensures.value ∙ next_at_read cells c.args.cell c.index-cells-cell.result there)
-    (λ e. omega (arith, there, c.requires.small, e)) c.requires.on_chain linked)
+    c.requires.on_chain linked)
 
 pub loop-cells-init : goal.loop-cells-init
 loop-cells-init g c =
     let m = length c.args.slots.now in let cells = c.args.cells.now in
-    let w = walk_of c.args.slots.now cells c.requires.linked.0 c.args.bucket c.requires.linked.1
-    c.requires.within in
-    let to_come = w.1 c.args.cell c.requires.on_chain in
+    let w = walk_of c.args.slots.now cells _ c.args.bucket c.requires.linked.1 c.requires.within in
+    let to_come = w.all.rank.below c.args.cell in
     rw c.next-at.ensures.value (record {
-      walk = w.0;
+      walk = w;
       to_come = to_come;
       apart = rw c.next-at.ensures.value at c.if-at-cell.false;
       within =
-          on_within m cells _ c.args.bucket (walk_at w.0 (walk_goes w.0 c.args.cell to_come))
+          on_within m cells _ c.args.bucket (w.link.on (walk_goes w c.args.cell c.requires.on_chain to_come))
           c.requires.within;
     })
 
@@ -51,26 +50,28 @@ loop-cells-smaller g c =
     (λ n. steps_left (next_at cells) (length cells) n < steps_left (next_at cells)
     (length cells) c.loop-cells.at)
     (sym next)
-    (steps_left-falls w (walk_goes w c.args.cell c.loop-cells.invariant.to_come))
+    (steps_left-falls w c.requires.within
+    (walk_goes w c.args.cell c.requires.on_chain c.loop-cells.invariant.to_come))
 
 pub loop-cells-preserved : goal.loop-cells-preserved
 loop-cells-preserved g c =
     let m = length c.args.slots.now in let cells = c.args.cells.now in
     let v = c.loop-cells.invariant in
-    let r = walk_on v.walk (walk_goes v.walk c.args.cell v.to_come) in
+    let ne = walk_goes v.walk c.args.cell c.requires.on_chain v.to_come in
+    let r = walk_on v.walk ne in
     let next = c.next-at-in-loop-cells.ensures.value
     ∙ next_at_read cells c.loop-cells.at c.index-cells-at-in-loop-cells.result v.within in
-    let to_come : Among r.rest.path c.args.cell
-    = elim (r.cases c.args.cell v.to_come) as (λ _. Among r.rest.path c.args.cell)
-    [ inl e ↦ absurd (v.apart e) | inr m ↦ m ] in
+    let later : rank r c.args.cell < r.from
+    = elim (to_come v.walk c.args.cell c.requires.on_chain v.to_come ne) as (λ _. rank r c.args.cell < r.from)
+    [ inl e ↦ absurd (v.apart (sym e)) | inr m ↦ m ] in
     rw next (record {
-      walk = r.rest;
-      to_come = to_come;
+      walk = r;
+      to_come = later;
       apart =
           λ e. c.loop-cells-test.true (c.next.ensures.value
           ∙ next_at_read cells c.loop-cells.at c.index-cells-at.result v.within ∙ e);
       within =
-          on_within m cells _ c.args.bucket (walk_at r.rest (walk_goes r.rest c.args.cell to_come))
+          on_within m cells _ c.args.bucket (r.link.on (walk_goes r c.args.cell c.requires.on_chain later))
           c.requires.within;
     })
 
@@ -87,8 +88,8 @@ returns-clause-unlinked g c = λ free linked.
     ∙ next_at_read cells c.args.cell c.index-cells-cell.result there)
     (ap (λ (d : C). d.kept) c.set_next-2.ensures
     ∙ kept_at_read cells c.loop-cells.at c.index-cells-at-2.result v.within)
-    (λ e. omega (arith, there, c.requires.small, e))
-    (c.requires.on_chain ∙ sym (walk_at v.walk (walk_goes v.walk c.args.cell v.to_come))) linked
+    (c.requires.on_chain ∙ sym (v.walk.link.on (walk_goes v.walk c.args.cell c.requires.on_chain v.to_come)))
+    linked
 
 pub returns-then-at-cell-clause-slots : goal.returns-then-at-cell-clause-slots
 returns-then-at-cell-clause-slots g c =

@@ -1,12 +1,12 @@
-use Rattle.hashlink_table.proofs.Names.{◌≢◌, ◌<◌, length, next_at, chain_at, Among}
-use Rattle.hashlink_table.proofs.Walks.{IsWalk, steps_left}
+use Rattle.hashlink_table.proofs.Names.{◌≢◌, ◌<◌, length, next_at}
+use Rattle.hashlink_table.proofs.Walks.{IsWalk, rank, steps_left}
 use Rattle.hashlink_table.proofs.store.removal.unlink.Given as goal
 
 -- the cell is still to come
 abbrev pub invariant-loop-cells : goal.invariant-loop-cells
 invariant-loop-cells g l = record {
-  walk : IsWalk (next_at l.cells) (chain_at (length l.slots) l.cells) l.bucket l.at (length l.cells);
-  to_come : Among walk.path l.cell;
+  walk : IsWalk l.cells (length l.slots) l.bucket l.at;
+  to_come : rank walk l.cell < walk.from;
   apart : l.at ≢ l.cell;
   within : l.at < length l.cells;
 }

@@ -1,8 +1,8 @@
 -- Each cell is doubled in its turn, and the lists keep their lengths.
-use Rattle.hashlink_table.proofs.Names.{◌≡◌, ◌*◌, ◌++◌, length, replicate, refl, sym, ap, ◌∙◌, subst, arith}
-use Rattle.hashlink_table.proofs.Names.{IsPowerOfTwo, with_items, with_items_is, bare_cell, parted}
+use Rattle.hashlink_table.proofs.Names.{◌≡◌, ◌*◌, length, replicate, length-replicate, refl, sym, ◌∙◌, subst}
+use Rattle.hashlink_table.proofs.Names.{arith, IsPowerOfTwo, with_items, with_items_is, bare_cell}
 use Rattle.hashlink_table.proofs.Storing.{sizes}
-use Rattle.hashlink_table.proofs.Halves.{doubled-all, doubled-on, length-doubled_to, twice_power}
+use Rattle.hashlink_table.proofs.Doubling.{doubled-all, doubled-none, doubled-on, twice_power}
 use Rattle.hashlink_table.proofs.store.slots.Slots.double.Given as given
 use Rattle.hashlink_table.proofs.store.slots.Slots.double.Goals as goal
 
@@ -15,9 +15,9 @@ loop-at-init g c =
     )
     (record {
       tagged = c.self.invariant;
-      halves =
-          c.self.view_is ∙ c.in_ok-widen.ensures.ok
-          ∙ ap (λ n. c.args.self.now ++ replicate n bare_cell) c.len-count.ensures;
+      halves = rw (c.self.view_is, c.in_ok-widen.ensures.ok)
+          (doubled-none c.args.self.now (replicate c.len-count.result bare_cell)
+          (length-replicate c.len-count.result bare_cell ∙ c.len-count.ensures));
     })
 
 pub part-requires-clause-power : goal.part-requires-clause-power
@@ -31,8 +31,7 @@ part-requires-clause-within g c =
       arith,
       c.loop-at-test.true,
       c.len-count.ensures,
-      length-doubled_to c.args.self.now c.loop-at.at,
-      ap length c.loop-at.invariant.halves,
+      c.loop-at.invariant.halves.long,
       sizes c.loop-at.invariant.tagged refl,
     )
 
@@ -40,10 +39,9 @@ pub loop-at-preserved : goal.loop-at-preserved
 loop-at-preserved g c = record {
   tagged = c.part.ensures.tagged;
   halves =
-      c.part.ensures.parted
-      ∙ ap (λ cells. parted cells c.loop-at.at c.len-count.result) c.loop-at.invariant.halves
-      ∙ doubled-on c.args.self.now c.loop-at.at c.len-count.result c.len-count.ensures
-      (omega (arith, c.loop-at-test.true, c.len-count.ensures));
+      rw (c.part.ensures.parted, c.len-count.ensures)
+      (doubled-on c.args.self.now c.loop-at.at _ (omega (arith, c.loop-at-test.true, c.len-count.ensures))
+      c.loop-at.invariant.halves);
 }
 
 -- what the lists are then
@@ -68,6 +66,6 @@ invariant_of-self g c = rw (tags g c, nodes g c, rests g c) c.loop-at.invariant.
 pub returns-clause-ok : goal.returns-clause-ok
 returns-clause-ok g c =
     rw (tags g c, nodes g c, rests g c)
-    (c.loop-at.invariant.halves
-    ∙ doubled-all c.args.self.now c.loop-at.at
-    (omega (arith, c.loop-at-test.false, c.loop-at.auto.at-end, c.len-count.ensures)))
+    (doubled-all c.args.self.now c.loop-at.at _
+    (omega (arith, c.loop-at-test.false, c.loop-at.auto.at-end, c.len-count.ensures))
+    c.loop-at.invariant.halves)

@@ -1,5 +1,5 @@
 use Rattle.std.proofs.Common.{arith}
-use Rattle.hashlink_table.proofs.Cells.{within_by_kept}
+use Rattle.hashlink_table.proofs.Linking.{within_by_kept}
 use Rattle.hashlink_table.proofs.Storing.{kept_read, sizes}
 use Rattle.hashlink_table.proofs.store.slots.Slots.known.Goals as goal
 

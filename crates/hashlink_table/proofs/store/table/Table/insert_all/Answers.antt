@@ -1,6 +1,6 @@
 use Rattle.hashlink_table.proofs.Names.{◌≡◌, ℕ, ◌+◌, ◌<◌, List, ◌∷◌, ◌++◌, [], length, take, slice_index_or}
 use Rattle.hashlink_table.proofs.Names.{sym, ap, ◌∙◌, arith, length-take, take_more}
-use Rattle.hashlink_table.proofs.Copying.{has_room, one_copied}
+use Rattle.hashlink_table.proofs.Nodes.{has_room, one_copied}
 use Rattle.hashlink_table.proofs.store.table.Table.insert_all.Goals as goal
 
 -- the first elements of a list, where one more comes last

@@ -1,5 +1,5 @@
 use Rattle.std.proofs.Common.{take}
-use Rattle.hashlink_table.proofs.Copying.{IsCopied}
+use Rattle.hashlink_table.proofs.Nodes.{IsCopied}
 use Rattle.hashlink_table.proofs.store.table.Table.insert_all.Given as goal
 
 abbrev pub invariant-loop-kept : goal.invariant-loop-kept

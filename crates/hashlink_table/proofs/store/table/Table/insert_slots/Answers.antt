@@ -1,6 +1,5 @@
 use Rattle.hashlink_table.proofs.Names.{◌+◌, ◌<◌, length, arith, nodes_in}
-use Rattle.hashlink_table.proofs.Copying.{has_room, next_none, next_some, one_copied}
-use Rattle.hashlink_table.proofs.Nodes.{nodes_in-part}
+use Rattle.hashlink_table.proofs.Nodes.{has_room, next_none, next_some, one_copied, nodes_in-part}
 use Rattle.hashlink_table.proofs.store.table.Table.insert_slots.Goals as goal
 use Rattle.hashlink_table.proofs.store.table.Table.insert_slots.Goals.{in-Some, in_default}
 

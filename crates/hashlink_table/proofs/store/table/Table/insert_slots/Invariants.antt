@@ -1,5 +1,5 @@
 use Rattle.hashlink_table.proofs.Names.{take, nodes_in}
-use Rattle.hashlink_table.proofs.Copying.{IsCopied}
+use Rattle.hashlink_table.proofs.Nodes.{IsCopied}
 use Rattle.hashlink_table.proofs.store.table.Table.insert_slots.Given as goal
 
 abbrev pub invariant-loop-at : goal.invariant-loop-at
