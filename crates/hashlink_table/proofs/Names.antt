@@ -26,14 +26,13 @@ pub use Rattle.std.proofs.Math.Seq.{map-set_same}
 pub use Rattle.std.proofs.lemmas.Bool.{cases_eq, cases_lt, eq-eqb, eqb-true, false≢true, le-ltb, lt-ltb}
 pub use Rattle.std.proofs.lemmas.Bool.{ltb-false, ltb-true, ne_eqb, not-false, true≢false}
 pub use Rattle.std.proofs.lemmas.Grind.{common_steps}
-pub use Rattle.std.proofs.lemmas.List.{append-nil, drop-drop, drop-map, drop_all, drop_more}
-pub use Rattle.std.proofs.lemmas.List.{get_or-append_right, get_or-drop, get_or-map, get_or-set_other}
-pub use Rattle.std.proofs.lemmas.List.{get_or-set_same, get_or_append_left, get_or_at, get_or_default}
-pub use Rattle.std.proofs.lemmas.List.{get_or_past, get_or_push, get_or_read, length-append, length-drop}
-pub use Rattle.std.proofs.lemmas.List.{length-map, length-replicate, length-set, length-take, length-take-le}
-pub use Rattle.std.proofs.lemmas.List.{length_push, map-append, map-id, map-set, map_push, nil_from_length}
-pub use Rattle.std.proofs.lemmas.List.{set-append_left, set-append_right, set-get_or, set_at}
-pub use Rattle.std.proofs.lemmas.List.{take-append-drop, take-map, take_all, take_more, with_items_is}
+pub use Rattle.std.proofs.lemmas.List.{append-nil, drop-drop, drop-map, get_or-append_right, get_or-drop}
+pub use Rattle.std.proofs.lemmas.List.{get_or-map, get_or-set_other, get_or-set_same, get_or_append_left}
+pub use Rattle.std.proofs.lemmas.List.{get_or_at, get_or_default, get_or_past, get_or_push, get_or_read}
+pub use Rattle.std.proofs.lemmas.List.{length-append, length-drop, length-map, length-replicate, length-set}
+pub use Rattle.std.proofs.lemmas.List.{length-take, length_push, map-append, map-id, map-set, map_push}
+pub use Rattle.std.proofs.lemmas.List.{nil_from_length, set-append_left, set-get_or, set_at, take-append-drop}
+pub use Rattle.std.proofs.lemmas.List.{take-map, take_all, take_more, with_items_is}
 pub use Rattle.std.proofs.lemmas.List.Elements.{All-append, All-get_or, All-head, All-map, All-nil, All-set}
 pub use Rattle.std.proofs.lemmas.List.Elements.{All-tail, Contains-append_cases, Contains-append_left}
 pub use Rattle.std.proofs.lemmas.List.Elements.{Contains-append_right}
