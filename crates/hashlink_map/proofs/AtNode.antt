@@ -51,42 +51,33 @@ module _ {K V S : Type 0} {eq : K → K → Bool} (laws : IsEquivalence eq) wher
         ∙ slice_get-inserted (remove old.nodes j) p (n, stood.0) (omega (arith, fewer, within)))
         (λ k t. t)
 
-    -- ---- the step is known of the list as it is inside
+    -- to the end, and to the front
+    pub stays-last : new.nodes ≡ moved_at old.nodes (place_number old.nodes (Some n)) (length old.nodes)
+        → StaysHeld eq old new n (length (entries_of old) - 1)
+    stays-last is =
+        let below = stood.1.within in
+        rw (length-values_of old.nodes)
+        (moved-to (length old.nodes) (length old.nodes - 1)
+        (place_left-before (place_number old.nodes (Some n)) (length old.nodes) below)
+        (omega (arith, below)) is)
 
-    module _ (inside : Keyed K V S) (view : inside ≡ old) where
-      -- to the end, and to the front
-      pub stays-last : new.nodes ≡ moved_at inside.nodes (place_number inside.nodes (Some n))
-          (length inside.nodes)
-          → StaysHeld eq old new n (length (entries_of old) - 1)
-      stays-last is =
-          let below = stood.1.within in
-          subst (StaysHeld eq old new n) (ap (λ l. l - 1) (sym (length-values_of old.nodes)))
-          (moved-to (length old.nodes) (length old.nodes - 1)
-          (place_left-before (place_number old.nodes (Some n)) (length old.nodes) below)
-          (omega (arith, below))
-          (subst (λ m. new.nodes ≡ moved_at m.nodes (place_number m.nodes (Some n)) (length m.nodes))
-          view is))
+    pub stays-first : new.nodes ≡ moved_at old.nodes (place_number old.nodes (Some n)) 0
+        → StaysHeld eq old new n 0
+    stays-first =
+        moved-to 0 0 (place_left-past (place_number old.nodes (Some n)) 0 (omega arith))
+        (omega (arith, stood.1.within))
 
-      pub stays-first : new.nodes ≡ moved_at inside.nodes (place_number inside.nodes (Some n)) 0
-          → StaysHeld eq old new n 0
-      stays-first is =
-          let below = stood.1.within in
-          moved-to 0 0 (place_left-past (place_number old.nodes (Some n)) 0 (omega arith))
-          (omega (arith, below))
-          (subst (λ m. new.nodes ≡ moved_at m.nodes (place_number m.nodes (Some n)) 0) view is)
-
-      -- with its pair renewed
-      pub stays-renewed : (f : K × V → K × V) → ((k : K) → eq k stood.0.0 ≡ true → eq k (f stood.0).0 ≡ true)
-          → new.nodes ≡ renewed_at f inside.nodes (place_number inside.nodes (Some n))
-          → StaysHeld eq old new n (place_number old.nodes (Some n))
-      stays-renewed f same is =
-          let j = place_number old.nodes (Some n) in
-          let below = stood.1.within in
-          let there = subst (λ m. new.nodes ≡ renewed_at f m.nodes (place_number m.nodes (Some n))) view is in
-          stays j (f stood.0)
-          (ap (λ ns. slice_get ns j) (there ∙ renewed_at-is f old.nodes j (n, stood.0) stood.1.at)
-          ∙ slice_get-inserted (remove old.nodes j) j (n, f stood.0) (omega (arith, fewer, below)))
-          same
+    -- with its pair renewed
+    pub stays-renewed : (f : K × V → K × V) → ((k : K) → eq k stood.0.0 ≡ true → eq k (f stood.0).0 ≡ true)
+        → new.nodes ≡ renewed_at f old.nodes (place_number old.nodes (Some n))
+        → StaysHeld eq old new n (place_number old.nodes (Some n))
+    stays-renewed f same is =
+        let j = place_number old.nodes (Some n) in
+        let below = stood.1.within in
+        stays j (f stood.0)
+        (ap (λ ns. slice_get ns j) (is ∙ renewed_at-is f old.nodes j (n, stood.0) stood.1.at)
+        ∙ slice_get-inserted (remove old.nodes j) j (n, f stood.0) (omega (arith, fewer, below)))
+        same
 
     -- a key that equals the one held equals what the held one equals
     pub same-keys : (key : K) → EqualsKeyAt eq (entries_of old) (place_number old.nodes (Some n)) key
@@ -107,23 +98,13 @@ module _ {K V S : Type 0} {eq : K → K → Bool} (a b c : Keyed K V S) (n : Nod
 
 module _ {K V S : Type 0} {eq : K → K → Bool} (laws : IsEquivalence eq)
     (old new : Keyed K V S) (k : K) (v : V) (absent : place_of (eq k) (entries_of old) ≡ None) where
-  pub pushes-at : (b : ℕ) (r : Result Node (K × V)) → IfOk r (λ n. AddsNode old new b n k v)
-      → IfErr r (λ p. p ≡ (k, v)) → OnErr r (GrowsRoom 1 old new)
-      → OnErr r (old.spare ≡ 0)
-      → MatchResult r (λ _. AddsEntry eq (state_of old) (state_of new) k v b)
-      (RefusesEntry eq (state_of old) (state_of new) k v)
-  pushes-at b (Ok n) went_in back grown none = added eq old new k v b b n refl absent went_in
-  pushes-at b (Err p) went_in back grown none = refused eq old new k v p absent none back grown
-
   pub pushes : (r : Result Node (K × V)) → IfOk r (λ n. AddsNode old new (length old.nodes) n k v)
       → IfErr r (λ p. p ≡ (k, v)) → OnErr r (GrowsRoom 1 old new)
       → OnErr r (old.spare ≡ 0)
       → VacantInserts eq (state_of old) (state_of new) k v r
-  pushes r went_in back grown none =
-      subst
-      (λ b. MatchResult r (λ _. AddsEntry eq (state_of old) (state_of new) k v b)
-      (RefusesEntry eq (state_of old) (state_of new) k v))
-      (sym (length-values_of old.nodes)) (pushes-at (length old.nodes) r went_in back grown none)
+  pushes (Ok n) went_in back grown none =
+      added eq old new k v _ _ n (sym (length-values_of old.nodes)) absent went_in
+  pushes (Err p) went_in back grown none = refused eq old new k v p absent none back grown
 
   module _ (sound : IsKeyed eq new) where
     stands_last : (n : Node) → AddsNode old new (length old.nodes) n k v
@@ -295,10 +276,7 @@ module _ {K V S : Type 0} (eq : K → K → Bool) (old : MapState K V S) (mid : 
         (AddsEntry eq old (state_of (with_value_at mid n w)) k w (length old.entries))
         (PutsEntry eq old (state_of (with_value_at mid n w)) k w (length old.entries))
     moves-and-writes w =
-        subst
-        (λ o. MatchOption o (AddsEntry eq old (state_of (with_value_at mid n w)) k w (length old.entries))
-        (PutsEntry eq old (state_of (with_value_at mid n w)) k w (length old.entries)))
-        (sym (lookup-place (eq k) old.entries j p ∙ stood-there.1))
+        rw (lookup-place (eq k) old.entries j p ∙ stood-there.1)
         (puts-moved s place stood-there.0 w stood-there.1)
 
     pub moved-value : (u : V) → value_at (entries_of mid) (place_number mid.nodes (Some n)) ≡ Some u

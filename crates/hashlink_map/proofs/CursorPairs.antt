@@ -10,8 +10,7 @@ use Rattle.std.specs.Borrow.{Fml, name_if_some}
 use Rattle.hashlink_map.specs.contracts.as_node.NodeAsNode.TheImpl
 use Rattle.hashlink_map.specs.contracts.cursor.CursorMut as cursor
 use Rattle.hashlink_map.proofs.Written.{cursor_written}
-use Rattle.hashlink_map.proofs.StepAndLend.{Lending}
-use Rattle.hashlink_map.proofs.LendAtPlace.{LendingAt}
+use Rattle.hashlink_map.proofs.LendAtPlace.{Lending, LendingAt}
 use types.Kit.{‵, ◌$◌, ◌∵◌, !, qed, fpack, done}
 use Rattle.hashlink_map.specs.Cursor.{cursor_map, cursor_state, CursorWritten, LentAt, TakesPlace}
 use Rattle.hashlink_map.specs.CursorLends.{cursor_with, LendsAtCursorNode, LendsPairFromCursor}
@@ -128,13 +127,9 @@ module _ (K V S T : RattleType) (LK : Laws K) (LV : Laws V) (p : EqGhosts K.Deno
   -- at the place that `place` numbers
   abbrev pub at_place : {M : Type 1} {𝓤 : Ura M} (𝓛 : Logic 𝓤)
       → (CursorState K.Denot V.Denot S.Denot → ℕ)
-      → Lending K V LK LV Cursor 𝓛
+      → Lending K V LK LV Cursor 𝓛 (at_node 𝓛)
   at_place {𝓤 = 𝓤} 𝓛 place = record {
     Takes = λ κs r q. TakesPlace r (place (cursor_state r.now)) q;
-    Stands = λ κs q. IsPlace q.0.now.map.now.nodes q.1;
-    Ties = λ κs q o. LendsPairFromCursor (param 0 K) (param 1 V) (param 2 S) (param 3 T) q.0
-        (number q.0.now q.1) o;
-    Pair = λ κs q o. LentAt (cursor_state q.0.now) (number q.0.now q.1) o;
     Lends = λ κs r o. LendsPairFromCursor (param 0 K) (param 1 V) (param 2 S) (param 3 T) r
         (place (cursor_state r.now)) o;
     Gives = λ κs r o. LentAt (cursor_state r.now) (place (cursor_state r.now)) o;

@@ -3,9 +3,9 @@ use Rattle.hashlink_map.proofs.Names
 use Names.{◌≡◌, ℕ, List, [], ◌∷◌, sym, subst, Ura, Fml, Lft, flft, SProp, ent, sep, ex, emp, id⊢, via, emp∗}
 use Names.{comm∗, fst∗, Fn, Callee, Dict, Val, Model, WpFn, Closed, Logic, sem, ◌⊑◌, Lfts, Shares, Outlives}
 use Names.{AllOutlive, toks, fact, fact_i, Running, tables, Is, Ises, Are, shows, layout, param, Laws}
-use Names.{RattleType, Valss, flat, Slot, types_at, nothing, peeks, heard, Ended, Clauses, closing}
-use Names.{lasts, Lasts, Kepts, Args, alive, on_entry, Meets, triple_of, framed, Stays, AllGo, Fit, has_of}
-use Names.{walk_of, Good, proved_at, leaves, Bor, MutBor, IfOk, Keyed, with_value_at, LendsPairOf}
+use Names.{RattleType, Valss, flat, Slot, types_at, nothing, peeks, heard, Ended, Clauses, closing, lasts}
+use Names.{Lasts, Kepts, Args, alive, on_entry, Meets, triple_of, framed, Stays, AllGo, Fit, has_of, walk_of}
+use Names.{Good, proved_at, leaves, Bor, MutBor, IfOk, Keyed, with_value_at, LendsPairOf}
 use Rattle.std.specs.declared.cmp.Eq as equal
 use Rattle.hashlink_map.proofs.PairSteps.{Asks, asks_again, apart_last, joins_last, ended, clauses}
 use Rattle.hashlink_map.proofs.PairRows.{Answer, answer_laws, Entered, entered_laws}

@@ -67,8 +67,8 @@ pub refuses_handed : {K V S A : Type 0} (eq : K → K → Bool) (old new : MapSt
     → OnErr r (IfErr r (RefusesEntry eq old new k v)) → IfErr r (λ e. e ≡ (k, v))
     → OnErr r (IfErr r (λ e. RefusesEntry eq old new e.0 e.1 e))
 refuses_handed eq old new k v (Ok x) refuses is = tt
-refuses_handed eq old new k v (Err e) refuses is = subst (λ x. RefusesEntry eq old new x.0 x.1 e)
-    (sym is) refuses
+refuses_handed eq old new k v (Err e) refuses is =
+    subst (λ x. RefusesEntry eq old new x.0 x.1 e) (sym is) refuses
 
 pub none_at : {A E X : Type 0} (r : Result A E) (x : X) → OnErr r (x ≡ x)
 none_at (Ok a) x = tt
@@ -85,13 +85,8 @@ module _ {K V S T : Type 0} {g : EqGhosts K} {h : HashGhosts K} {b : BuilderGhos
         → PutsLast g.eq old (state_of (with_value_at o.map.now o.node u)) q.0.now u
     last_written old None (e, given, adds, last) u =
         let at : raw_place o ≡ length old.entries = cc in
-        let new = state_of (with_value_at o.map.now o.node u) in
         let parts = added-parts laws old o.map.now e.0 e.1 o.node adds at (q.0.now, q.1.now) has in
-        subst (λ k. PutsLast g.eq old new k u) (sym parts.0)
-        (subst
-        (λ x. MatchOption x (AddsEntry g.eq old new e.0 u (length old.entries))
-        (PutsEntry g.eq old new e.0 u (length old.entries)))
-        (sym adds.absent) (adds-written laws old o.map.now e.0 e.1 o.node adds at u))
+        rw (parts.0, adds.absent) (adds-written laws old o.map.now e.0 e.1 o.node adds at u)
     last_written old (Some j) (e, stood, own, moves, last) u =
         let at : raw_place o ≡ length old.entries - 1 = cc in
         let here : Some (q.0.now, q.1.now) ≡ Some e
@@ -114,9 +109,7 @@ module _ {K V S T : Type 0} {g : EqGhosts K} {h : HashGhosts K} {b : BuilderGhos
         let here : Some (q.0.now, q.1.now) ≡ Some e
         = sym has ∙ ap₂ slice_get moves.entries at ∙ last-moved old.entries j e stood in
         let same : (q.0.now, q.1.now) ≡ e = cc in
-        subst
-        (λ x. MatchOption x (Given (q.0.now, q.1.now)) (λ stood. (q.0.now ≡ stood.0) × (q.1.now ≡ stood.1)))
-        (sym stood) (ap (λ x. x.0) same, ap (λ x. x.1) same)
+        rw stood (ap (λ x. x.0) same, ap (λ x. x.1) same)
 
   module _ {E : Type 0} (old : RawEntryState K V S) where
     pub put_written : (x : Result (RawOccupiedEntryMut K V S Node T g h b w TheImpl.ghosts) E)

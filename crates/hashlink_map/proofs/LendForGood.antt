@@ -1,4 +1,5 @@
--- A raw entry is taken apart, and a call at its node lends for as long as its map is borrowed. Assumes `Logic`.
+-- A raw entry is taken apart, and a call at its node lends for as long as the map is borrowed. Assumes
+-- `Logic`.
 use Rattle.hashlink_map.proofs.Names
 use Names.{◌≡◌, ℕ, List, [], ◌∷◌, ◌++◌, refl, sym, subst, ◌∙◌, Ura, SProp, ent, id⊢, via, emp, ftrue, fsep}
 use Names.{Fn, Ty, Sym, Callee, Kind, named, erased, mut, ty_ptr, ty_ref, ty_struct, tcons, tnil, local}
@@ -142,7 +143,8 @@ module _ {M : Type 1} (𝓤 : Ura M) (𝓛 : Logic 𝓤) (𝓜 : Model 𝓤 𝓛
       fjoin ! $ move ! (2 ∷ 0 ∷ []) $ fjoin ! $
       move ! (3 ∷ 0 ∷ []) $ join ! $ move ! (0 ∷ 1 ∷ []) $ join ! $
       use1 𝓛 (raw (G.pre y)) (id⊢ 𝓤 (G.pre y)) $
-      calls_at ! (framed 𝓤 H 𝓜 𝓣) G met y (and_then ! (get ! refl) (and_then ! (get ! refl) (no_more !))) (λ v.
+      calls_at ! (framed 𝓤 H 𝓜 𝓣) G met y (and_then ! (get ! refl) (and_then ! (get ! refl) (no_more !)))
+      (λ v.
       use1 𝓛 (later (some (λ (q : Out.Denot). (toks ⊛ ‵ (Out.own_val q (v ∷ []))) ⊛ some
       (λ (ls : Lasts (Lender O) κs (r, (n, tt))). ‵ (lasts (Lender O) κs (r, (n, tt)) ls)
       ⊛ raw (Says κs r n q))))) (id⊢ 𝓤 (G.post y v)) $

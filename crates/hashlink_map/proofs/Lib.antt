@@ -15,7 +15,6 @@ pub mod PairRows
 pub mod PairSteps
 pub mod PairTies
 pub mod PairValues
-pub mod StepAndLend
 pub mod PutLast
 pub mod Taken
 pub mod Taking

@@ -20,7 +20,6 @@ pub use Rattle.hashlink_core.specs.Steps.{AddsNode, GrowsRoom, MovesNode}
 pub use Rattle.hashlink_core.specs.Walk.{StandsBetween}
 pub use Rattle.hashlink_map.specs.Cloning.{ArePairClones, IsOfPairClones}
 pub use Rattle.hashlink_map.specs.Cursor.{cursor_node, lent_pair}
-pub use Rattle.hashlink_map.specs.Entry.{IsWritten, entry_state, occupied_place, occupied_with}
 pub use Rattle.hashlink_map.specs.EntryLends.{PutsLast}
 pub use Rattle.hashlink_map.specs.Extending.{TakesItems}
 pub use Rattle.hashlink_map.specs.Indexed.{HasKey, with_value_at_key}
@@ -46,7 +45,6 @@ pub use Rattle.hashlink_model.proofs.Finds.{lookup_is, lookup_key_is}
 pub use Rattle.hashlink_model.proofs.InTurn.{accepts_entries}
 pub use Rattle.hashlink_model.proofs.Places.{place_of_its_key, slice_get_here, split_at}
 pub use Rattle.hashlink_model.proofs.Puts.{put-absent, put_at_its_place, put_back_absent}
-pub use Rattle.hashlink_model.proofs.Walks.{takes_first, takes_last}
 pub use Rattle.hashlink_model.specs.Compare.{entries_eq, entries_hash_input}
 pub use Rattle.hashlink_model.specs.Cursor.{CursorState, following_place, preceding_place, with_value_in}
 pub use Rattle.hashlink_model.specs.Entries.{IsEntries, extended, moved_at, place_left, place_of}
@@ -54,8 +52,7 @@ pub use Rattle.hashlink_model.specs.Entries.{place_or_end, put, set_value_at, st
 pub use Rattle.hashlink_model.specs.Entry.{RawEntryState, VacantInserts, key_at, value_at}
 pub use Rattle.hashlink_model.specs.Many.{AcceptsAll, InsertsPair, MadeFrom, StopsAt, StopsAtLast}
 pub use Rattle.hashlink_model.specs.MapState.{AddsEntry, Grows, Inserts, MapState, MovesAt, PutsEntry}
-pub use Rattle.hashlink_model.specs.MapState.{RefusesEntry, Removes, RoomFor, empty_map, map_state}
-pub use Rattle.hashlink_model.specs.MapState.{with_value}
+pub use Rattle.hashlink_model.specs.MapState.{RefusesEntry, RoomFor, empty_map, map_state, with_value}
 pub use Rattle.hashlink_model.specs.Steps.{PopsBack, PopsFront, RemovesMatch, Replaces, with_value_of}
 pub use Rattle.hashlink_model.specs.Walk.{after_first_of, before_last_of, first_of, last_of}
 pub use Rattle.std.proofs.Common.{Bool, List, None, Option, Some, [], ap, append-nil, append_assoc, ap₂}
@@ -65,7 +62,7 @@ pub use Rattle.std.proofs.Common.{true≢false, zero, ℕ, ◌++◌, ◌+◌, �
 pub use Rattle.std.proofs.RcSteps.{word, word-Good, word_ty}
 pub use Rattle.std.proofs.VecSteps.Element.{Some-of, none_of}
 pub use Rattle.std.proofs.alloc.Shapes.{after, arm_body, head}
-pub use Rattle.std.proofs.cell.Inside.{Good, one}
+pub use Rattle.std.proofs.cell.Inside.{Good}
 pub use Rattle.std.proofs.iter.runs.Sources.{as_is, as_is_back}
 pub use Rattle.std.proofs.lemmas.List.{length-map}
 pub use Rattle.std.proofs.lemmas.Map.Entries.{length-values_of}

@@ -1,10 +1,10 @@
--- What the walks to a pair that is lent share: a node's one word, clauses, what calls ask, and the tokens. Assumes
--- `Logic`.
-use denote.Triple.Entry.{Res}
+-- What the walks to a pair that is lent share: a node's one word, clauses, what calls ask, and the tokens.
+-- Assumes `Logic`.
+use denote.Triple.Entry.{Res, Args}
 use Rattle.hashlink_map.proofs.Names.{◌≡◌, List, [], ◌∷◌, ◌++◌, refl, subst, Ura, Val, vstruct, of_list, Fml}
 use Rattle.hashlink_map.proofs.Names.{ftrue, SProp, ent, sep, emp, mono_r, fact, fact_i, Logic, sem, ℕ}
-use Rattle.hashlink_map.proofs.Names.{Outlives, Slot, Kepts, Lfts, Ended, Clauses, Args, plain, RattleType}
-use Rattle.hashlink_map.proofs.Names.{Ptr, RawPtr, ptr_val, makes_shadow, nothing, heard, Shape, Struct, word}
+use Rattle.hashlink_map.proofs.Names.{Outlives, Slot, Kepts, Lfts, Ended, Clauses, plain, RattleType, Ptr}
+use Rattle.hashlink_map.proofs.Names.{RawPtr, ptr_val, makes_shadow, nothing, heard, Shape, Struct, word}
 use types.Kit.{Item, Goal, Seq, ‵, raw, ◌⊛◌, ◌$◌, ◌∵◌, !, qed, move, drop, split, join, use0, fsplit, fpick}
 use types.Kit.{feq_l, done}
 
@@ -30,7 +30,8 @@ module _ {M : Type 1} {𝓤 : Ura M} (𝓛 : Logic 𝓤) where
       ((ptr_val c ∷ [], tt), (refl, (refl, tt)))
 
 -- a function with this signature, and its clauses: what it asks, and what it says of its result
-abbrev pub ended : (n : ℕ) → List (Outlives n) → (ss : List (Slot n)) → Kepts ss → (Lfts n → RattleType) → Ended
+abbrev pub ended : (n : ℕ) → List (Outlives n) → (ss : List (Slot n)) → Kepts ss → (Lfts n → RattleType)
+    → Ended
 ended n O ss ks R = record {
   signature = record { lifetimes = n; outlives = O; params = ss; result = plain R };
   kept = ks;

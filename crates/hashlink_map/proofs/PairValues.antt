@@ -1,11 +1,11 @@
 -- A value's one machine value, and the parts of a `Result` and of an `Option`. Assumes `Logic`.
 use Rattle.hashlink_map.proofs.Names.{◌≡◌, List, [], ◌∷◌, ◌++◌, refl, ap, subst, ◌∙◌, Ura, Val, of_list}
-use Rattle.hashlink_map.proofs.Names.{Logic, live, Is, shows, Typed, layout, Laws, RattleType, peeks, Good}
-use Rattle.hashlink_map.proofs.Names.{one, Ok, Err}
+use Rattle.hashlink_map.proofs.Names.{Logic, live, Is, shows, Typed, layout, Laws, RattleType, peeks, Ok, Err}
 use Rattle.std.specs.Prelude.{Some, None}
 use Rattle.std.specs.contracts.option.Option as option
 use Rattle.std.specs.contracts.result.Result as result
 use types.Kit.{Item, Goal, Seq, ‵, ◌$◌, move, drop, fsplit, fpick, feq_l, rewrite}
+use Rattle.std.proofs.cell.Inside.{Good, one}
 
 module _ {M : Type 1} {𝓤 : Ura M} (𝓛 : Logic 𝓤) (R : RattleType) (L : Laws R) where
   pub value_of : (x : R.Denot) (vs : List Val) → Is R x vs → (v : Val) × (vs ≡ v ∷ []) × Good (layout R) v

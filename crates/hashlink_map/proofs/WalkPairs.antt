@@ -12,8 +12,7 @@ use Rattle.std.specs.Borrow.{Fml, GName, name_if_some}
 use Rattle.hashlink_map.specs.contracts.as_node.NodeAsNode.TheImpl
 use Rattle.hashlink_map.specs.contracts.iter_mut.IterMut as walk
 use Rattle.hashlink_map.proofs.Walking.{written-there, first-taken, last-taken}
-use Rattle.hashlink_map.proofs.StepAndLend.{Lending}
-use Rattle.hashlink_map.proofs.LendAtPlace.{LendingAt}
+use Rattle.hashlink_map.proofs.LendAtPlace.{Lending, LendingAt}
 use types.Kit.{‵, ◌$◌, ◌∵◌, !, qed, fpick, fpack, rewrite, done}
 use Rattle.hashlink_map.specs.IterMut.{walk_map, walk_state}
 use Rattle.hashlink_map.specs.IterMutLends.{walk_with_value, LendsAtWalkNode, LendsPairThere}
@@ -211,14 +210,10 @@ module _ (K V S T : RattleType) (LK : Laws K) (LV : Laws V) (p : EqGhosts K.Deno
       → LentFrom (walk_map mid.now).now taken r
       → TakesOff walk_map walk_state old (place (walk_state old.now)) (after (walk_state old.now)) mid taken
       → option_map lent_pair r ≡ entry (walk_rest (walk_state old.now)))
-      → Lending K V LK LV Writer 𝓛
+      → Lending K V LK LV Writer 𝓛 (at_node 𝓛)
   taken_off 𝓛 place after entry lent = record {
     Takes = λ κs r q.
         TakesOff walk_map walk_state r (place (walk_state r.now)) (after (walk_state r.now)) q.0 q.1;
-    Stands = λ κs q. IsPlace q.0.now.map.now.nodes q.1;
-    Ties = λ κs q o. LendsPairThere (param 0 K) (param 1 V) (param 2 S) (param 3 T) q.0
-        (place_number q.0.now.map.now.nodes q.1) o;
-    Pair = λ κs q o. LentFrom q.0.now.map.now q.1 o;
     Lends = λ κs r o. LendsPairFromWalk (param 0 K) (param 1 V) (param 2 S) (param 3 T) r
         (after (walk_state r.now)) (place (walk_state r.now)) o;
     Gives = λ κs r o. option_map lent_pair o ≡ entry (walk_rest (walk_state r.now));

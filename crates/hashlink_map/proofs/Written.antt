@@ -1,10 +1,11 @@
 -- What an entry is once its value was written.
-use Rattle.hashlink_map.proofs.Names
-use Names.{◌≡◌, ◌∙◌, ℕ, Bool, List, Option, Some, ap, ap₂, props, map_state}
-use Names.{with_value_in, set_value_at, Keyed, HoldsKey, entries_of, state_of, pair_with_value, Node, Holds}
-use Names.{place_number, with_value_at, values-renewed_value, place_number-renewed, OccupiedEntry}
-use Names.{RawOccupiedEntryMut, occupied_place, occupied_with, IsWritten, raw_place, raw_with, RawIsWritten}
+use Rattle.hashlink_map.proofs.Names.{◌≡◌, ◌∙◌, ℕ, Bool, List, Option, Some, ap, ap₂, props, map_state}
+use Rattle.hashlink_map.proofs.Names.{with_value_in, set_value_at, Keyed, HoldsKey, entries_of, state_of}
+use Rattle.hashlink_map.proofs.Names.{pair_with_value, Node, Holds, place_number, with_value_at}
+use Rattle.hashlink_map.proofs.Names.{values-renewed_value, place_number-renewed, OccupiedEntry}
+use Rattle.hashlink_map.proofs.Names.{RawOccupiedEntryMut, raw_place, raw_with, RawIsWritten}
 use Rattle.hashlink_map.specs.Bounds.{EqGhosts, HashGhosts, HasherGhosts, BuilderGhosts, NodeGhosts}
+use Rattle.hashlink_map.specs.Entry.{occupied_place, occupied_with, IsWritten}
 
 HoldsKey-prop : {K V : Type 0} (eq : K → K → Bool) (ns : List (Node × (K × V))) (k : K) (n : Node)
     → IsProp (HoldsKey eq ns k n)

@@ -1,5 +1,4 @@
-use Rattle.hashlink_map.proofs.Names.{◌≡◌, None, refl, subst, sym, MatchOption, place_of, HoldsKey}
-use Rattle.hashlink_map.proofs.Names.{entries_of, HasKey, stored-value}
+use Rattle.hashlink_map.proofs.Names.{refl, subst, sym, HasKey, stored-value}
 use Rattle.hashlink_map.proofs.Indexing.{found_there, written_there}
 use Rattle.hashlink_map.proofs.index.LinkedHashMapIndexMutRef.index_mut.Goals as goal
 
@@ -16,9 +15,7 @@ returns g c =
     let k = c.args.key.now in
     let m = c.self.inside.list in
     let n = c.unwrap-node.result in
-    let found =
-    subst (λ o. MatchOption o (place_of (eq k) (entries_of m) ≡ None) (HoldsKey eq m.nodes k))
-    c.unwrap-node.ensures c.find.ensures.found in
+    let found = rw c.unwrap-node.ensures at c.find.ensures.found in
     rw (← c.self.view_is) (
       (refl, written_there eq m k n found),
       record {

@@ -1,7 +1,7 @@
 -- `next_back` lends the pair of the last entry left, where there is one, and the walk follows it.
 use Rattle.hashlink_map.proofs.Names.{last_of, after_back, last_place}
 use Rattle.hashlink_map.specs.contracts.iter_mut.IterMut+K+V+S.next_back as f
-use Rattle.hashlink_map.proofs.StepAndLend.{steps_and_lends}
+use Rattle.hashlink_map.proofs.LendAtPlace.{steps_and_lends}
 use Rattle.hashlink_map.proofs.WalkPairs.{Writer, taken_off, last-lent}
 use Rattle.hashlink_map.proofs.iter_mut.IterMut+K+V+S.step_last.Met as step
 use Rattle.hashlink_map.proofs.iter_mut.IterMut+K+V+S.pair_at.Met as lent
@@ -10,7 +10,7 @@ use Rattle.hashlink_map.proofs.iter_mut.IterMut+K+V+S.next_back.Code as code
 
 pub next_back_spec : {M : Type 1} → statement M
 next_back_spec 𝓤 𝓛 𝓜 𝓡 wired K V S T LK LV LS LT e de p dp h dh b db w dw dd me mp mh mb mw md =
-    steps_and_lends 𝓤 𝓛 𝓜 𝓡 K V S T LK LV (Writer K V S T LK LV p h b w)
+    steps_and_lends 𝓤 𝓛 𝓜 𝓡 K V S T LK LV (Writer K V S T LK LV p h b w) _
     (taken_off K V S T LK LV p h b w 𝓛 last_place after_back last_of last-lent)
     (f.signature K V S T e de p dp h dh b db w dw dd).outlives _
     (step.met 𝓤 𝓛 𝓜 𝓡 (code.calls-hashlink_map::iter_mut::IterMut+K+V+S::step_last 𝓡.env wired)

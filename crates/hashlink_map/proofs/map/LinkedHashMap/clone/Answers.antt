@@ -27,28 +27,21 @@ whole : (g : given.Over) (c : goal.In-None g)
     c.loop-key.invariant.clones
 whole g c =
     let inv = c.loop-key.invariant in
-    subst (λ xs. ArePairClones g.K.Clone.is_clone g.V.Clone.is_clone xs inv.clones)
-    (sym (sym c.iter-key-items.ensures.rest ∙ (sym c.into_iter-key-iterator.ensures.into_iter_gives
-    ∙ (inv.is ∙ (ap (λ xs. inv.seen ++ xs) c.in-None.ensures.steps.0 ∙ append-nil inv.seen)))))
-    inv.cloned
+    rw (sym c.iter-key-items.ensures.rest ∙ (sym c.into_iter-key-iterator.ensures.into_iter_gives
+    ∙ (inv.is ∙ (ap (λ xs. inv.seen ++ xs) c.in-None.ensures.steps.0 ∙ append-nil inv.seen)))) inv.cloned
 
 made : (g : given.Over) (c : goal.In-None g)
     → MadeFrom (InsertsPair g.K.PartialEq.eq) c.loop-key.invariant.clones c.in_ok-hash_builder.hash_builder
     (state_of c.loop-key.map)
-made g c =
-    let inv = c.loop-key.invariant in
-    subst (λ m. AcceptsAll (InsertsPair g.K.PartialEq.eq) m inv.clones (state_of c.loop-key.map))
-    c.with_hasher-map.ensures inv.inserted
+made g c = rw (← c.with_hasher-map.ensures) c.loop-key.invariant.inserted
 
 distinct : (g : given.Over) (c : goal.In-None g) → IsEntries g.K.PartialEq.eq (entries_of c.args.self.now)
-distinct g c =
-    subst (λ l. IsEntries g.K.PartialEq.eq (entries_of l)) c.self.view_is c.allocator.ensures.distinct
+distinct g c = rw (← c.self.view_is) c.allocator.ensures.distinct
 
 pub returns-clause-made : goal.returns-clause-made
 returns-clause-made g c = (
   c.in_ok-hash_builder.hash_builder,
-  subst (λ h. g.S.Clone.is_clone h c.in_ok-hash_builder.hash_builder)
-      (c.hasher.ensures ∙ ap (λ l. l.hasher) c.self.view_is) c.in_ok-hash_builder.ensures.cases,
+  rw (c.hasher.ensures ∙ ap (λ l. l.hasher) c.self.view_is) at c.in_ok-hash_builder.ensures.cases,
   c.loop-key.invariant.clones,
   whole g c,
   made g c,

@@ -11,7 +11,7 @@ returns-in-Some g c =
     let new = c.move_to_back.new.self in
     let k = c.args.key in
     let n = c.in-Some.node in
-    let found = subst (λ m. HoldsKey eq m.nodes k n) c.self.view_is c.in-Some.ensures.found in
+    let found = rw c.self.view_is at c.in-Some.ensures.found in
     let e = c.move_to_back.ensures in
     let put = moves-and-writes eq old new k _ found.place n e.moves e.stays.place in
     let value = moved-value eq old new k _ found.place n e.moves e.stays.place _
@@ -29,8 +29,7 @@ pub make-requires : goal.make-requires
 make-requires g c =
     c.requires
     (lookup-unplaced (g.K.PartialEq.eq c.args.key) (entries_of c.args.self.now)
-    (subst (λ m. place_of (g.K.PartialEq.eq c.args.key) (entries_of m) ≡ None) c.self.view_is
-    c.in-None.ensures.found))
+    (rw c.self.view_is at c.in-None.ensures.found))
 
 pub returns : goal.returns
 returns g c =
@@ -41,8 +40,7 @@ returns g c =
     let e = c.in_ok-node-in-None.ensures in
     let n = c.in_ok-node-in-None.node in
     let new = c.push_back.new.self in
-    let none = lookup-unplaced (eq k) old.entries
-    (subst (λ m. place_of (eq k) (entries_of m) ≡ None) c.self.view_is c.in-None.ensures.found) in
+    let none = lookup-unplaced (eq k) old.entries (rw c.self.view_is at c.in-None.ensures.found) in
     let put = adds-written laws old new k _ n e.inserts e.place in
     let value = added-value laws old new k _ n e.inserts e.place _ c.value_at_mut-in-None.ensures.value in
     rw none (

@@ -12,5 +12,6 @@ returns g c =
     e.moved in
     record {
       moves = rw (← c.self.view_is) moved.state;
-      stays = stays-first g.met.K.Eq.laws _ _ e.sound c.args.node c.requires _ c.self.view_is moved.nodes;
+      stays = stays-first g.met.K.Eq.laws _ _ e.sound c.args.node c.requires
+          (rw c.self.view_is at moved.nodes);
     }

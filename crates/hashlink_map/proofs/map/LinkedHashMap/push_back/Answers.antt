@@ -11,8 +11,7 @@ returns g c =
     let new = c.insert_before.new.self in
     let k = c.args.key in
     let v = c.args.value in
-    let absent = subst (λ l. place_of (g.K.PartialEq.eq k) (entries_of l) ≡ None) (sym c.self.view_is)
-    c.requires.absent in
+    let absent = rw (← c.self.view_is) at c.requires.absent in
     rw (← c.self.view_is)
     (record {
       inserts = pushes laws m new k v absent r e.added e.handed_back e.refused e.no_spare;

@@ -8,7 +8,7 @@ returns-clause-stays g c =
     let n = c.args.node in
     let key = c.args.key in
     let sound = c.replace_pair.ensures.sound in
-    stays-renewed laws _ _ sound n c.requires.within _ c.self.view_is (λ _. (key, c.args.value))
+    stays-renewed laws _ _ sound n c.requires.within (λ _. (key, c.args.value))
     (same-keys laws _ _ sound n c.requires.within key
     (holds-equal g.K.PartialEq.eq c.args.self.now n key c.requires))
-    c.replace_pair.ensures.nodes
+    (rw c.self.view_is at c.replace_pair.ensures.nodes)

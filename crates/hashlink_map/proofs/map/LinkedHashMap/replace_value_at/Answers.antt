@@ -4,5 +4,5 @@ use Rattle.hashlink_map.proofs.map.LinkedHashMap.replace_value_at.Goals as goal
 
 pub returns-clause-stays : goal.returns-clause-stays
 returns-clause-stays g c =
-    stays-renewed g.met.K.Eq.laws _ _ c.replace_value.ensures.sound c.args.node c.requires _ c.self.view_is
-    (pair_with_value c.args.value) (λ k t. t) c.replace_value.ensures.written.nodes
+    stays-renewed g.met.K.Eq.laws _ _ c.replace_value.ensures.sound c.args.node c.requires
+    (pair_with_value c.args.value) (λ k t. t) (rw c.self.view_is at c.replace_value.ensures.written.nodes)

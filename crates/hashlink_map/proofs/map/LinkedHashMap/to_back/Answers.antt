@@ -1,14 +1,16 @@
-use Rattle.hashlink_map.proofs.Names.{length, refl, sym, le_refl, entries_of, guard-number, moved-found}
-use Rattle.hashlink_map.proofs.Names.{lent-moved, moved-value, lookup-unplaced}
+use Rattle.hashlink_map.proofs.Names.{length, refl, sym, le_refl, entries_of, guard-number}
+use Rattle.hashlink_map.proofs.Names.{moved-found, lent-moved, moved-value, lookup-unplaced}
 use Rattle.hashlink_map.proofs.map.LinkedHashMap.to_back.Goals as goal
 
 pub value_mut-requires : goal.value_mut-requires
 value_mut-requires g c =
     let m = c.self.inside.list in
     let s = c.move_before.ensures in
+    let last = guard-number m in
+    let below = le_refl (length m.nodes) in
     (moved-found g.K.PartialEq.eq g.met.K.Eq.laws (g.Q.Equivalent.matches c.args.key)
-    (g.met.Q.Equivalent.finds_equal c.args.key) m c.move_before.new.self c.in-Some.node c.in-Some.ensures.found
-    (length (entries_of m)) _ (guard-number m) (le_refl (length m.nodes)) s.moved s.sound).within
+    (g.met.Q.Equivalent.finds_equal c.args.key) m c.move_before.new.self c.in-Some.node
+    c.in-Some.ensures.found (length (entries_of m)) _ last below s.moved s.sound).within
 
 pub returns-in-Some : goal.returns-in-Some
 returns-in-Some g c =
@@ -21,16 +23,13 @@ returns-in-Some g c =
     let new = c.move_before.new.self in
     let s = c.move_before.ensures in
     let e = c.in-Some.ensures in
+    let last = guard-number m in
+    let below = le_refl (length m.nodes) in
     rw (← c.self.view_is) (
-      (
-        refl,
-        lent-moved eq laws test tells m new n e.found (length (entries_of m)) _ (guard-number m) (le_refl (length m.nodes)) s.moved
-            s.sound,
-        refl,
-      ),
+      (refl, lent-moved eq laws test tells m new n e.found (length (entries_of m)) _ last below s.moved s.sound, refl),
       record {
         lends = tt;
-        value = sym (moved-value eq laws test tells m new n e.found (length (entries_of m)) _ (guard-number m) (le_refl (length m.nodes))
+        value = sym (moved-value eq laws test tells m new n e.found (length (entries_of m)) _ last below
             s.moved s.sound c.value_mut.result.now c.value_mut.ensures.value e.sound.distinct);
         distinct = e.sound.distinct;
       },

@@ -1,7 +1,7 @@
 -- `current` lends the pair at its place, where there is one, and the cursor follows it.
 use Rattle.hashlink_map.specs.contracts.cursor.methods.CursorMut+K+V+S.current as f
 use Rattle.hashlink_map.proofs.CursorPairs.{Cursor, at_place}
-use Rattle.hashlink_map.proofs.StepAndLend.{steps_and_lends}
+use Rattle.hashlink_map.proofs.LendAtPlace.{steps_and_lends}
 use Rattle.hashlink_map.proofs.cursor.methods.CursorMut+K+V+S.with_place.Met as step
 use Rattle.hashlink_map.proofs.cursor.methods.CursorMut+K+V+S.pair_at.Met as lent
 use Rattle.hashlink_map.proofs.cursor.methods.CursorMut+K+V+S.current.Statement.{statement}
@@ -9,7 +9,7 @@ use Rattle.hashlink_map.proofs.cursor.methods.CursorMut+K+V+S.current.Code as co
 
 pub current_spec : {M : Type 1} → statement M
 current_spec 𝓤 𝓛 𝓜 𝓡 wired K V S T LK LV LS LT e de p dp h dh b db w dw dd me mp mh mb mw md =
-    steps_and_lends 𝓤 𝓛 𝓜 𝓡 K V S T LK LV (Cursor K V S T LK LV p h b w)
+    steps_and_lends 𝓤 𝓛 𝓜 𝓡 K V S T LK LV (Cursor K V S T LK LV p h b w) _
     (at_place K V S T LK LV p h b w 𝓛 (λ c. c.place))
     (f.signature K V S T e de p dp h dh b db w dw dd).outlives _
     (step.met 𝓤 𝓛 𝓜 𝓡 (code.calls-hashlink_map::cursor::methods::CursorMut+K+V+S::with_place 𝓡.env wired)

@@ -2,7 +2,7 @@
 use Rattle.hashlink_model.specs.Cursor.{place_next}
 use Rattle.hashlink_map.specs.contracts.cursor.methods.CursorMut+K+V+S.peek_next as f
 use Rattle.hashlink_map.proofs.CursorPairs.{Cursor, at_place}
-use Rattle.hashlink_map.proofs.StepAndLend.{steps_and_lends}
+use Rattle.hashlink_map.proofs.LendAtPlace.{steps_and_lends}
 use Rattle.hashlink_map.proofs.cursor.methods.CursorMut+K+V+S.with_next.Met as step
 use Rattle.hashlink_map.proofs.cursor.methods.CursorMut+K+V+S.pair_at.Met as lent
 use Rattle.hashlink_map.proofs.cursor.methods.CursorMut+K+V+S.peek_next.Statement.{statement}
@@ -10,7 +10,7 @@ use Rattle.hashlink_map.proofs.cursor.methods.CursorMut+K+V+S.peek_next.Code as 
 
 pub peek_next_spec : {M : Type 1} → statement M
 peek_next_spec 𝓤 𝓛 𝓜 𝓡 wired K V S T LK LV LS LT e de p dp h dh b db w dw dd me mp mh mb mw md =
-    steps_and_lends 𝓤 𝓛 𝓜 𝓡 K V S T LK LV (Cursor K V S T LK LV p h b w)
+    steps_and_lends 𝓤 𝓛 𝓜 𝓡 K V S T LK LV (Cursor K V S T LK LV p h b w) _
     (at_place K V S T LK LV p h b w 𝓛 place_next)
     (f.signature K V S T e de p dp h dh b db w dw dd).outlives _
     (step.met 𝓤 𝓛 𝓜 𝓡 (code.calls-hashlink_map::cursor::methods::CursorMut+K+V+S::with_next 𝓡.env wired)
