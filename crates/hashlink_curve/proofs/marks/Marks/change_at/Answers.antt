@@ -1,4 +1,4 @@
-use Rattle.hashlink_curve.proofs.Names.{◌≡◌, ℕ, List, ap, get_or, length, ◌+◌, ◌-◌, ◌∙◌, ◌≤◌, ◌<◌, arith, All}
+use Rattle.hashlink_curve.proofs.Names.{◌≡◌, ℕ, List, ap, get_or, length, ◌+◌, ◌∙◌, ◌≤◌, ◌<◌, arith, All}
 use Rattle.hashlink_curve.proofs.Names.{get_or_default_zero, rows_of}
 use Rattle.std.proofs.lemmas.List.Elements.{All-get_or}
 use Rattle.hashlink_curve.proofs.Sums.{AreSummed-can_change, AreSummed-changed}
