@@ -10,7 +10,7 @@ use Rattle.hashlink_curve.proofs.Names.{GoesLast}
 use Rattle.std.proofs.Common.{Option, true≢false}
 use Rattle.std.specs.Set.{remove_key, distinct_count}
 use Rattle.std.proofs.Math.Path.{fun_ext}
-use Rattle.std.proofs.lemmas.List.{append-nil, drop_all}
+use Rattle.std.proofs.lemmas.List.{append-nil}
 use Rattle.std.proofs.lemmas.List.Folds.{list_any-append}
 use Rattle.std.proofs.lemmas.List.Sums.{sum_by-take-drop}
 use Rattle.hashlink_history.specs.History.{cache_misses}
@@ -70,11 +70,15 @@ pub sum-drop-more : (c d : ℕ) (ns : List ℕ) → d < length ns
 sum-drop-more c d ns l =
     let new = set ns d (get_or ns d 0 + 1) in
     let before = sum-set-before ns d (get_or ns d 0 + 1) c in
-    grind (arith, nat_tests, sum-set-after ns d (get_or ns d 0 + 1) c l, before, sum-take-drop new c,
-        sum-take-drop ns c, sum-one-more ns d l)
-
-pub sum-drop-all : (c : ℕ) (ns : List ℕ) → length ns ≤ c → sum (drop c ns) ≡ 0
-sum-drop-all c ns l = ap sum (drop_all c ns l)
+    grind (
+      arith,
+      nat_tests,
+      sum-set-after ns d (get_or ns d 0 + 1) c l,
+      before,
+      sum-take-drop new c,
+      sum-take-drop ns c,
+      sum-one-more ns d l,
+    )
 
 pub sum-drop-falls : (c d : ℕ) (ns : List ℕ) → c ≤ d → sum (drop d ns) ≤ sum (drop c ns)
 sum-drop-falls c d ns l = omega (arith, sum-take-le ns c d l, sum-take-drop ns c, sum-take-drop ns d)
@@ -236,10 +240,6 @@ module _ {K : Type 0} (eq : K → K → Bool) (laws : IsEquivalence eq) where
 
       distance_by_test : List K → (K → Bool) → Option ℕ
       distance_by_test used e = cond (list_any e used) (Some (distinct_count eq (after_last e used))) None
-
-  pub Counted-distinct : (used : List K) (s : CurveState K) → Counted eq used s
-      → length s.keys ≡ distinct_count eq used
-  Counted-distinct used s h = zip_length _ s.keys (unique_keys eq used) h.keys
 
   -- every use is a miss or a reuse
   pub Counted-accesses : (used : List K) (s : CurveState K) → Counted eq used s → misses_at s 0 ≡ length used

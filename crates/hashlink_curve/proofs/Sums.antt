@@ -2,7 +2,7 @@
 use Rattle.std.proofs.lemmas.Bool.{cases_lt}
 use Rattle.std.proofs.Common.{◌≡◌, ◌≢◌, ℕ, zero, suc, ◌+◌, ◌-◌, ◌*◌, ◌/◌, ◌^◌, ◌<◌, ◌≤◌, Bool, true, false}
 use Rattle.std.proofs.Common.{List, [], ◌∷◌, ◌++◌, length, take, drop, get_or, set, replicate, refl, sym, ap}
-use Rattle.std.proofs.Common.{ap₂, ◌∙◌, ◌⊎◌, inl, inr, arith, cond, subst, subst₂}
+use Rattle.std.proofs.Common.{◌∙◌, ◌⊎◌, inl, inr, arith, cond, subst, subst₂}
 use Rattle.std.specs.Prelude.{nat_eq, nat_lt, sum, slice_range, All, Vec}
 use Rattle.std.specs.List.{count_by}
 use Rattle.std.proofs.Math.Seq.{take-set-lt, take-add}
@@ -13,8 +13,7 @@ use Rattle.std.proofs.lemmas.List.Sums.{get_or-le-sum_by, sum_by-le}
 use Rattle.std.proofs.lemmas.List.Elements.{All-set, All-replicate}
 use Rattle.std.proofs.lemmas.List.Folds.{sum_by-replicate}
 use Rattle.std.proofs.lemmas.Bool.Decides.{nat_tests}
-use Rattle.std.specs.Vec.{with_item}
-use Rattle.std.proofs.lemmas.Grind.{get_or_default_zero, get_or-set_at}
+use Rattle.std.proofs.lemmas.Grind.{get_or-set_at}
 use Rattle.std.specs.declared.alloc.Global.{Global}
 use Rattle.hashlink_curve.specs.Marks.{Marked, HasSums, HasRows, AreSummed, rows_of, sum_before, HasNode}
 use Rattle.hashlink_curve.specs.Marks.{changed, CanChange}
@@ -241,12 +240,6 @@ module _ (row : List ℕ) (place : ℕ) (l : place < length row) (v : ℕ) where
           let no : nat_eq x place ≡ false = grind (arith, nat_tests) in
           omega (arith, rw no at (counts x), get_or-set_other row place x v 0 d)
 
-  pub Marked-more : v ≡ get_or row place 0 + 1 → (xs ys : List ℕ) → Marked row (xs ++ ys)
-      → Marked (set row place v) (xs ++ place ∷ ys)
-  Marked-more is xs ys m =
-      Marked-changed 0 1 (omega arith) (xs ++ ys) (xs ++ place ∷ ys)
-      (λ x. omega (arith, count_by-middle (nat_eq x) xs place ys, zero_either (nat_eq x place))) m
-
   pub Marked-less : v + 1 ≡ get_or row place 0 → (xs ys : List ℕ) → Marked row (xs ++ place ∷ ys)
       → Marked (set row place v) (xs ++ ys)
   Marked-less is xs ys m =
@@ -270,19 +263,6 @@ length-changed : (node less more : ℕ) (rows : List (List ℕ))
     → length (changed node less more rows) ≡ length rows
 length-changed node less more [] = refl
 length-changed node less more (row ∷ above) = ap suc (length-changed (node / 64) less more above)
-
--- the first row was changed, and then those above
-pub change-step : (first above now : List (Vec ℕ Global)) (v : Vec ℕ Global) (node less more x : ℕ)
-    → length first ≡ 1 → x ≡ get_or (get_or first 0 v).items node x
-    → CanChange node less more (rows_of (first ++ above))
-    → rows_of now ≡ changed (node / 64) less more (rows_of above)
-    → rows_of (set first 0 (with_item (get_or first 0 v) node (x - less + more)) ++ now)
-    ≡ changed node less more (rows_of (first ++ above))
-change-step [] above now v node less more x one read can c = absurd (omega arith)
-change-step (f ∷ g ∷ more_rows) above now v node less more x one read can c = absurd (omega arith)
-change-step (f ∷ []) above now v node less more x one read can c =
-    let zero = read ∙ get_or_default_zero f.items node x can.0 in
-    ap₂ (λ (r : List ℕ) rs. r ∷ rs) (ap (λ n. set f.items node (n - less + more)) zero) c
 
 -- what is read, of what was lent, to count the marks before a place
 pub record Read (row lent : List ℕ) (lents : List (Vec ℕ Global)) (x : ℕ) : Type 0 where

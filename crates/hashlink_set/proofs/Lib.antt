@@ -9,4 +9,3 @@ pub mod Moved
 pub mod OfClones
 pub mod Retaining
 pub mod Stored
-pub mod Taking

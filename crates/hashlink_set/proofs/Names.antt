@@ -7,7 +7,7 @@ pub use Rattle.hashlink_model.proofs.LazyWalks.{left_to_give-at_most}
 pub use Rattle.hashlink_model.proofs.SetElements.{set_inserts, set_replaces}
 pub use Rattle.hashlink_model.specs.Algebra.{at_most_both, first_passing}
 pub use Rattle.hashlink_model.specs.Compare.{elements_eq}
-pub use Rattle.hashlink_model.specs.Many.{AcceptsAll, MadeFrom}
+pub use Rattle.hashlink_model.specs.Many.{AcceptsAll}
 pub use Rattle.hashlink_model.specs.MapState.{Grows}
 pub use Rattle.hashlink_model.specs.Retain.{RetainsInOrder}
 pub use Rattle.hashlink_model.specs.Sets.{GetsOrInserts, SetInserts, SetReplaces, SetState, elements_of}

@@ -1,15 +1,15 @@
 -- What a set is that was made of clones of distinct elements.
 use Rattle.hashlink_set.proofs.Names.{◌≡◌, Bool, true, cond, List, [], ◌∷◌, ◌++◌, Option, None, Some, map, ap}
 use Rattle.hashlink_set.proofs.Names.{Result, Ok, Err, subst, sym, ◌∙◌, IfOk, Bor, IsEquivalence, AllZip}
-use Rattle.hashlink_set.proofs.Names.{keys_of, TakesFirst, deref, elements_eq, AcceptsAll, MadeFrom, SetState}
+use Rattle.hashlink_set.proofs.Names.{keys_of, TakesFirst, deref, elements_eq, AcceptsAll, SetState}
 use Rattle.hashlink_set.proofs.Names.{elements_of, SetInserts}
+use Rattle.hashlink_model.specs.Many.{MadeFrom, InsertsPair}
 use Rattle.std.proofs.Common.{append-nil}
 use Rattle.std.specs.Prelude.{OnErr, MatchResult}
 use Rattle.std.proofs.lemmas.List.Elements.{same_from_all_zip}
 use Rattle.std.specs.Iterator.{Yields, Drains}
 use Rattle.std.specs.List.{IsDistinct}
 use Rattle.hashlink_model.specs.Entries.{extended}
-use Rattle.hashlink_model.specs.Many.{InsertsPair}
 use Rattle.hashlink_model.specs.MapState.{empty_map}
 use Rattle.hashlink_model.specs.Sets.{pairs_of}
 use Rattle.hashlink_model.proofs.InTurn.{accepts_entries}

@@ -1,6 +1,5 @@
-use Rattle.hashlink_curve.proofs.Names.{◌≡◌, ◌≤◌, ◌+◌, length, ap, ◌∙◌, arith, sum, drop, CurveState}
-use Rattle.hashlink_curve.proofs.Names.{misses_at}
-use Rattle.hashlink_curve.proofs.Histories.{sum-drop-all, sum-drop-falls}
+use Rattle.hashlink_curve.proofs.Names.{◌≡◌, ◌≤◌, ◌+◌, length, ap, arith, sum, drop, CurveState, misses_at}
+use Rattle.hashlink_curve.proofs.Histories.{sum-drop-falls}
 use Rattle.hashlink_curve.proofs.curve.MissCurve.misses.Goals as goal
 
 pub sum_from-requires : goal.sum_from-requires
@@ -17,26 +16,11 @@ overflow_add-result g c =
     = sum-drop-falls 0 c.args.capacity c.self.inside.reuses.items (omega arith) in
     omega arith
 
-pub returns : goal.returns
-returns g c =
-    let keys = c.self.inside.recency in
+pub returns-clause-falls : goal.returns-clause-falls
+returns-clause-falls g c n l =
     let reuses = c.self.inside.reuses.items in
-    let v = c.self.view_is in
     let same = ap (λ ns. sum (drop c.args.capacity ns)) c.deref.ensures.value in
-    let inner : c.len.result + c.sum_from.result ≡ length keys + sum (drop c.args.capacity reuses) =
-    omega arith in
-    let exact : c.len.result + c.sum_from.result ≡ misses_at c.args.self.now c.args.capacity
-    = inner ∙ ap (λ (s : CurveState g.row.K.Denot). misses_at s c.args.capacity) v in
-    record {
-      counted = λ used h. exact ∙ h.misses c.args.capacity;
-      exact = exact;
-      falls = λ n l.
-          let f = sum-drop-falls n c.args.capacity reuses l in
-          let e : length keys + sum (drop n reuses) ≡ misses_at c.args.self.now n
-          = ap (λ (s : CurveState g.row.K.Denot). misses_at s n) v in
-          omega arith;
-      floor = λ l.
-          let e : length keys ≡ length c.args.self.now.keys
-          = ap (λ (s : CurveState g.row.K.Denot). length s.keys) v in
-          omega (arith, sum-drop-all c.args.capacity reuses (omega arith));
-    }
+    let less = sum-drop-falls n c.args.capacity reuses l in
+    let view : length c.self.inside.recency + sum (drop n reuses) ≡ misses_at c.args.self.now n
+    = ap (λ (s : CurveState g.row.K.Denot). misses_at s n) c.self.view_is in
+    omega arith

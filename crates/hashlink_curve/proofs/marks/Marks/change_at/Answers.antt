@@ -1,5 +1,5 @@
-use Rattle.hashlink_curve.proofs.Names.{◌≡◌, ℕ, List, ap, ap₂, get_or, length, set, ◌+◌, ◌-◌, ◌∙◌, ◌≤◌, ◌<◌}
-use Rattle.hashlink_curve.proofs.Names.{arith, All, get_or_default_zero, rows_of}
+use Rattle.hashlink_curve.proofs.Names.{◌≡◌, ℕ, List, ap, get_or, length, ◌+◌, ◌∙◌, ◌≤◌, ◌<◌, arith, All}
+use Rattle.hashlink_curve.proofs.Names.{get_or_default_zero, rows_of}
 use Rattle.std.proofs.lemmas.List.Elements.{All-get_or}
 use Rattle.hashlink_curve.proofs.Sums.{AreSummed-can_change, AreSummed-changed}
 use Rattle.hashlink_curve.proofs.marks.Marks.change_at.Goals as goal
@@ -35,12 +35,3 @@ invariant_of-self c =
     AreSummed-changed row c.self.inside.sums.items c.change.new.rows c.args.place c.args.less c.args.more _
     c.self.inside.sums.len c.self.invariant (omega (arith, c.deref_mut.ensures.len)) w.0 w.1 (omega arith)
     (omega arith) (rw (c.from.ensures, c.from-2.ensures, c.deref_mut.ensures.value) at c.change.ensures)
-
-pub returns-clause-changed : goal.returns-clause-changed
-returns-clause-changed c =
-    let row = c.self.inside.row.items in
-    let w = within row c.args.self.now c.args.place c.args.less c.args.more c.self.view_is c.requires.within
-    c.requires.enough c.requires.one c.self.invariant.one in
-    let read = c.index.ensures ∙ get_or_default_zero row c.args.place c.index.result.now w.0 in
-    ap₂ (λ r n. set r c.args.place (n - c.args.less + c.args.more)) c.self.view_is
-    (read ∙ ap (λ r. get_or r c.args.place 0) c.self.view_is)

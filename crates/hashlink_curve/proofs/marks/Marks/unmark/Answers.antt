@@ -1,4 +1,4 @@
-use Rattle.hashlink_curve.proofs.Names.{◌-◌, ◌++◌, sym, subst, arith, Marked}
+use Rattle.hashlink_curve.proofs.Names.{◌++◌, sym, subst, arith, Marked}
 use Rattle.hashlink_curve.proofs.Sums.{Marked-less}
 use Rattle.hashlink_curve.proofs.marks.Marks.unmark.Goals as goal
 

@@ -40,11 +40,6 @@ mark-requires-in-Ok-None-clause-unmarked g c =
     free_at (entries_of c.free_place.new.places) c.free_place.new.next c.free_place.new.marks p.rises p.marked
     (search rules)
 
-pub overflow_add-self : goal.overflow_add-self
-overflow_add-self g c =
-    let free : c.free_place.new.next < length c.free_place.new.marks = search rules in
-    omega arith
-
 pub invariant_of-self-in-Ok-Some : goal.invariant_of-self-in-Ok-Some
 invariant_of-self-in-Ok-Some g c =
     let f = was g (goal.at.invariant_of-self-in-Ok-Some g c).In-Ok-Some in
@@ -53,11 +48,6 @@ invariant_of-self-in-Ok-Some g c =
     found_placed g.K.PartialEq.eq g.met.K.Eq.laws _ _ _ _ _ c.free_place.ensures.placed f _
     c.unmark.ensures.unmarked _ _ puts.puts.entries c.insert.ensures.distinct c.mark.ensures.marked
     (omega arith)
-
-pub overflow_add-self-in-Ok-None : goal.overflow_add-self-in-Ok-None
-overflow_add-self-in-Ok-None g c =
-    let free : c.free_place.new.next < length c.free_place.new.marks = search rules in
-    omega arith
 
 pub invariant_of-self-in-Ok-None : goal.invariant_of-self-in-Ok-None
 invariant_of-self-in-Ok-None g c =

@@ -34,11 +34,6 @@ overflow_sub-others-2 g c =
     let f = was g (goal.at.overflow_sub-others-2 g c).In-Some in
     omega (arith, c.before-2.ensures _ c.free_place.ensures.placed.marked ∙ f.before, f.long)
 
-pub overflow_sub-others : goal.overflow_sub-others
-overflow_sub-others g c =
-    let f = was g (goal.at.overflow_sub-others g c).In-Some in
-    omega (arith, c.before-2.ensures _ c.free_place.ensures.placed.marked ∙ f.before, f.long)
-
 pub unmark-requires : goal.unmark-requires
 unmark-requires g c =
     let f = was g (goal.at.unmark-requires g c).In-Some in
@@ -50,11 +45,6 @@ mark-requires-clause-unmarked g c =
     let free : c.free_place.new.next < length c.free_place.new.marks = search rules in
     found_free g.K.PartialEq.eq g.met.K.Eq.laws _ _ _ _ _ c.free_place.ensures.placed f c.unmark.new.self
     c.unmark.ensures.unmarked (omega arith)
-
-pub overflow_add-self : goal.overflow_add-self
-overflow_add-self g c =
-    let free : c.free_place.new.next < length c.free_place.new.marks = search rules in
-    omega arith
 
 pub invariant_of-self-2 : goal.invariant_of-self-2
 invariant_of-self-2 g c =

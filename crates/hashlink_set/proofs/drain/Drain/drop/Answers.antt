@@ -1,8 +1,11 @@
-use Rattle.std.proofs.Common.{rules, false, subst}
+use Rattle.std.proofs.Common.{◌≡◌, false, List, [], ◌∷◌, filter, refl, rules, false, subst}
 use Rattle.hashlink_model.proofs.Filtered.{retained_by_predicate}
 use Rattle.hashlink_model.specs.Steps.{KeepsOnly}
-use Rattle.hashlink_set.proofs.Taking.{none_passes}
 use Rattle.hashlink_set.proofs.drain.Drain.drop.Goals as goal
+
+none_passes : {X : Type 0} (xs : List X) → filter (λ x. false) xs ≡ []
+none_passes [] = refl
+none_passes (x ∷ xs) = none_passes xs
 
 pub returns : goal.returns
 returns g c =

@@ -23,7 +23,7 @@ use Rattle.hashlink_set.specs.SetLends.{EndsMade}
 use Rattle.hashlink_set.proofs.LentLast.{Asks, asked, ends_so, there_is_made, answers_made, is_lent, is_made}
 use Rattle.hashlink_set.proofs.LentLast.{lifetimes_left, shares_left, Left as TokensLeft, Aside, set_aside}
 use Rattle.hashlink_set.proofs.LentLast.{taken_back}
-use Rattle.hashlink_set.proofs.set.LinkedHashSet.get_or_insert_with.Statement.{statement}
+use Rattle.hashlink_set.proofs.set.LinkedHashSet.get_or_insert_with.Statement.{statement, statement}
 use Rattle.std.proofs.option.Option.TheLaws as option_laws
 use Rattle.std.proofs.result.Result.TheLaws as result_laws
 use Rattle.std.specs.contracts.option.Option as option
@@ -36,7 +36,6 @@ use Rattle.hashlink_set.specs.contracts.set.LinkedHashSet.lent_or_refused as ans
 use Rattle.hashlink_set.proofs.set.LinkedHashSet.put_or_make.Met as put
 use Rattle.hashlink_set.proofs.set.LinkedHashSet.last_for_good.Met as lent
 use Rattle.hashlink_set.proofs.set.LinkedHashSet.lent_or_refused.Met as answered
-use Rattle.hashlink_set.proofs.set.LinkedHashSet.get_or_insert_with.Statement.{statement}
 use Rattle.hashlink_set.proofs.set.LinkedHashSet.get_or_insert_with.Code as code
 
 pub get_or_insert_with_spec : {M : Type 1} → statement M
