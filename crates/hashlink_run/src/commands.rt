@@ -2,9 +2,11 @@
 ghost use Rattle.std.specs.Prelude.{◌≡◌, ◌+◌, ◌≤◌, ◌++◌, [], ◌∷◌, List, OnOk, OnErr, IsOk, Some};
 ghost use Rattle.std.specs.Prelude.{length, vec_len, vec_capacity};
 ghost use Rattle.std.specs.Map.{lookup, lookup_entry};
+ghost use Rattle.std.specs.Map.Calls.{CallableOnEachPair, CalledAtPair, TakesPair};
 ghost use Rattle.std.specs.Map.Iter.{deref_pair};
 ghost use Rattle.std.specs.Option.{option_map};
 ghost use Rattle.hashlink_core.specs.Keyed.{entries_of, state_of};
+ghost use Rattle.hashlink_model.specs.Retain.{RetainsInOrder};
 ghost use Rattle.hashlink_model.specs.Steps.{Moves};
 ghost use Rattle.hashlink_run.specs.Keeps.{IsEntryOf, KeepsWhere};
 ghost use Rattle.hashlink_run.specs.Reads.{CallableAt, CallableOn, ClosureSays, SaysOf};
@@ -242,13 +244,29 @@ where
     requires keep { CallableOn G.Fn keep.now (IsEntryOf (entries_of map.old)) }
     ensures { KeepsWhere (ClosureSays G.Fn keep.now) (state_of map.old) (state_of map.new) }
 {
-    map.retain(
+    retain_by(
+        map,
         |key, value|
-            requires keep { CallableAt G.Fn keep.now key.now value.old }
+            requires { CallableAt G.Fn keep.now key.now value.old }
             ensures says { ClosureSays G.Fn keep.entry.now key.now value.old result }
             ensures unchanged { (value.new ≡ value.old) × (keep.exit ≡ keep.entry) }
         { keep(key, value) },
     );
+}
+
+// Does what the map's `retain` does. That its condition has a name makes it a record, which is compared at
+// little cost where the closure is known.
+fn retain_by<K, V, S, F>(map: &mut LinkedHashMap<K, V, S>, keep: F)
+where
+    K: Eq + Hash + Drop,
+    V: Drop,
+    S: BuildHasher,
+    F: FnMut(&K, &mut V) -> bool,
+    requires callable { CallableOnEachPair (CalledAtPair F.FnMut) (TakesPair F.FnMut) keep
+        (entries_of map.old) }
+    ensures { (end : F) × RetainsInOrder (CalledAtPair F.FnMut) keep (state_of map.old) (state_of map.new) end }
+{
+    map.retain(keep);
 }
 
 /// Returns the reply to an insert that returned `answer`, in constant time.
