@@ -8,6 +8,7 @@ use Rattle.std.specs.Prelude.{All, IsSome, OnOk, insert, remove, slice_get, unwr
 use Rattle.std.specs.Prelude.{MatchResult, fold}
 use Rattle.std.specs.Option.{option_map_or, option_or}
 use Rattle.std.specs.Cmp.{IsEquivalence}
+use Rattle.std.specs.Iterator.{Yields, YieldsThen}
 use Rattle.std.specs.List.{AllPass, list_any}
 use Rattle.std.specs.List.Sorted.{IsNonDecreasingBy}
 use Rattle.std.specs.Map.{lookup, lookup_entry, keys_of, remove_entry, set_value}
@@ -27,6 +28,7 @@ use Rattle.std.proofs.lemmas.Option.{none-some, same_Some, slice_get-get_or}
 use Rattle.hashlink_model.specs.Cache.{CacheState, CacheInserts, IsWithin, cache_put}
 use Rattle.hashlink_model.specs.Entries.{IsEntries, place_left, place_of, place_without, place_or_end}
 use Rattle.hashlink_model.specs.Entries.{moved_at, moved_match, put, stored_key, without}
+use Rattle.hashlink_model.specs.Many.{AcceptsAll, StopsAt}
 use Rattle.hashlink_model.specs.MapState.{MapState, Inserts}
 use Rattle.hashlink_model.specs.Retain.{KeepsInOrder, RetainsInOrder}
 use Rattle.hashlink_model.specs.Sets.{SetState, SetInserts, at_element, elements_of, pairs_of}
@@ -44,6 +46,8 @@ use Rattle.hashlink_lru.specs.Evicted.{evicted_by}
 use Rattle.hashlink_lru.proofs.Evicting.{long, named, named_first, unnamed}
 use Rattle.hashlink_map.proofs.Outcomes.{inserts_entries}
 use Rattle.hashlink_core.proofs.AtKeyNode.{is_some-map}
+use Rattle.hashlink_core.proofs.InTurn.{stops_before}
+use Rattle.hashlink_map.proofs.Taken.{taken_all, taken_front}
 use Rattle.hashlink_model.proofs.Distinct.{IsEntries-middle, IsEntries-insert}
 use Rattle.hashlink_model.proofs.Finds.{lookup_is}
 use Rattle.hashlink_model.proofs.Puts.{none_without}
@@ -455,6 +459,21 @@ module _ {K V : Type 0} (eq : K → K → Bool) (laws : IsEquivalence eq) (q : K
             let none = ap (λ o. cond (eq e.0 q) None o) (sym (ap (lookup (eq q)) whole) ∙ found) in
             ap (λ m. lookup (eq q) (drop m zs)) one ∙ behind ∙ none
             ∙ grind (arith, other, laws.congr k q e.0, laws.symm q e.0)
+
+-- ---- what came out of a container that is given by value, or of its iterator
+
+module _ {X State A : Type 0} (step : State → State → X → Result A X → Type 0) (es : List X) (old new : State) where
+  -- goal: an `extend` or a `from_iter` took all of it
+  pub extended_by_all : (it items rest : List X) × (it ≡ es) × YieldsThen (TakesFirst (λ x. x)) it items None rest
+      × AcceptsAll step old items new → AcceptsAll step old es new
+  extended_by_all h = subst (λ xs. AcceptsAll step old xs new) (sym (taken_all h.0 h.1 h.2 h.4) ∙ h.3) h.5
+
+  -- goal: an `extend` took some of it, and one item was refused
+  pub extended_until : (taken : ℕ) (back : X) (items left : List X) → Yields (TakesFirst (λ x. x)) es items left
+      → StopsAt step old items new taken back [] → StopsAt step old es new taken back left
+  extended_until taken back items left y stops =
+      subst (λ xs. StopsAt step old xs new taken back left) (sym (taken_front es items left y))
+      (stops_before step old new items left taken back stops)
 
 -- ---- a retain whose closure captures: `Holds` says what it holds to, as which time it compares with
 

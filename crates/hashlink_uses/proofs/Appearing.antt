@@ -1,5 +1,5 @@
 -- Items that go to those that were seen, one after another, where they appear first.
-use Rattle.std.proofs.Common.{◌≡◌, Bool, true, false, cond, ◌||◌, List, [], ◌∷◌, ◌++◌, ap, map, refl, ◌∙◌}
+use Rattle.std.proofs.Common.{◌≡◌, Bool, true, false, cond, ◌||◌, List, [], ◌∷◌, ◌++◌, ap, map, refl, arith}
 use Rattle.std.proofs.Common.{append_assoc}
 use Rattle.std.specs.List.{list_any}
 use Rattle.std.specs.Set.{is_member}
@@ -10,13 +10,7 @@ module _ {X : Type 0} (eq : X → X → Bool) where
   pub appears : (seen : List X) (x : X) (xs : List X)
       → (let now = cond (is_member eq seen x) seen (seen ++ x ∷ []) in now ++ first_appearances eq now xs)
       ≡ seen ++ first_appearances eq seen (x ∷ xs)
-  appears seen x xs = by (is_member eq seen x)
-    where
-      by : (b : Bool)
-          → (let now = cond b seen (seen ++ x ∷ []) in now ++ first_appearances eq now xs)
-          ≡ seen ++ cond b (first_appearances eq seen xs) (x ∷ first_appearances eq (seen ++ x ∷ []) xs)
-      by true = refl
-      by false = append_assoc seen (x ∷ []) _
+  appears seen x xs = grind (arith, append_assoc seen (x ∷ []))
 
 -- the same of what is seen of each item
 module _ {X Y : Type 0} (eq : X → X → Bool) (f : Y → X) where
@@ -24,16 +18,14 @@ module _ {X Y : Type 0} (eq : X → X → Bool) (f : Y → X) where
   any-map y [] = refl
   any-map y (z ∷ ys) = ap (λ b. eq (f y) (f z) || b) (any-map y ys)
 
-  map-either : (b : Bool) (y : Y) (us vs : List Y)
-      → map f (cond b us (y ∷ vs)) ≡ cond b (map f us) (f y ∷ map f vs)
-  map-either true y us vs = refl
-  map-either false y us vs = refl
-
   pub map-appearances : (seen ys : List Y) → map f (first_appearances (λ a b. eq (f a) (f b)) seen ys)
       ≡ first_appearances eq (map f seen) (map f ys)
   map-appearances seen [] = refl
   map-appearances seen (y ∷ ys) =
-      let next = map-appearances (seen ++ y ∷ []) ys
-      ∙ ap (λ zs. first_appearances eq zs (map f ys)) (map_push f seen y) in
-      map-either (list_any (λ z. eq (f y) (f z)) seen) y _ _
-      ∙ (λ i. cond (any-map y seen i) (map-appearances seen ys i) (f y ∷ next i))
+      grind (
+        arith,
+        any-map y seen,
+        map_push f seen y,
+        map-appearances seen ys,
+        map-appearances (seen ++ y ∷ []) ys,
+      )

@@ -16,23 +16,13 @@ module _ {X : Type 0} (passes : X → Bool) where
   without_first-cons : (p b : Bool) (n m : ℕ) (x y : X) (xs rest kept : List X) → passes x ≡ p
       → b ≡ not (p && nat_lt 0 n) → m + cond b 0 1 ≡ n → y ≡ x → kept ≡ cond b (y ∷ rest) rest
       → rest ≡ without_first passes m xs → kept ≡ without_first passes n (x ∷ xs)
-  without_first-cons true true zero m x y xs rest kept px answer count same is behind =
+  without_first-cons p b zero m x y xs rest kept px answer count same is behind =
       let none : m ≡ 0 = omega arith in
-      let there = behind ∙ ap (λ k. without_first passes k xs) none in
-      grind (arith, there)
-  without_first-cons true true (suc n) m x y xs rest kept px answer count same is behind = grind arith
-  without_first-cons true false zero m x y xs rest kept px answer count same is behind = grind arith
-  without_first-cons true false (suc n) m x y xs rest kept px answer count same is behind =
-      let less : m ≡ n = omega arith in
-      let there = behind ∙ ap (λ k. without_first passes k xs) less in
-      grind (arith, there)
-  without_first-cons false true n m x y xs rest kept px answer count same is behind =
-      passed_over n (let more : m ≡ n = omega arith in behind ∙ ap (λ k. without_first passes k xs) more)
-    where
-      passed_over : (n : ℕ) → rest ≡ without_first passes n xs → kept ≡ without_first passes n (x ∷ xs)
-      passed_over zero there = grind (arith, there)
-      passed_over (suc n) there = grind (arith, there)
-  without_first-cons false false n m x y xs rest kept px answer count same is behind = grind arith
+      grind (arith, without_first-none 0, ap (λ k. without_first passes k xs) none)
+  without_first-cons p b (suc n) m x y xs rest kept px answer count same is behind =
+      let less = λ (e : m ≡ n). ap (λ k. without_first passes k xs) e in
+      let more = λ (e : m ≡ suc n). ap (λ k. without_first passes k xs) e in
+      grind (arith, less, more)
 
 -- T says what a call does. It removes an entry that passes while its number is not zero, lowers the number by
 -- one for it, and writes no value. The number stands behind a reference whose name stays.
@@ -51,10 +41,7 @@ module _ {F K V N : Type 0} (T : F → K → V → Bool → V → F → Type 0) 
       → left f' + cond b 0 1 ≡ left f → kept ≡ cond b ((e.0, w) ∷ rest) rest
       → left f' + length rest ≡ left g + length es → left g ≤ left f'
       → (left f + length kept ≡ left g + length (e ∷ es)) × (left g ≤ left f)
-  counted_more f f' g e es kept rest true w count is more below =
-      let long = ap length is in (omega arith, omega arith)
-  counted_more f f' g e es kept rest false w count is more below =
-      let long = ap length is in (omega arith, omega arith)
+  counted_more f f' g e es kept rest b w count is more below = grind arith
 
   counts_down : (f : F) (es kept : List (K × V)) (g : F) → KeepsInOrder T f es kept g
       → CountsDown f es kept g
@@ -104,13 +91,4 @@ module _ {K V : Type 0} (passes : K → Bool) where
   without_first-keys zero es = refl
   without_first-keys (suc n) [] = refl
   without_first-keys (suc n) (e ∷ es) =
-      by (passes e.0) (without_first-keys n es) (without_first-keys (suc n) es)
-    where
-      by : (b : Bool)
-          → keys_of (without_first (λ d. passes d.0) n es) ≡ without_first passes n (keys_of es)
-          → keys_of (without_first (λ d. passes d.0) (suc n) es) ≡ without_first passes (suc n) (keys_of es)
-          → keys_of (cond b (without_first (λ d. passes d.0) n es)
-          (e ∷ without_first (λ d. passes d.0) (suc n) es))
-          ≡ cond b (without_first passes n (keys_of es)) (e.0 ∷ without_first passes (suc n) (keys_of es))
-      by true less more = less
-      by false less more = ap (λ ks. e.0 ∷ ks) more
+      grind (arith, without_first-keys n es, without_first-keys (suc n) es)

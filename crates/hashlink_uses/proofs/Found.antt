@@ -9,15 +9,9 @@ use Rattle.hashlink.specs.Entries.{place_of}
 use Rattle.hashlink.specs.Walk.{first_of}
 
 module _ {K V : Type 0} (test : K → Bool) where
-  found-head : (b : Bool) (e : K × V) (o : Option V) (p : Option ℕ) → is_some o ≡ is_some p
-      → is_some (cond b (Some e.1) o) ≡ is_some (cond b (Some 0) (option_map (λ j. j + 1) p))
-  found-head true e o p q = refl
-  found-head false e o None q = q
-  found-head false e o (Some j) q = q
-
   found-placed : (es : List (K × V)) → is_some (lookup test es) ≡ is_some (place_of test es)
   found-placed [] = refl
-  found-placed (e ∷ es) = found-head (test e.0) e (lookup test es) (place_of test es) (found-placed es)
+  found-placed (e ∷ es) = grind (arith, found-placed es)
 
   pub is-found : (es : List (K × V)) (j : ℕ) → place_of test es ≡ Some j → true ≡ is_some (lookup test es)
   is-found es j p = sym (found-placed es ∙ ap is_some p)
@@ -27,11 +21,7 @@ module _ {K V : Type 0} (test : K → Bool) where
 
   pub is-not-absent : (es : List (K × V)) (j : ℕ) → place_of test es ≡ Some j
       → false ≡ is_none (lookup test es)
-  is-not-absent es j p = not-none (lookup test es) (is-found es j p)
-    where
-      not-none : (o : Option V) → true ≡ is_some o → false ≡ is_none o
-      not-none None q = absurd (cc)
-      not-none (Some v) q = refl
+  is-not-absent es j p = grind (arith, is-found es j p)
 
 pub no-value-first : {K V : Type 0} (es : List (K × V)) → option_map (λ e. e.1) (slice_get es 0) ≡ None
     → es ≡ []

@@ -23,15 +23,6 @@ pub fn recall(sizes: &mut LruCache<u32, u64>, page: u32) -> Option<u64>
     sizes.get(&page).copied()
 }
 
-/// Adds one to the hits of a page, if they are counted.
-pub fn hit(hits: &mut LruCache<u32, u64>, page: u32)
-    ensures { (state_of hits.new).cap ≡ (state_of hits.old).cap }
-{
-    if let Some(count) = hits.get_mut(&page) {
-        *count = count.wrapping_add(1);
-    }
-}
-
 /// Removes a page, and returns it with its size. What is returned was in the cache.
 pub fn forget_entry(sizes: &mut LruCache<u32, u64>, page: u32) -> Option<(u32, u64)>
     ensures { IfSome result (Contains (entries_of sizes.old)) }
@@ -99,17 +90,6 @@ pub fn exchange<T: Eq + Hash, S: BuildHasher>(
     ensures handed_back { IfErr result (λ back. back ≡ word) }
 {
     words.replace(word)
-}
-
-/// Removes a word, and returns whether it was present.
-pub fn strike<T: Eq + Hash + Drop, S: BuildHasher>(
-    words: &mut LinkedHashSet<T, S>,
-    word: &T,
-) -> bool
-    ensures found { result ≡ list_any (T.eq word.now) (elements_of words.old) }
-    ensures elements { elements_of words.new ≡ remove_key (T.eq word.now) (elements_of words.old) }
-{
-    words.remove(word)
 }
 
 /// Removes the first word, and returns it.

@@ -32,7 +32,7 @@ pub trait Store<V> {
 }
 
 /// A page in the cache, and whether the store does not have it yet.
-#[derive(Clone, Copy, Drop)]
+#[derive(Drop)]
 pub struct Page<V> {
     value: V,
     is_changed: bool,

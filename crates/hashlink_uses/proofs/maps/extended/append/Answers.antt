@@ -1,30 +1,24 @@
-use Rattle.std.proofs.Common.{sym, subst, ◌∙◌}
+use Rattle.std.proofs.Common.{subst, ◌∙◌}
+use Rattle.std.specs.Iterator.{Yields}
+use Rattle.std.specs.Map.Iter.{TakesFirst}
 use Rattle.std.proofs.lemmas.Result.{on_ok_weaker, IfErr-weaker}
-use Rattle.hashlink.specs.Many.{AcceptsAll, StopsAt, InsertsPair}
 use Rattle.hashlink.specs.Keyed.{state_of}
-use Rattle.hashlink.proofs.MapInTurn.{stops_before}
-use Rattle.hashlink.proofs.Taken.{taken_all, taken_front}
+use Rattle.hashlink.specs.Many.{InsertsPair}
+use Rattle.hashlink.proofs.CallerLemmas.{extended_by_all, extended_until}
 use Rattle.hashlink_uses.proofs.maps.extended.append.Goals as goal
 
 pub returns-clause-all : goal.returns-clause-all
 returns-clause-all g c =
     on_ok_weaker c.extend.result
-    (λ h. subst
-    (λ items. AcceptsAll (InsertsPair g.K.PartialEq.eq) (state_of c.args.map.now) items
-    (state_of c.extend.new.self))
-    (sym (taken_all h.0 h.1 h.2 h.4) ∙ h.3) h.5)
+    (extended_by_all (InsertsPair g.K.PartialEq.eq) _ (state_of c.args.map.now) (state_of c.extend.new.self))
     c.extend.ensures.all
 
 pub returns-clause-stopped : goal.returns-clause-stopped
 returns-clause-stopped g c =
-    let step = InsertsPair {S = g.row.S.Denot} g.K.PartialEq.eq in
-    let old = state_of c.args.map.now in
-    let new = state_of c.extend.new.self in
     IfErr-weaker c.extend.result _ _
     (λ e h. (
       h.2,
-      subst (λ items. StopsAt step old items new e.taken e.pair h.2)
-          (sym (taken_front h.0 h.1 h.2 h.4) ∙ h.3)
-          (stops_before step old new h.1 h.2 e.taken e.pair h.5),
+      extended_until _ _ _ _ e.taken e.pair h.1 h.2
+          (subst (λ es. Yields (TakesFirst (λ x. x)) es h.1 h.2) h.3 h.4) h.5,
     ))
     c.extend.ensures.stopped

@@ -1,0 +1,7 @@
+use Rattle.std.proofs.Common.{rules}
+use Rattle.hashlink.specs.MapEntry.{occupied_place}
+use Rattle.hashlink_uses.proofs.maps.cursors.put_after.Goals as goal
+
+pub returns-in-Occupied-clause-inserts : goal.returns-in-Occupied-clause-inserts
+returns-in-Occupied-clause-inserts g c =
+    (occupied_place c.in-Occupied.entry, search rules, search rules)
