@@ -462,15 +462,18 @@ module _ {K V : Type 0} (eq : K → K → Bool) (laws : IsEquivalence eq) (q : K
 
 -- ---- what came out of a container that is given by value, or of its iterator
 
-module _ {X State A : Type 0} (step : State → State → X → Result A X → Type 0) (es : List X) (old new : State) where
+module _ {X State A : Type 0} (step : State → State → X → Result A X → Type 0) (es : List X)
+    (old new : State) where
   -- goal: an `extend` or a `from_iter` took all of it
-  pub extended_by_all : (it items rest : List X) × (it ≡ es) × YieldsThen (TakesFirst (λ x. x)) it items None rest
-      × AcceptsAll step old items new → AcceptsAll step old es new
+  pub extended_by_all : (it items rest : List X) × (it ≡ es)
+      × YieldsThen (TakesFirst (λ x. x)) it items None rest × AcceptsAll step old items new
+      → AcceptsAll step old es new
   extended_by_all h = subst (λ xs. AcceptsAll step old xs new) (sym (taken_all h.0 h.1 h.2 h.4) ∙ h.3) h.5
 
   -- goal: an `extend` took some of it, and one item was refused
-  pub extended_until : (taken : ℕ) (back : X) (items left : List X) → Yields (TakesFirst (λ x. x)) es items left
-      → StopsAt step old items new taken back [] → StopsAt step old es new taken back left
+  pub extended_until : (taken : ℕ) (back : X) (items left : List X)
+      → Yields (TakesFirst (λ x. x)) es items left → StopsAt step old items new taken back []
+      → StopsAt step old es new taken back left
   extended_until taken back items left y stops =
       subst (λ xs. StopsAt step old xs new taken back left) (sym (taken_front es items left y))
       (stops_before step old new items left taken back stops)

@@ -1,5 +1,5 @@
 -- Items that go to those that were seen, one after another, where they appear first.
-use Rattle.std.proofs.Common.{◌≡◌, Bool, true, false, cond, ◌||◌, List, [], ◌∷◌, ◌++◌, ap, map, refl, arith}
+use Rattle.std.proofs.Common.{◌≡◌, Bool, cond, ◌||◌, List, [], ◌∷◌, ◌++◌, ap, map, refl, arith}
 use Rattle.std.proofs.Common.{append_assoc}
 use Rattle.std.specs.List.{list_any}
 use Rattle.std.specs.Set.{is_member}

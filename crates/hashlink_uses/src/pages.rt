@@ -131,8 +131,8 @@ impl<V: Copy, T: Store<V>> PageCache<V, T> {
         self.pages.get(&number).map(|page| page.value)
     }
 
-    /// Puts a page into the cache. If another has to leave for it, the store takes that one first. A page that
-    /// is not changed has to be as it is stored, and not in the cache.
+    /// Puts a page into the cache. If another has to leave for it, the store takes that one first. A page
+    /// that is not changed has to be as it is stored, and not in the cache.
     fn keep(&mut self, number: u64, page: Page<V>) -> Result<(), PageError<T::Error>>
         requires stored { page.is_changed ≡ false → (lookup (nat_eq number) self.old.held ≡ None)
             × (page.value ≡ T.page self.old.store number) }

@@ -1,4 +1,4 @@
-use Rattle.std.proofs.Common.{arith, rules}
+use Rattle.std.proofs.Common.{rules}
 use Rattle.hashlink.specs.Keyed.{entries_of}
 use Rattle.hashlink.specs.MapEntry.{occupied_place}
 use Rattle.hashlink_uses.proofs.Found.{is-not-absent}
@@ -9,6 +9,3 @@ returns-in-Occupied-clause-added g c =
     is-not-absent (g.K.PartialEq.eq c.args.key) (entries_of c.args.map.now)
     (occupied_place c.in-Occupied.entry)
     (search rules)
-
-pub returns-in_err-insert-in-Vacant-clause-new : goal.returns-in_err-insert-in-Vacant-clause-new
-returns-in_err-insert-in-Vacant-clause-new g c ok = absurd (grind arith)
