@@ -1,5 +1,4 @@
 -- What the contracts of the map cite, beside `hashlink_model`.
-pub mod Bounds
 pub mod Cloning
 pub mod Compared
 pub mod Cursor
@@ -13,6 +12,7 @@ pub mod InsertLends
 pub mod IterMut
 pub mod IterMutLends
 pub mod Lends
+pub mod Names
 pub mod RawEntry
 pub mod RawLends
 pub mod Reading
