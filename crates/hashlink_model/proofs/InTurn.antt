@@ -17,7 +17,8 @@ module _ {K V S : Type 0} (eq : K → K → Bool) where
       → AcceptsAll (InsertsPair eq) old items new → new.entries ≡ extended eq old.entries items
   accepts_entries old new [] s = ap (λ m. m.entries) s
   accepts_entries old new (p ∷ items) s =
-      accepts_entries s.0 new items s.3 ∙ ap (λ es. extended eq es items) (put_entries eq old s.0 p.0 p.1 s.1 s.2)
+      accepts_entries s.0 new items s.3
+      ∙ ap (λ es. extended eq es items) (put_entries eq old s.0 p.0 p.1 s.1 s.2)
 
   -- each item uses one spare node at most
   spare_inserted : (old new : MapState K V S) (p : K × V) (w : Option V) → InsertsPair eq old new p (Ok w)

@@ -94,8 +94,9 @@ module _ {K V : Type 0} (eq : K → K → Bool) (laws : IsEquivalence eq) where
       (IsPermutation-map (λ x. x.0) es r.order r.each_once) d in
       r.entries ∙ ap (in_order_of eq es) (keeps_in_order_is_filter T p says f r.order r.kept h r.called)
       ∙ in_order_by p (filter p r.order) es
-      (each-weaker _ _ (λ x c. lookup_filtered p r.order x apart (Contains-permutation es r.order x r.each_once c))
-      es (recursion_from_All (Contains es) es (All-contains_itself es)))
+      (each-weaker _ _
+      (λ x c. lookup_filtered p r.order x apart (Contains-permutation es r.order x r.each_once c)) es
+      (recursion_from_All (Contains es) es (All-contains_itself es)))
 
 module _ {F K V : Type 0} (T : F → K → V → Bool → V → F → Type 0) where
   -- no key comes in
