@@ -218,7 +218,7 @@ module _ {K : Type 0} (eq : K → K → Bool) (laws : IsEquivalence eq) where
   start_ranks : (h c : ℕ) → h ≤ c → ranks (padded_eq eq) 0 (padding K h) (padding K c) ≤ triangle (c - h)
   start_ranks h c l =
       let n = c - h in
-      let back : c - n ≡ h = (let same : c - (c - h) ≡ h = omega arith in same) in
+      let back : c - (c - h) ≡ h = omega arith in
       let rest : drop n (padding K c) ≡ padding K h = drop_padding eq n c ∙ ap (padding K) back in
       let split : take n (padding K c) ++ padding K h ≡ padding K c
       = ap (λ zs. take n (padding K c) ++ zs) (sym rest) ∙ take-append-drop n (padding K c) in

@@ -1,7 +1,7 @@
 -- A smaller cache's entries stay an end of a larger one's, whatever both are given.
-use Rattle.std.proofs.Common.{◌≡◌, ℕ, zero, suc, ◌+◌, ◌-◌, ◌≤◌, ◌<◌, Bool, true, false, cond, List, [], ◌∷◌}
-use Rattle.std.proofs.Common.{◌++◌, length, drop, is_some, Option, None, Some, refl, sym, ap, ◌∙◌}
-use Rattle.std.proofs.Common.{inl, inr, subst, subst₂, arith, append_assoc, lt_irrefl}
+use Rattle.std.proofs.Common.{◌≡◌, ℕ, zero, suc, ◌+◌, ◌-◌, ◌≤◌, ◌<◌, Bool, true, List, [], ◌∷◌, ◌++◌, length}
+use Rattle.std.proofs.Common.{drop, is_some, Option, None, Some, refl, sym, ap, ◌∙◌, inl, inr, subst, subst₂}
+use Rattle.std.proofs.Common.{arith, append_assoc, lt_irrefl}
 use Rattle.std.specs.Cmp.{IsEquivalence}
 use Rattle.std.specs.Option.{option_map_or}
 use Rattle.std.specs.List.{AllZip}
@@ -51,9 +51,7 @@ module _ {K V : Type 0} (eq : K → K → Bool) (laws : IsEquivalence eq) (R : K
   remove_alike k [] (y ∷ ys) z = absurd z
   remove_alike k (x ∷ xs) [] z = absurd z
   remove_alike k (x ∷ xs) (y ∷ ys) z =
-      rw (answers_alike eq laws k x.0 y.0 (equal x y z.0)) (elim (eq k y.0)
-      as (λ b. AllZip R (cond b xs (x ∷ without eq xs k)) (cond b ys (y ∷ without eq ys k)))
-      [ true ↦ z.1 | false ↦ (z.0, remove_alike k xs ys z.1) ])
+      grind (arith, answers_alike eq laws k x.0 y.0 (equal x y z.0), z, remove_alike k xs ys z.1)
 
   -- ---- one step of either
 

@@ -1,8 +1,8 @@
 -- A cache that always has c keys against a schedule of h places: the bound on its misses, from any two
 -- states.
 use Rattle.std.proofs.Common.{◌≡◌, ℕ, zero, suc, ◌+◌, ◌≤◌, ◌<◌, Bool, true, false, ◌||◌, cond, List, [], ◌∷◌}
-use Rattle.std.proofs.Common.{◌++◌, length, refl, sym, ap, ◌⊎◌, inl, inr, arith, true≢false}
-use Rattle.std.proofs.Common.{zero-le, not-suc-le-zero, le_of_suc-le-suc}
+use Rattle.std.proofs.Common.{◌++◌, length, refl, sym, ap, ◌⊎◌, inl, inr, arith, true≢false, zero-le}
+use Rattle.std.proofs.Common.{not-suc-le-zero, le_of_suc-le-suc}
 use Rattle.std.specs.Cmp.{IsEquivalence}
 use Rattle.std.specs.List.{AllByRecursion, IsDistinct}
 use Rattle.std.specs.Set.{is_member, remove_key}

@@ -1,9 +1,10 @@
 -- The keys of a history, each once, in the order of their last use; and that a cache of c places holds the
 -- last c of them.
-use Rattle.std.proofs.Common.{◌≡◌, ℕ, suc, ◌+◌, ◌-◌, ◌≤◌, ◌<◌, Bool, true, false, not, ◌&&◌, cond, List}
-use Rattle.std.proofs.Common.{[], ◌∷◌, ◌++◌, length, take, drop, nat_lt, refl, sym, ap, ap₂, ◌∙◌, ◌⊎◌, inl}
-use Rattle.std.proofs.Common.{inr, subst, arith, append_assoc, length-append, length-take, length-drop}
-use Rattle.std.proofs.Common.{take-append-drop, drop_at, lt-ltb, le-ltb, true≢false, min, get_or}
+use Rattle.std.proofs.lemmas.Slice.Zip.{AllZip-long}
+use Rattle.std.proofs.Common.{◌≡◌, ℕ, ◌+◌, ◌-◌, ◌≤◌, ◌<◌, Bool, true, false, not, ◌&&◌, cond, List, [], ◌∷◌}
+use Rattle.std.proofs.Common.{◌++◌, length, take, drop, nat_lt, refl, sym, ap, ap₂, ◌∙◌, ◌⊎◌, inl, inr, subst}
+use Rattle.std.proofs.Common.{arith, append_assoc, length-append, length-take, length-drop, take-append-drop}
+use Rattle.std.proofs.Common.{drop_at, lt-ltb, le-ltb, true≢false, min, get_or}
 use Rattle.std.specs.Cmp.{IsEquivalence}
 use Rattle.std.specs.List.{AllByRecursion, AllZip, IsDistinct, suffix_len, after_last}
 use Rattle.std.specs.Set.{is_member, unique_keys, remove_key, distinct_count}
@@ -35,10 +36,7 @@ module _ {A B : Type 0} (R : A → B → Type 0) where
   zip_drop_one (a ∷ xs) (b ∷ ys) z = z.1
 
   pub zip_length : (xs : List A) (ys : List B) → AllZip R xs ys → length xs ≡ length ys
-  zip_length [] [] z = refl
-  zip_length [] (b ∷ ys) z = absurd z
-  zip_length (a ∷ xs) [] z = absurd z
-  zip_length (a ∷ xs) (b ∷ ys) z = ap suc (zip_length xs ys z.1)
+  zip_length xs ys z = sym (AllZip-long R xs ys z)
 
 module _ {K : Type 0} (eq : K → K → Bool) (laws : IsEquivalence eq) where
   -- ---- the keys of a history, each once

@@ -1,8 +1,8 @@
 -- A cache of c places holds the last c keys that were used, and a key exactly while fewer than c others were
 -- used since.
-use Rattle.std.proofs.Common.{◌≡◌, ℕ, ◌-◌, Bool, true, false, ◌&&◌, cond, List, [], ◌∷◌, ◌++◌, length}
-use Rattle.std.proofs.Common.{nat_lt, is_some, None, Some, refl, sym, ap, subst₂, ◌∙◌, inl, inr}
-use Rattle.std.proofs.Common.{subst, arith, length-append}
+use Rattle.std.proofs.Common.{◌≡◌, ℕ, ◌-◌, Bool, true, false, ◌&&◌, List, [], ◌∷◌, ◌++◌, length, nat_lt}
+use Rattle.std.proofs.Common.{is_some, None, Some, refl, sym, ap, subst₂, ◌∙◌, inl, inr, subst, arith}
+use Rattle.std.proofs.Common.{length-append}
 use Rattle.std.specs.Cmp.{IsEquivalence}
 use Rattle.std.specs.Option.{option_map_or}
 use Rattle.std.specs.List.{AllZip}
@@ -38,10 +38,7 @@ module _ {K V : Type 0} (eq : K → K → Bool) (laws : IsEquivalence eq) where
   zip_removed k [] (q ∷ ks) z = absurd z
   zip_removed k (e ∷ es) [] z = absurd z
   zip_removed k (e ∷ es) (q ∷ ks) z =
-      let R : K × V → K → Type 0 = λ p x. eq p.0 x ≡ true in
-      rw (answers_alike eq laws k e.0 q z.0) (elim (eq k q)
-      as (λ b. AllZip R (cond b es (e ∷ without eq es k)) (cond b ks (q ∷ remove_key (eq k) ks)))
-      [ true ↦ z.1 | false ↦ (z.0, zip_removed k es ks z.1) ])
+      grind (arith, answers_alike eq laws k e.0 q z.0, z, zip_removed k es ks z.1)
 
   -- ---- one more use
 
