@@ -107,34 +107,6 @@ module _ {K V : Type 0} (eq : K → K → Bool) (es : List (K × V)) (cap : ℕ)
       let more : length All - cap ≡ suc (length All - cap - 1) = omega arith in
       (rest, is, omega arith, ap₂ drop more is)
 
-  -- of a cache within its capacity
-  pub named_alone : (e : K × V) → evicted_by (eq k) es cap ≡ Some e → length es ≤ cap
-      → es ++ (k, v) ∷ [] ≡ e ∷ last_entries All cap
-  named_alone e n few = by (lookup (eq k) es) refl
-    where
-      by : (o : Option V) → lookup (eq k) es ≡ o → es ++ (k, v) ∷ [] ≡ e ∷ last_entries All cap
-      by None l =
-          let p = named_parts e n in
-          let all = put_back_absent eq es k v (none_from_lookup (eq k) es l) in
-          let l1 = ap length all ∙ length-append es ((k, v) ∷ []) in
-          let none : length All - cap - 1 ≡ 0 = omega arith in
-          sym all ∙ p.1 ∙ ap (λ zs. e ∷ zs) (sym (p.3 ∙ ap (λ d. drop d p.0) none))
-      by (Some w) l =
-          let full = (named e n).0 in
-          let one = others-there (eq k) es (ap is_some l) in
-          absurd (omega arith)
-
-  -- where none is named there is a place
-  pub unnamed : evicted_by (eq k) es cap ≡ None → 1 ≤ cap → last_entries All cap ≡ All
-  unnamed n one =
-      let l = long in
-      last_entries-within All cap
-      (⊎_elim (λ (room : length (without eq es k) < cap). omega arith)
-      (λ (full : cap ≤ length (without eq es k)).
-      let none = first_of-none (without eq es k) (sym (evicted-full (eq k) es cap full) ∙ n) in
-      absurd (omega arith))
-      (cases_lt (length (without eq es k)) cap))
-
 -- ---- the same of a cache
 
 module _ {K V S : Type 0} (eq : K → K → Bool) (old new : CacheState K V S) (k : K) (v : V) where
@@ -150,14 +122,38 @@ module _ {K V S : Type 0} (eq : K → K → Bool) (old new : CacheState K V S) (
       let left = sym (inserts_entries eq old new k v w s ∙ p.3) in
       (take d p.0, p.1 ∙ ap (λ zs. e ∷ zs) (sym (take-append-drop d p.0) ∙ ap (λ zs. take d p.0 ++ zs) left))
 
+  -- of a cache within its capacity
   pub evicts_alone : (w : Option V) (e : K × V) → CacheInserts eq old new k v (Ok w)
       → evicted_by (eq k) old.map.entries old.cap ≡ Some e → IsWithin old 0
       → old.map.entries ++ (k, v) ∷ [] ≡ e ∷ new.map.entries
-  evicts_alone w e s n within =
-      named_alone eq old.map.entries old.cap k v e n (omega arith)
-      ∙ ap (λ zs. e ∷ zs) (sym (inserts_entries eq old new k v w s))
+  evicts_alone w e s n within = by (lookup (eq k) old.map.entries) refl
+    where
+      by : (o : Option V) → lookup (eq k) old.map.entries ≡ o
+          → old.map.entries ++ (k, v) ∷ [] ≡ e ∷ new.map.entries
+      by None l =
+          let es = old.map.entries in
+          let p = named_parts eq es old.cap k v e n in
+          let all = put_back_absent eq es k v (none_from_lookup (eq k) es l) in
+          let l1 = ap length all ∙ length-append es ((k, v) ∷ []) in
+          let none : length Put - old.cap - 1 ≡ 0 = omega arith in
+          let left = inserts_entries eq old new k v w s ∙ p.3 ∙ ap (λ d. drop d p.0) none in
+          sym all ∙ p.1 ∙ ap (λ zs. e ∷ zs) (sym left)
+      by (Some x) l =
+          let es = old.map.entries in
+          let full = (named eq es old.cap k v e n).0 in
+          let one = others-there (eq k) es (ap is_some l) in
+          absurd (omega arith)
 
+  -- where none is named there is a place
   pub evicts_none : (w : Option V) → CacheInserts eq old new k v (Ok w)
       → evicted_by (eq k) old.map.entries old.cap ≡ None → 1 ≤ old.cap
       → new.map.entries ≡ Put
-  evicts_none w s n one = inserts_entries eq old new k v w s ∙ unnamed eq old.map.entries old.cap k v n one
+  evicts_none w s n one =
+      let es = old.map.entries in
+      let others = without eq es k in
+      let l = long eq es old.cap k v in
+      let fits : length Put ≤ old.cap =
+      ⊎_elim (λ (room : length others < old.cap). omega arith) (λ (full : old.cap ≤ length others).
+      let none = first_of-none others (sym (evicted-full (eq k) es old.cap full) ∙ n) in absurd (omega arith))
+      (cases_lt (length others) old.cap) in
+      inserts_entries eq old new k v w s ∙ last_entries-within Put old.cap fits
