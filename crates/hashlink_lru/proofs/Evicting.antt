@@ -1,9 +1,9 @@
 -- Which entry an insert evicts first, and what it leaves.
 use Rattle.std.specs.Prelude.{◌≡◌, ℕ, suc, ◌+◌, ◌-◌, ◌≤◌, ◌<◌, Bool, List, [], ◌∷◌, ◌++◌, length, take, drop}
-use Rattle.std.specs.Prelude.{nat_lt, Option, None, Some, Ok}
+use Rattle.std.specs.Prelude.{Option, None, Some, Ok}
 use Rattle.std.specs.Map.{lookup, remove_entry}
-use Rattle.std.proofs.Common.{true, false, true≢false, is_some, cond, refl, ap, ap₂, sym, ◌∙◌, arith}
-use Rattle.std.proofs.lemmas.Bool.{lt-ltb, le-ltb, ltb-true, ltb-false}
+use Rattle.std.proofs.Common.{true, false, true≢false, is_some, refl, ap, ap₂, sym, ◌∙◌, ⊎_elim, arith}
+use Rattle.std.proofs.lemmas.Bool.{lt-ltb, le-ltb, cases_lt}
 use Rattle.std.proofs.lemmas.List.{take-append-drop, length-append}
 use Rattle.std.proofs.lemmas.Option.{none-some, same_Some}
 use Rattle.hashlink_model.specs.Cache.{CacheState, CacheInserts, IsWithin, last_entries}
@@ -88,69 +88,24 @@ module _ {K V : Type 0} (eq : K → K → Bool) (es : List (K × V)) (cap : ℕ)
   long = let a = length-append (without eq es k) (Last ∷ []) in ap length split ∙ a
 
   -- what is named fills a place that the insert needs
-  named_by : (e : K × V) (b : Bool) → nat_lt (length (without eq es k)) cap ≡ b
-      → cond b None (first_of (without eq es k)) ≡ Some e
+  named : (e : K × V) → evicted_by (eq k) es cap ≡ Some e
       → (cap ≤ length (without eq es k)) × (first_of (without eq es k) ≡ Some e)
-  named_by e true t n = absurd (none-some e n)
-  named_by e false t n = (ltb-false (length (without eq es k)) cap t, n)
+  named e n =
+      ⊎_elim (λ room. absurd (none-some e (sym (evicted-room (eq k) es cap room) ∙ n)))
+      (λ full. (full, sym (evicted-full (eq k) es cap full) ∙ n))
+      (cases_lt (length (without eq es k)) cap)
 
-  pub named : (e : K × V) → evicted_by (eq k) es cap ≡ Some e
-      → (cap ≤ length (without eq es k)) × (first_of (without eq es k) ≡ Some e)
-  named e n = named_by e (nat_lt (length (without eq es k)) cap) refl n
-
-  -- it stands first, and the insert keeps only what comes after it
-  pub named_first : (e : K × V) → evicted_by (eq k) es cap ≡ Some e
-      → (others : List (K × V)) × (All ≡ e ∷ others ++ last_entries All cap)
-  named_first e n =
+  -- it stands first, and the insert keeps only an end of what comes after it
+  pub named_parts : (e : K × V) → evicted_by (eq k) es cap ≡ Some e
+      → (rest : List (K × V)) × (All ≡ e ∷ rest) × (cap < length All)
+      × (last_entries All cap ≡ drop (length All - cap - 1) rest)
+  named_parts e n =
       let m = named e n in
       let rest = drop 1 (without eq es k) ++ Last ∷ [] in
       let is : All ≡ e ∷ rest = split ∙ ap (λ zs. zs ++ Last ∷ []) (first_of-some (without eq es k) e m.1) in
       let l = long in
-      let d = length All - cap - 1 in
-      let more : length All - cap ≡ suc d = omega arith in
-      let left : last_entries All cap ≡ drop d rest =
-      ap₂ drop more is in (
-        take d rest,
-        is ∙ ap (λ zs. e ∷ zs) (sym (take-append-drop d rest) ∙ ap (λ zs. take d rest ++ zs) (sym left)),
-      )
-
-  -- of a cache within its capacity
-  pub named_alone : (e : K × V) → evicted_by (eq k) es cap ≡ Some e → length es ≤ cap
-      → es ++ (k, v) ∷ [] ≡ e ∷ last_entries All cap
-  named_alone e n few = by (lookup (eq k) es) refl
-    where
-      by : (o : Option V) → lookup (eq k) es ≡ o → es ++ (k, v) ∷ [] ≡ e ∷ last_entries All cap
-      by None l =
-          let full = (named e n).0 in
-          let same : without eq es k ≡ es = others-absent (eq k) es (ap is_some l) in
-          let all : All ≡ es ++ (k, v) ∷ [] = put_back_absent eq es k v (none_from_lookup (eq k) es l) in
-          let long_others = ap length same in
-          let l1 = long in
-          let one : length All - cap ≡ 1 = omega arith in
-          let first : es ≡ e ∷ drop 1 es =
-          first_of-some es e (ap first_of (sym same) ∙ (named e n).1) in
-          let left : last_entries All cap ≡ drop 1 (es ++ (k, v) ∷ []) = ap₂ drop one all in
-          let whole : es ++ (k, v) ∷ [] ≡ e ∷ (drop 1 es ++ (k, v) ∷ []) =
-          ap (λ zs. zs ++ (k, v) ∷ []) first in
-          whole ∙ ap (λ zs. e ∷ zs) (sym (left ∙ ap (drop 1) whole))
-      by (Some w) l =
-          let full = (named e n).0 in
-          let one = others-there (eq k) es (ap is_some l) in
-          absurd (omega arith)
-
-  -- where none is named there is a place
-  unnamed_by : (b : Bool) → nat_lt (length (without eq es k)) cap ≡ b
-      → cond b None (first_of (without eq es k)) ≡ None
-      → 1 ≤ cap
-      → length (without eq es k) < cap
-  unnamed_by true t n one = ltb-true (length (without eq es k)) cap t
-  unnamed_by false t n one = let none = first_of-none (without eq es k) n in omega arith
-
-  pub unnamed : evicted_by (eq k) es cap ≡ None → 1 ≤ cap → last_entries All cap ≡ All
-  unnamed n one =
-      let room = unnamed_by (nat_lt (length (without eq es k)) cap) refl n one in
-      let l = long in
-      last_entries-within All cap (omega arith)
+      let more : length All - cap ≡ suc (length All - cap - 1) = omega arith in
+      (rest, is, omega arith, ap₂ drop more is)
 
 -- ---- the same of a cache
 
@@ -162,17 +117,43 @@ module _ {K V S : Type 0} (eq : K → K → Bool) (old new : CacheState K V S) (
       → evicted_by (eq k) old.map.entries old.cap ≡ Some e
       → (others : List (K × V)) × (Put ≡ e ∷ others ++ new.map.entries)
   evicts_first w e s n =
-      let f = named_first eq old.map.entries old.cap k v e n in
-      (f.0, f.1 ∙ ap (λ zs. e ∷ f.0 ++ zs) (sym (inserts_entries eq old new k v w s)))
+      let p = named_parts eq old.map.entries old.cap k v e n in
+      let d = length Put - old.cap - 1 in
+      let left = sym (inserts_entries eq old new k v w s ∙ p.3) in
+      (take d p.0, p.1 ∙ ap (λ zs. e ∷ zs) (sym (take-append-drop d p.0) ∙ ap (λ zs. take d p.0 ++ zs) left))
 
+  -- of a cache within its capacity
   pub evicts_alone : (w : Option V) (e : K × V) → CacheInserts eq old new k v (Ok w)
       → evicted_by (eq k) old.map.entries old.cap ≡ Some e → IsWithin old 0
       → old.map.entries ++ (k, v) ∷ [] ≡ e ∷ new.map.entries
-  evicts_alone w e s n within =
-      named_alone eq old.map.entries old.cap k v e n (omega arith)
-      ∙ ap (λ zs. e ∷ zs) (sym (inserts_entries eq old new k v w s))
+  evicts_alone w e s n within = by (lookup (eq k) old.map.entries) refl
+    where
+      by : (o : Option V) → lookup (eq k) old.map.entries ≡ o
+          → old.map.entries ++ (k, v) ∷ [] ≡ e ∷ new.map.entries
+      by None l =
+          let es = old.map.entries in
+          let p = named_parts eq es old.cap k v e n in
+          let all = put_back_absent eq es k v (none_from_lookup (eq k) es l) in
+          let l1 = ap length all ∙ length-append es ((k, v) ∷ []) in
+          let none : length Put - old.cap - 1 ≡ 0 = omega arith in
+          let left = inserts_entries eq old new k v w s ∙ p.3 ∙ ap (λ d. drop d p.0) none in
+          sym all ∙ p.1 ∙ ap (λ zs. e ∷ zs) (sym left)
+      by (Some x) l =
+          let es = old.map.entries in
+          let full = (named eq es old.cap k v e n).0 in
+          let one = others-there (eq k) es (ap is_some l) in
+          absurd (omega arith)
 
+  -- where none is named there is a place
   pub evicts_none : (w : Option V) → CacheInserts eq old new k v (Ok w)
       → evicted_by (eq k) old.map.entries old.cap ≡ None → 1 ≤ old.cap
       → new.map.entries ≡ Put
-  evicts_none w s n one = inserts_entries eq old new k v w s ∙ unnamed eq old.map.entries old.cap k v n one
+  evicts_none w s n one =
+      let es = old.map.entries in
+      let others = without eq es k in
+      let l = long eq es old.cap k v in
+      let fits : length Put ≤ old.cap =
+      ⊎_elim (λ (room : length others < old.cap). omega arith) (λ (full : old.cap ≤ length others).
+      let none = first_of-none others (sym (evicted-full (eq k) es old.cap full) ∙ n) in absurd (omega arith))
+      (cases_lt (length others) old.cap) in
+      inserts_entries eq old new k v w s ∙ last_entries-within Put old.cap fits

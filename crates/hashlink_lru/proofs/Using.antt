@@ -200,27 +200,22 @@ module _ {K V S : Type 0} (eq : K → K → Bool) (laws : IsEquivalence eq) (Mak
   abbrev By : Option V → Type 0
   By o = MatchOption o ((v : V) × Makes v × PutsNewIn eq old mid k v) (λ w. CacheGets eq old mid k (Some w))
 
+  -- the value that stands last, which is what is lent
   value_by : (o : Option V) → By o
       → (v : V) × (option_map (λ e. e.1) (last_of mid.map.entries) ≡ Some v) × UnwrapsOrElse o Makes v
   value_by None s = (s.0, ap (option_map (λ e. e.1)) (put_last eq laws old mid k s.0 s.2), s.1)
   value_by (Some w) s = (w, ap (option_map (λ e. e.1)) (hit_last eq laws old mid k w s), refl)
 
-  -- the value that stands last, which is what is lent
-  pub used_value : UsesOrPuts eq Makes old mid k
-      → (v : V) × (option_map (λ e. e.1) (last_of mid.map.entries) ≡ Some v)
-      × UnwrapsOrElse (lookup (eq k) old.map.entries) Makes v
-  used_value s = value_by (lookup (eq k) old.map.entries) s
-
   pub lent_value : UsesOrPuts eq Makes old mid k → (u : V)
       → Some u ≡ option_map (λ e. e.1) (last_of mid.map.entries)
       → UnwrapsOrElse (lookup (eq k) old.map.entries) Makes u
   lent_value s u at =
-      let v = used_value s in
+      let v = value_by (lookup (eq k) old.map.entries) s in
       let same : Some v.0 ≡ Some u = sym (at ∙ v.1) in
       subst (UnwrapsOrElse (lookup (eq k) old.map.entries) Makes) (same_Some v.0 u same) v.2
 
   pub some_stands : UsesOrPuts eq Makes old mid k → None ≡ option_map (λ e. e.1) (last_of mid.map.entries) → ⊥
-  some_stands s none = let v = used_value s in none-some v.0 (none ∙ v.1)
+  some_stands s none = let v = value_by (lookup (eq k) old.map.entries) s in none-some v.0 (none ∙ v.1)
 
   written_by : IsEntries eq old.map.entries → (w : V) (new : CacheState K V S)
       → new ≡ record mid { map = with_value mid.map (length mid.map.entries - 1) w }

@@ -174,49 +174,54 @@ module _ {X : Type 0} (spell : X → Option (List Word)) where
       pub from : (written : List (List ℕ)) → IsOf written
       pub to : (x : X) → IsRead (spell x) x
 
-  module _ (read : List Token → Option X) (is : IsReader read) where
-    read_back : (x : X) (words : List Word) → AllByRecursion FitsWord words → IsRead read (Some words) x
-        → read (tokens (words_of (join_with_byte 32 (shown words)))) ≡ Some x
-    read_back x [] fit h = absurd (none-some x (sym is.empty ∙ h.1))
-    read_back x (word ∷ words) fit h =
-        let t = tokens-shown (word ∷ words) fit h.0 in
-        ap (λ ws. read (tokens ws)) (words_of-join (word_shown word) (shown words) t.1) ∙ ap read t.0 ∙ h.1
-
-    pub says_read : (text : List ℕ) → Says spell text (read (tokens (words_of text)))
-    says_read text =
-        let back = shown-word_of (words_of text) in
-        record {
-          one = λ x. (
-            λ e. record {
-              words = map word_of (words_of text);
-              spelled = is.from (words_of text) x e;
-              fit = back.1;
-              is = sym (ap (join_with_byte 32) back.0 ∙ join_with_byte-slice_split 32 text);
-            },
-            λ s. ap (λ t. read (tokens (words_of t))) s.is
-                ∙ read_back x s.words s.fit (subst (λ o. IsRead read o x) s.spelled (is.to x)),
-          );
-        }
-
-    pub says_as : (text : List ℕ) (said : Option X) → said ≡ read (tokens (words_of text))
+    -- what is read of a text is said by it
+    abbrev pub SaysWhatIsRead : Type 0
+    SaysWhatIsRead = (text : List ℕ) (said : Option X) → said ≡ read (tokens (words_of text))
         → Says spell text said
-    says_as text said is = subst (Says spell text) (sym is) (says_read text)
 
-    -- no two have one spelling
-    pub one_spelling : (a b : X) (text : List ℕ) → Spells spell a text → Spells spell b text → a ≡ b
-    one_spelling a b text p q =
-        let read = says_read text in
-        same_Some a b (sym ((read.one a).1 p) ∙ (read.one b).1 q)
+module _ {X : Type 0} {spell : X → Option (List Word)} {read : List Token → Option X}
+    (is : IsReader spell read) where
+  read_back : (x : X) (words : List Word) → AllByRecursion FitsWord words → IsRead spell read (Some words) x
+      → read (tokens (words_of (join_with_byte 32 (shown words)))) ≡ Some x
+  read_back x [] fit h = absurd (none-some x (sym is.empty ∙ h.1))
+  read_back x (word ∷ words) fit h =
+      let t = tokens-shown (word ∷ words) fit h.0 in
+      ap (λ ws. read (tokens ws)) (words_of-join (word_shown word) (shown words) t.1) ∙ ap read t.0 ∙ h.1
 
-    -- so what a text says is what is read
-    pub said_is : (text : List ℕ) (said : Option X) → Says spell text said
-        → said ≡ read (tokens (words_of text))
-    said_is text said s = by said (read (tokens (words_of text))) s (says_read text)
-      where
-        by : (a b : Option X) → Says spell text a → Says spell text b → a ≡ b
-        by (Some x) b p q = sym ((q.one x).1 ((p.one x).0 refl))
-        by None None p q = refl
-        by None (Some y) p q = (p.one y).1 ((q.one y).0 refl)
+  pub says_read : (text : List ℕ) → Says spell text (read (tokens (words_of text)))
+  says_read text =
+      let back = shown-word_of (words_of text) in
+      record {
+        one = λ x. (
+          λ e. record {
+            words = map word_of (words_of text);
+            spelled = is.from (words_of text) x e;
+            fit = back.1;
+            is = sym (ap (join_with_byte 32) back.0 ∙ join_with_byte-slice_split 32 text);
+          },
+          λ s. ap (λ t. read (tokens (words_of t))) s.is
+              ∙ read_back x s.words s.fit (subst (λ o. IsRead spell read o x) s.spelled (is.to x)),
+        );
+      }
+
+  pub says_as : SaysWhatIsRead spell read
+  says_as text said is = subst (Says spell text) (sym is) (says_read text)
+
+  -- no two have one spelling
+  pub one_spelling : (a b : X) (text : List ℕ) → Spells spell a text → Spells spell b text → a ≡ b
+  one_spelling a b text p q =
+      let read = says_read text in
+      same_Some a b (sym ((read.one a).1 p) ∙ (read.one b).1 q)
+
+  -- so what a text says is what is read
+  pub said_is : (text : List ℕ) (said : Option X) → Says spell text said
+      → said ≡ read (tokens (words_of text))
+  said_is text said s = by said (read (tokens (words_of text))) s (says_read text)
+    where
+      by : (a b : Option X) → Says spell text a → Says spell text b → a ≡ b
+      by (Some x) b p q = sym ((q.one x).1 ((p.one x).0 refl))
+      by None None p q = refl
+      by None (Some y) p q = (p.one y).1 ((q.one y).0 refl)
 
 -- ---- a name and numbers
 
@@ -248,7 +253,13 @@ module _ {X : Type 0} (spell : X → Option (List Word)) (among : List ℕ → L
       (chosen (bytes_eq name (first_name (spell y))) (Some y)
       (lookup (bytes_eq name) (map (λ x. (first_name (spell x), x)) xs)) (Some x) e)
 
-  module _ (all : (ns : List ℕ) → AllNamed ns (among ns)) where
+  abbrev pub EachNamed : Type 0
+  EachNamed = (ns : List ℕ) → AllNamed ns (among ns)
+
+  abbrev pub EachFound : Type 0
+  EachFound = (x : X) → IsRead spell (read_words spell among) (spell x) x
+
+  module _ (all : EachNamed) where
     pub read_in-of : (name : List ℕ) (written : List (List ℕ)) (x : X)
         → read_in spell among name (tokens written) ≡ Some x → spell x ≡ Some (map word_of (name ∷ written))
     read_in-of name written x e =
@@ -263,6 +274,5 @@ module _ {X : Type 0} (spell : X → Option (List Word)) (among : List ℕ → L
     read_words-of (name ∷ written) x e = read_in-of name written x e
 
     -- a line that is a name and numbers
-    pub reads_names : ((x : X) → IsRead spell (read_words spell among) (spell x) x)
-        → IsReader spell (read_words spell among)
+    pub reads_names : EachFound → IsReader spell (read_words spell among)
     reads_names found = record { empty = refl; from = read_words-of; to = found }

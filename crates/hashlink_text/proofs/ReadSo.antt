@@ -3,7 +3,7 @@ use Rattle.std.proofs.Common.{ℕ, List, ◌∷◌, Option, subst}
 use Rattle.hashlink_model.specs.MapState.{MapState}
 use Rattle.hashlink_text.specs.Lines.{words_of}
 use Rattle.hashlink_text.specs.Reading.{line_read, read_words}
-use Rattle.hashlink_text.specs.Spelling.{modes, mode_spelled, spelled, Said}
+use Rattle.hashlink_text.specs.Spelling.{modes, mode_spelled, Said}
 use Rattle.hashlink_text.specs.Tables.{tokens}
 use Rattle.hashlink_text.specs.Text.{LinesRun, ModeRun}
 use Rattle.hashlink_text.specs.Transcript.{LineShows, Shows}
@@ -21,16 +21,16 @@ mode_read_of line = read_words mode_spelled modes (tokens (words_of line))
 module _ {S : Type 0} (old new : MapState ℕ ℕ S) (line text : List ℕ) where
   pub shows_read : LineShows old line text new → Shows old (read_of line) text new
   shows_read s =
-      subst (λ said. Shows old said text new) (said_is spelled line_read reads_line line s.0 s.1) s.2
+      subst (λ said. Shows old said text new) (said_is reads_line line s.0 s.1) s.2
 
   pub shows_line : Shows old (read_of line) text new → LineShows old line text new
-  shows_line s = (read_of line, says_read spelled line_read reads_line line, s)
+  shows_line s = (read_of line, says_read reads_line line, s)
 
 module _ (S : Type 0) (line : List ℕ) (lines : List (List ℕ)) (text : List ℕ) where
   pub runs_read : LinesRun S (line ∷ lines) text → ModeRun S (mode_read_of line) lines text
   runs_read r =
       subst (λ mode. ModeRun S mode lines text)
-      (said_is mode_spelled (read_words mode_spelled modes) reads_mode line r.0 r.1) r.2
+      (said_is reads_mode line r.0 r.1) r.2
 
   pub runs_mode : ModeRun S (mode_read_of line) lines text → LinesRun S (line ∷ lines) text
-  runs_mode r = (mode_read_of line, says_read mode_spelled (read_words mode_spelled modes) reads_mode line, r)
+  runs_mode r = (mode_read_of line, says_read reads_mode line, r)

@@ -9,105 +9,93 @@ use Rattle.std.proofs.lemmas.List.{map-append, take-append-drop, take-map}
 use Rattle.std.proofs.lemmas.Option.{same_Some}
 use Rattle.std.proofs.lemmas.Slice.Eq.{bytes_eq-Decides}
 use Rattle.hashlink_run.specs.declared.cache_commands.CacheCommand.TheVariants as cache
-use Rattle.hashlink_run.specs.declared.cache_commands.PairCommand.{PairCommand}
 use Rattle.hashlink_run.specs.declared.cache_commands.PairCommand.TheVariants as pair
 use Rattle.hashlink_run.specs.declared.cache_commands.WeightedCommand.TheVariants as weighted
 use Rattle.hashlink_run.specs.declared.commands.Command.TheVariants.{Entry}
 use Rattle.hashlink_run.specs.declared.commands.CursorStep.{CursorStep}
 use Rattle.hashlink_run.specs.declared.commands.CursorStep.TheVariants.{Next}
 use Rattle.hashlink_run.specs.declared.commands.EntryStep.TheVariants as step
-use Rattle.hashlink_text.specs.Lines.{number_of, words_of}
+use Rattle.hashlink_text.specs.Lines.{number_of}
 use Rattle.hashlink_text.specs.Reading.{cursor_read, cursor_step_spelled, entry_read, line_read}
 use Rattle.hashlink_text.specs.Reading.{numbers_after, read_in, read_words, some_steps, steps_after}
 use Rattle.hashlink_text.specs.Spelling.{cache_lines, pair_commands, weighted_lines, modes, cache_spelled}
 use Rattle.hashlink_text.specs.Spelling.{pair_spelled, weighted_spelled, mode_spelled, commands, cursor_steps}
 use Rattle.hashlink_text.specs.Spelling.{entry_steps, Name, Number, Said, Do, Cursor, spelled, step_spelled}
-use Rattle.hashlink_text.specs.Spelling.{cursor_step_words, Says}
+use Rattle.hashlink_text.specs.Spelling.{cursor_step_words}
 use Rattle.hashlink_text.specs.Tables.{Token, tokens}
-use Rattle.hashlink_text.specs.declared.cache_line.CacheLine.{CacheLine}
 use Rattle.hashlink_text.specs.declared.cache_line.CacheLine.TheVariants as cache_line
-use Rattle.hashlink_text.specs.declared.modes.Mode.{Mode}
 use Rattle.hashlink_text.specs.declared.modes.Mode.TheVariants as mode
-use Rattle.hashlink_text.specs.declared.weighted_line.WeightedLine.{WeightedLine}
 use Rattle.hashlink_text.specs.declared.weighted_line.WeightedLine.TheVariants as weighted_line
-use Rattle.hashlink_text.proofs.Grammar.{says_as, AllNamed, IsRead, IsReader, IsOf, reads_names, read_in-of}
-use Rattle.hashlink_text.proofs.Grammar.{read_words-of, chosen, step_some, map_some, word_of, token_of}
-use Rattle.hashlink_text.proofs.Grammar.{are_names}
+use Rattle.hashlink_text.proofs.Grammar.{says_as, EachNamed, EachFound, IsRead, IsReader, IsOf, reads_names}
+use Rattle.hashlink_text.proofs.Grammar.{SaysWhatIsRead, read_in-of, read_words-of, chosen, step_some, map_some}
+use Rattle.hashlink_text.proofs.Grammar.{are_names, word_of, token_of}
 
 -- ---- lines to caches, and the first line
 
-pair_named : (ns : List ℕ) → AllNamed pair_spelled pair_commands ns (pair_commands ns)
-pair_named (k ∷ v ∷ []) = refl
-pair_named ns = refl
-
-pair_found : (c : PairCommand ℕ ℕ)
-    → IsRead pair_spelled (read_words pair_spelled pair_commands) (pair_spelled c) c
-pair_found (pair.Insert k v) = (refl, refl)
-pair_found command = (refl, refl)
-
 pub reads_pairs : IsReader pair_spelled (read_words pair_spelled pair_commands)
-reads_pairs = reads_names pair_spelled pair_commands pair_named pair_found
+reads_pairs = reads_names pair_spelled pair_commands named found
+  where
+    named : EachNamed pair_spelled pair_commands
+    named (k ∷ v ∷ []) = refl
+    named ns = refl
 
-pub says_pair : (text : List ℕ) (said : Option (PairCommand ℕ ℕ))
-    → said ≡ read_words pair_spelled pair_commands (tokens (words_of text)) → Says pair_spelled text said
-says_pair = says_as pair_spelled (read_words pair_spelled pair_commands) reads_pairs
+    found : EachFound pair_spelled pair_commands
+    found (pair.Insert k v) = (refl, refl)
+    found command = (refl, refl)
 
-cache_named : (ns : List ℕ) → AllNamed cache_spelled cache_lines ns (cache_lines ns)
-cache_named (k ∷ v ∷ []) = refl
-cache_named ns = refl
-
-cache_found : (l : CacheLine)
-    → IsRead cache_spelled (read_words cache_spelled cache_lines) (cache_spelled l) l
-cache_found (cache_line.Do (cache.Insert k v)) = (refl, refl)
-cache_found line = (refl, refl)
+pub says_pair : SaysWhatIsRead pair_spelled (read_words pair_spelled pair_commands)
+says_pair = says_as reads_pairs
 
 pub reads_cache : IsReader cache_spelled (read_words cache_spelled cache_lines)
-reads_cache = reads_names cache_spelled cache_lines cache_named cache_found
+reads_cache = reads_names cache_spelled cache_lines named found
+  where
+    named : EachNamed cache_spelled cache_lines
+    named (k ∷ v ∷ []) = refl
+    named ns = refl
 
-pub says_cache : (text : List ℕ) (said : Option CacheLine)
-    → said ≡ read_words cache_spelled cache_lines (tokens (words_of text)) → Says cache_spelled text said
-says_cache = says_as cache_spelled (read_words cache_spelled cache_lines) reads_cache
+    found : EachFound cache_spelled cache_lines
+    found (cache_line.Do (cache.Insert k v)) = (refl, refl)
+    found line = (refl, refl)
 
-weighted_named : (ns : List ℕ) → AllNamed weighted_spelled weighted_lines ns (weighted_lines ns)
-weighted_named (k ∷ v ∷ w ∷ []) = refl
-weighted_named ns = refl
-
-weighted_found : (l : WeightedLine)
-    → IsRead weighted_spelled (read_words weighted_spelled weighted_lines) (weighted_spelled l) l
-weighted_found (weighted_line.Do (weighted.Insert k v w)) = (refl, refl)
-weighted_found line = (refl, refl)
+pub says_cache : SaysWhatIsRead cache_spelled (read_words cache_spelled cache_lines)
+says_cache = says_as reads_cache
 
 pub reads_weighted : IsReader weighted_spelled (read_words weighted_spelled weighted_lines)
-reads_weighted = reads_names weighted_spelled weighted_lines weighted_named weighted_found
+reads_weighted = reads_names weighted_spelled weighted_lines named found
+  where
+    named : EachNamed weighted_spelled weighted_lines
+    named (k ∷ v ∷ w ∷ []) = refl
+    named ns = refl
 
-pub says_weighted : (text : List ℕ) (said : Option WeightedLine)
-    → said ≡ read_words weighted_spelled weighted_lines (tokens (words_of text))
-    → Says weighted_spelled text said
-says_weighted = says_as weighted_spelled (read_words weighted_spelled weighted_lines) reads_weighted
+    found : EachFound weighted_spelled weighted_lines
+    found (weighted_line.Do (weighted.Insert k v w)) = (refl, refl)
+    found line = (refl, refl)
 
-mode_named : (ns : List ℕ) → AllNamed mode_spelled modes ns (modes ns)
-mode_named (c ∷ d ∷ []) =
-    ⊎_elim (λ (yes : nat_le c d ≡ true). rw yes (rw yes refl)) (λ (no : nat_le c d ≡ false). rw no refl)
-    (cases_Bool (nat_le c d))
-mode_named ns = refl
-
-mode_found : (m : Mode) → IsRead mode_spelled (read_words mode_spelled modes) (mode_spelled m) m
-mode_found (mode.Pair c d) =
-    ⊎_elim (λ (yes : nat_le c d ≡ true). rw yes (refl, rw yes (rw yes refl)))
-    (λ (no : nat_le c d ≡ false). rw no (refl, refl))
-    (cases_Bool (nat_le c d))
-mode_found m = (refl, refl)
+pub says_weighted : SaysWhatIsRead weighted_spelled (read_words weighted_spelled weighted_lines)
+says_weighted = says_as reads_weighted
 
 pub reads_mode : IsReader mode_spelled (read_words mode_spelled modes)
-reads_mode = reads_names mode_spelled modes mode_named mode_found
+reads_mode = reads_names mode_spelled modes named found
+  where
+    named : EachNamed mode_spelled modes
+    named (c ∷ d ∷ []) =
+        ⊎_elim (λ (yes : nat_le c d ≡ true). rw yes (rw yes refl)) (λ (no : nat_le c d ≡ false). rw no refl)
+        (cases_Bool (nat_le c d))
+    named ns = refl
 
-pub says_mode : (text : List ℕ) (said : Option Mode)
-    → said ≡ read_words mode_spelled modes (tokens (words_of text)) → Says mode_spelled text said
-says_mode = says_as mode_spelled (read_words mode_spelled modes) reads_mode
+    found : EachFound mode_spelled modes
+    found (mode.Pair c d) =
+        ⊎_elim (λ (yes : nat_le c d ≡ true). rw yes (refl, rw yes (rw yes refl)))
+        (λ (no : nat_le c d ≡ false). rw no (refl, refl))
+        (cases_Bool (nat_le c d))
+    found m = (refl, refl)
+
+pub says_mode : SaysWhatIsRead mode_spelled (read_words mode_spelled modes)
+says_mode = says_as reads_mode
 
 -- ---- lines to a map: the steps of an entry
 
-entry_named : (ns : List ℕ) → AllNamed step_spelled entry_steps ns (entry_steps ns)
+entry_named : EachNamed step_spelled entry_steps
 entry_named (v ∷ []) = refl
 entry_named ns = refl
 
@@ -125,7 +113,7 @@ entry_of (key ∷ written) x e =
 
 -- ---- the steps of a cursor
 
-cursor_named : (ns : List ℕ) → AllNamed cursor_step_spelled cursor_steps ns (cursor_steps ns)
+cursor_named : EachNamed cursor_step_spelled cursor_steps
 cursor_named (k ∷ v ∷ []) = refl
 cursor_named ns = refl
 
@@ -171,7 +159,7 @@ steps_found (step ∷ steps) = let more = steps_found steps in (more.0, rw more.
 
 -- ---- and all of them
 
-commands_named : (ns : List ℕ) → AllNamed spelled commands ns (commands ns)
+commands_named : EachNamed spelled commands
 commands_named (k ∷ v ∷ []) = refl
 commands_named ns = refl
 
@@ -197,7 +185,5 @@ line_found x = (refl, refl)
 pub reads_line : IsReader spelled line_read
 reads_line = record { empty = refl; from = line_of; to = line_found }
 
--- what is read of a line is said by it
-pub says_so : (text : List ℕ) (said : Option Said) → line_read (tokens (words_of text)) ≡ said
-    → Says spelled text said
-says_so text said is = says_as spelled line_read reads_line text said (sym is)
+pub says_so : SaysWhatIsRead spelled line_read
+says_so = says_as reads_line

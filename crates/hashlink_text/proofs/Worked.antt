@@ -1,20 +1,14 @@
 -- Worked texts, in which no insert is refused.
 use Rattle.std.proofs.Common.{ℕ, ◌+◌, ◌≤◌, ◌++◌, List, [], ◌∷◌, length, None, Some, Ok, codes, refl}
-use Rattle.std.proofs.Common.{length-append, nat_eq, arith, lit≤}
+use Rattle.std.proofs.Common.{length-append, arith, lit≤}
 use Rattle.std.specs.Fmt.{digits}
 use Rattle.std.specs.Int.{IsPowerOfTwo}
 use Rattle.hashlink_model.specs.MapState.{MapState, map_state, empty_map, Adds, Changes}
 use Rattle.hashlink_core.specs.declared.hash_builder.DefaultHashBuilder.{DefaultHashBuilder}
 use Rattle.hashlink_core.specs.Hashing.{default_builder}
-use Rattle.hashlink_run.specs.declared.commands.Command.{Command}
-use Rattle.hashlink_run.specs.declared.commands.Command.TheVariants.{Insert, Remove, Entry}
-use Rattle.hashlink_run.specs.declared.commands.EntryStep.TheVariants.{OrInsert, ReplaceEntry}
-use Rattle.hashlink_run.specs.declared.replies.Reply.{Reply}
 use Rattle.hashlink_run.specs.declared.replies.Reply.TheVariants.{Value, Pair, Seen, Inserted}
-use Rattle.hashlink_run.specs.Keeps.{IsEven}
-use Rattle.hashlink_run.specs.Step.{Step}
-use Rattle.hashlink_text.specs.Text.{IsTranscript}
-use Rattle.hashlink_text.specs.Transcript.{LineShows, Shows, ShowsAll, Itself, ended}
+use Rattle.hashlink_text.specs.Text.{IsTranscript, LinesRun}
+use Rattle.hashlink_text.specs.Transcript.{LineShows, Shows, ShowsAll, ended}
 use Rattle.hashlink_text.proofs.ReadSo.{read_of, runs_mode, shows_line}
 
 abbrev State : Type 0
@@ -23,9 +17,6 @@ State = MapState ℕ ℕ DefaultHashBuilder
 -- these entries, spare nodes, room, and links stored
 abbrev state : List (ℕ × ℕ) → ℕ → ℕ → ℕ → State
 state es spare room writes = map_state es spare room writes default_builder
-
-abbrev Stepped : State → Command ℕ ℕ → Reply ℕ ℕ (ℕ × ℕ) → State → Type 0
-Stepped old command reply new = Step nat_eq Itself IsEven old command (reply ∷ []) new
 
 -- a pair goes in at the back, where there is room for the others alone
 adds : (es : List (ℕ × ℕ)) (w : ℕ) (pair : ℕ × ℕ) → IsPowerOfTwo (length es + 1)
@@ -57,47 +48,6 @@ changes old new room w stored most le = record {
   hasher = refl;
 }
 
-first_insert : Stepped (empty_map default_builder) (Insert 1 10) (Value None) (state ((1, 10) ∷ []) 0 1 4)
-first_insert = (Ok None, record { absent = refl; adds = adds [] 0 (1, 10) (0, refl) }, refl)
-
-second_insert : Stepped (state ((1, 10) ∷ []) 0 1 4) (Insert 2 20) (Value None)
-    (state ((1, 10) ∷ (2, 20) ∷ []) 0 2 8)
-second_insert = (Ok None, record { absent = refl; adds = adds ((1, 10) ∷ []) 4 (2, 20) (1, refl) }, refl)
-
-insert_again : Stepped (state ((1, 10) ∷ (2, 20) ∷ []) 0 2 8) (Insert 1 11) (Value (Some 10))
-    (state ((2, 20) ∷ (1, 11) ∷ []) 0 2 14)
-insert_again = (Ok (Some 10), record { old_value = refl; puts = changes _ _ 2 8 6 6 (lit≤ tt) }, refl)
-
-removal : Stepped (state ((2, 20) ∷ (1, 11) ∷ []) 0 2 14) (Remove 2) (Value (Some 20))
-    (state ((1, 11) ∷ []) 1 2 17)
-removal = (
-  record {
-    answer = refl;
-    step = record {
-      entries = refl;
-      fewer = refl;
-      spare = refl;
-      room = refl;
-      link_writes = record { grows = lit≤ tt; bound = lit≤ tt };
-      hasher = refl;
-    };
-  },
-  refl,
-)
-
-moved_last : Stepped (state ((1, 10) ∷ []) 0 1 4) (Entry 1 (OrInsert 5)) (Seen (Some (1, 10)))
-    (state ((1, 10) ∷ []) 0 1 4)
-moved_last = (changes _ _ 1 4 0 6 (lit≤ tt), (Some (1, 10), refl, refl))
-
-put_in : Stepped (state ((1, 10) ∷ []) 0 1 4) (Entry 2 (OrInsert 21)) (Inserted (2, 21))
-    (state ((1, 10) ∷ (2, 21) ∷ []) 0 2 8)
-put_in =
-    (Ok tt, record { absent = refl; adds = adds ((1, 10) ∷ []) 4 (2, 21) (1, refl) }, ((2, 21), refl, refl))
-
-replaced : Stepped (state ((1, 10) ∷ (2, 21) ∷ []) 0 2 8) (Entry 1 (ReplaceEntry 12)) (Pair (Some (1, 10)))
-    (state ((1, 12) ∷ (2, 21) ∷ []) 0 2 8)
-replaced = ((1, 10), record { answer = refl; step = changes _ _ 2 8 0 0 (lit≤ tt) }, refl)
-
 -- from old, the text answers the lines, and new is left: a record, so that its arguments are found
 record Shown (old new : State) (lines : List (List ℕ)) (text : List ℕ) : Type 0 where
   all : ShowsAll LineShows old lines text new
@@ -112,6 +62,12 @@ first : {old new : State} {lines : List (List ℕ)} {text : List ℕ} (line answ
 first {old} {text = text} line answer mid shows more =
     record { all = (answer, mid, text, shows_line old mid line answer shows, more.all, refl) }
 
+-- to the lines after the first one, which asks for a map
+runs : {new : State} {lines : List (List ℕ)} {text : List ℕ} → Shown (empty_map default_builder) new lines text
+    → LinesRun DefaultHashBuilder (codes "map" ∷ lines) text
+runs {new} {lines} {text} shown =
+    runs_mode DefaultHashBuilder (codes "map") lines text (default_builder, new, shown.all)
+
 pub worked_answer : IsTranscript (codes "map\ninsert 1 10\ninsert 2 20\ninsert 1 11\nget 1\nremove 2\niter\n")
     (codes "-\n-\n10\n11\n20\n1:11\n")
 unfolding digits
@@ -120,19 +76,40 @@ worked_answer =
     let two : State = state ((1, 10) ∷ (2, 20) ∷ []) 0 2 8 in
     let again : State = state ((2, 20) ∷ (1, 11) ∷ []) 0 2 14 in
     let end : State = state ((1, 11) ∷ []) 1 2 17 in
-    let lines : List (List ℕ) =
-    codes "insert 1 10" ∷ codes "insert 2 20" ∷ codes "insert 1 11" ∷ codes "get 1" ∷ codes "remove 2"
-    ∷ codes "iter" ∷ [] in
-    let shown : Shown (empty_map default_builder) end lines (codes "-\n-\n10\n11\n20\n1:11\n") =
-    first (codes "insert 1 10") (codes "-") one (Value None ∷ [], first_insert, refl)
-    (first (codes "insert 2 20") (codes "-") two (Value None ∷ [], second_insert, refl)
-    (first (codes "insert 1 11") (codes "10") again (Value (Some 10) ∷ [], insert_again, refl)
+    runs
+    (first (codes "insert 1 10") (codes "-") one
+    (Value None ∷ [], (Ok None, record { absent = refl; adds = adds [] 0 (1, 10) (0, refl) }, refl), refl)
+    (first (codes "insert 2 20") (codes "-") two (
+      Value None ∷ [],
+      (Ok None, record { absent = refl; adds = adds ((1, 10) ∷ []) 4 (2, 20) (1, refl) }, refl),
+      refl,
+    )
+    (first (codes "insert 1 11") (codes "10") again (
+      Value (Some 10) ∷ [],
+      (Ok (Some 10), record { old_value = refl; puts = changes _ _ 2 8 6 6 (lit≤ tt) }, refl),
+      refl,
+    )
     (first (codes "get 1") (codes "11") again
     (Seen (Some (1, 11)) ∷ [], (refl, (Some (1, 11), refl, refl)), refl)
-    (first (codes "remove 2") (codes "20") end (Value (Some 20) ∷ [], removal, refl)
-    (first (codes "iter") (codes "1:11") end (refl, refl) no_line))))) in
-    runs_mode DefaultHashBuilder (codes "map") lines (codes "-\n-\n10\n11\n20\n1:11\n")
-    (default_builder, end, shown.all)
+    (first (codes "remove 2") (codes "20") end (
+      Value (Some 20) ∷ [],
+      (
+        record {
+          answer = refl;
+          step = record {
+            entries = refl;
+            fewer = refl;
+            spare = refl;
+            room = refl;
+            link_writes = record { grows = lit≤ tt; bound = lit≤ tt };
+            hasher = refl;
+          };
+        },
+        refl,
+      ),
+      refl,
+    )
+    (first (codes "iter") (codes "1:11") end (refl, refl) no_line))))))
 
 pub worked_entries : IsTranscript
     (codes "map\ninsert 1 10\nentry 1 or_insert 5\nentry 2 or_insert 21\nentry 1 replace_entry 12\niter\n")
@@ -142,14 +119,19 @@ worked_entries =
     let one : State = state ((1, 10) ∷ []) 0 1 4 in
     let two : State = state ((1, 10) ∷ (2, 21) ∷ []) 0 2 8 in
     let end : State = state ((1, 12) ∷ (2, 21) ∷ []) 0 2 8 in
-    let lines : List (List ℕ) =
-    codes "insert 1 10" ∷ codes "entry 1 or_insert 5" ∷ codes "entry 2 or_insert 21"
-    ∷ codes "entry 1 replace_entry 12" ∷ codes "iter" ∷ [] in
-    let shown : Shown (empty_map default_builder) end lines (codes "-\n10\n21\n1:10\n1:12 2:21\n") =
-    first (codes "insert 1 10") (codes "-") one (Value None ∷ [], first_insert, refl)
-    (first (codes "entry 1 or_insert 5") (codes "10") one (Seen (Some (1, 10)) ∷ [], moved_last, refl)
-    (first (codes "entry 2 or_insert 21") (codes "21") two (Inserted (2, 21) ∷ [], put_in, refl)
-    (first (codes "entry 1 replace_entry 12") (codes "1:10") end (Pair (Some (1, 10)) ∷ [], replaced, refl)
-    (first (codes "iter") (codes "1:12 2:21") end (refl, refl) no_line)))) in
-    runs_mode DefaultHashBuilder (codes "map") lines (codes "-\n10\n21\n1:10\n1:12 2:21\n")
-    (default_builder, end, shown.all)
+    runs
+    (first (codes "insert 1 10") (codes "-") one
+    (Value None ∷ [], (Ok None, record { absent = refl; adds = adds [] 0 (1, 10) (0, refl) }, refl), refl)
+    (first (codes "entry 1 or_insert 5") (codes "10") one
+    (Seen (Some (1, 10)) ∷ [], (changes _ _ 1 4 0 6 (lit≤ tt), (Some (1, 10), refl, refl)), refl)
+    (first (codes "entry 2 or_insert 21") (codes "21") two (
+      Inserted (2, 21) ∷ [],
+      (Ok tt, record { absent = refl; adds = adds ((1, 10) ∷ []) 4 (2, 21) (1, refl) }, ((2, 21), refl, refl)),
+      refl,
+    )
+    (first (codes "entry 1 replace_entry 12") (codes "1:10") end (
+      Pair (Some (1, 10)) ∷ [],
+      ((1, 10), record { answer = refl; step = changes _ _ 2 8 0 0 (lit≤ tt) }, refl),
+      refl,
+    )
+    (first (codes "iter") (codes "1:12 2:21") end (refl, refl) no_line)))))

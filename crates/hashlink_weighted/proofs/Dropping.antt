@@ -74,33 +74,25 @@ total-last es others weight l =
     omega (arith, ap total_weight l.split, total-append l.before (l.last ∷ []), total-cons l.last [])
 
 module _ {K V S : Type 0} (old between new : MapState K (V × ℕ) S) (others weight budget : ℕ) where
-  -- one more was dropped
-  pub record DropsOne (e : K × (V × ℕ)) : Type 0 where
-    pub light : e.1.1 ≤ others
-    pub dropped : HasDropped old new (others - e.1.1) weight budget
-    pub fewer : length new.entries < length between.entries
-
+  -- one more was dropped, which weighs no more than the others
   pub drops_one : HasDropped old between others weight budget → weight ≤ budget → budget - weight < others
       → (f : K × (V × ℕ)) → PopsFront between new (Some f)
-      → DropsOne f
+      → (f.1.1 ≤ others) × HasDropped old new (others - f.1.1) weight budget
   drops_one d n over f pops =
       let split = (pops_front between new f pops).0 in
       let last = subst (λ es. LastWeighs es others weight) split d.last in
       let left = first_leaves f new.entries others weight last (omega arith) in
       let total = total-last (f ∷ new.entries) others weight last in
-      let step = removes_keeps between new (drop 1 between.entries) pops.step in
-      record {
-        light = left.0;
-        dropped =
-            record {
-              keeps = subst (KeepsOnly old new) (sym pops.step.entries)
-                  (keeps_twice old between new between.entries (drop 1 between.entries) d.keeps step);
-              last = left.1;
-              same = sym (fitting-drops f new.entries budget (omega arith))
-                  ∙ ap (λ es. fitting es budget) (sym split) ∙ d.same;
-            };
-        fewer = omega (arith, pops.step.fewer, ap length pops.step.entries);
-      }
+      let step = removes_keeps between new (drop 1 between.entries) pops.step in (
+        left.0,
+        record {
+          keeps = subst (KeepsOnly old new) (sym pops.step.entries)
+              (keeps_twice old between new between.entries (drop 1 between.entries) d.keeps step);
+          last = left.1;
+          same = sym (fitting-drops f new.entries budget (omega arith))
+              ∙ ap (λ es. fitting es budget) (sym split) ∙ d.same;
+        },
+      )
 
   pub not_none : HasDropped old between others weight budget → budget - weight < others
       → PopsFront between new None

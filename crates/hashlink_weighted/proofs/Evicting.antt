@@ -1,6 +1,6 @@
 -- The calls on the entries that are evicted.
 use Rattle.std.proofs.Common.{◌≡◌, ℕ, ◌-◌, ◌<◌, ◌≤◌, List, [], ◌∷◌, Some, refl, sym, ap, ◌∙◌, subst}
-use Rattle.std.proofs.Common.{arith, ◌++◌, Bool, true, false, cond}
+use Rattle.std.proofs.Common.{arith, ◌++◌, true, false, cond}
 use Rattle.std.specs.Prelude.{nat_le}
 use Rattle.std.specs.Fn.{Called, Mut, Takes}
 use Rattle.std.proofs.lemmas.Bool.{le-leb, lt-leb}
@@ -25,17 +25,13 @@ module _ {K V : Type 0} where
   not_fitting-none (e ∷ es) budget l = rw (le-leb (total_weight (e ∷ es)) budget l) refl
 
   -- what is evicted stands before what stays
-  split_by : (e : K × (V × ℕ)) (es : List (K × (V × ℕ))) (budget : ℕ) (b : Bool)
-      → not_fitting es budget ++ fitting es budget ≡ es
-      → cond b [] (e ∷ not_fitting es budget) ++ cond b (e ∷ es) (fitting es budget) ≡ e ∷ es
-  split_by e es budget true s = refl
-  split_by e es budget false s = ap (λ zs. e ∷ zs) s
-
   pub evicted_before : (es : List (K × (V × ℕ))) (budget : ℕ)
       → not_fitting es budget ++ fitting es budget ≡ es
   evicted_before [] budget = refl
   evicted_before (e ∷ es) budget =
-      split_by e es budget (nat_le (total_weight (e ∷ es)) budget) (evicted_before es budget)
+      elim (nat_le (total_weight (e ∷ es)) budget)
+      as (λ b. cond b [] (e ∷ not_fitting es budget) ++ cond b (e ∷ es) (fitting es budget) ≡ e ∷ es)
+      [ true ↦ refl | false ↦ ap (λ zs. e ∷ zs) (evicted_before es budget) ]
 
 module _ {F K V : Type 0} (calls : Mut F (K × (V × Unit {0})) (Unit {0})) (first : F)
     (all : List (K × (V × ℕ))) (budget : ℕ) where

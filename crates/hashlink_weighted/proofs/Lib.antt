@@ -4,4 +4,3 @@ pub mod Inserted
 pub mod Lasts
 pub mod Moved
 pub mod Totals
-pub mod Walks

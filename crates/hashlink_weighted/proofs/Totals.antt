@@ -4,11 +4,11 @@ use Rattle.std.proofs.Common.{refl, sym, ap, subst, ◌∙◌, arith}
 use Rattle.std.specs.Map.{lookup, lookup_entry, remove_entry}
 use Rattle.std.proofs.lemmas.List.Sums.{sum_by-cons, sum_by-append}
 use Rattle.std.proofs.lemmas.Option.{same_Some}
-use Rattle.hashlink_model.specs.Entries.{put, moved, moved_match, without, stored_key}
+use Rattle.hashlink_model.specs.Entries.{put, moved_match, without, stored_key}
 use Rattle.hashlink_model.specs.MapState.{MapState}
 use Rattle.hashlink_model.specs.Steps.{RemovesMatch, MovesMatch}
 use Rattle.hashlink_model.specs.Weights.{total_weight}
-use Rattle.hashlink_model.proofs.Splits.{Stands, stands_from_lookup, none_from_lookup, remove_entry-none}
+use Rattle.hashlink_model.proofs.Splits.{stands_from_lookup, none_from_lookup, remove_entry-none}
 use Rattle.hashlink_model.proofs.Splits.{remove_entry-here, lookup-here}
 use Rattle.hashlink_model.proofs.Afterwards.{moved-there}
 use Rattle.hashlink_model.proofs.Puts.{put_back}
@@ -26,9 +26,12 @@ module _ {K V : Type 0} where
 
 module _ {K V : Type 0} (test : K → Bool) where
   -- the entry that leaves takes its weight with it
-  there_by : (es : List (K × (V × ℕ))) (w : V × ℕ) → lookup test es ≡ Some w → Stands test es
-      → total_weight (remove_entry test es) + w.1 ≡ total_weight es
-  there_by es w l s =
+  pub total-without : (es : List (K × (V × ℕ))) (o : Option (V × ℕ)) → lookup test es ≡ o
+      → total_weight (remove_entry test es) + weight_or_none o ≡ total_weight es
+  total-without es None l =
+      let same = ap total_weight (remove_entry-none test es (none_from_lookup test es l)) in omega arith
+  total-without es (Some w) l =
+      let s = stands_from_lookup test es w l in
       let here = lookup-here test s.1 s.2 s.3.passes s.0 s.3.before in
       let same : s.1.1 ≡ w = same_Some _ _ (sym here ∙ ap (lookup test) (sym s.3.is) ∙ l) in
       let weight : s.1.1.1 ≡ w.1 = ap (λ x. x.1) same in
@@ -36,12 +39,6 @@ module _ {K V : Type 0} (test : K → Bool) where
       let left = ap (λ zs. total_weight (remove_entry test zs)) s.3.is in
       let rest = ap total_weight (remove_entry-here test s.1 s.2 s.3.passes s.0 s.3.before) in
       omega (arith, total-append s.0 (s.1 ∷ s.2), total-append s.0 s.2, total-cons s.1 s.2)
-
-  pub total-without : (es : List (K × (V × ℕ))) (o : Option (V × ℕ)) → lookup test es ≡ o
-      → total_weight (remove_entry test es) + weight_or_none o ≡ total_weight es
-  total-without es None l =
-      let same = ap total_weight (remove_entry-none test es (none_from_lookup test es l)) in omega arith
-  total-without es (Some w) l = there_by es w l (stands_from_lookup test es w l)
 
 module _ {K V : Type 0} (eq : K → K → Bool) where
   -- put last, with the others before it
@@ -58,18 +55,17 @@ module _ {K V : Type 0} (eq : K → K → Bool) where
         last_weighs = refl;
       }
 
-  -- a move leaves the sum
-  moved_by : (es : List (K × (V × ℕ))) (k : K) (w : V × ℕ) → lookup (eq k) es ≡ Some w
-      → total_weight (moved eq es k (length es)) ≡ total_weight es
-  moved_by es k w l =
-      let there = ap total_weight (moved-there eq es k (length es) w l) in
-      let split = ap total_weight (put_back eq es k w) in
-      let a = total-append (without eq es k) ((stored_key eq es k, w) ∷ []) in
-      omega (arith, total-cons (stored_key eq es k, w) [], total-without (eq k) es (Some w) l)
-
+-- a move leaves the sum
 total-moved : {K V : Type 0} (test : K → Bool) (es : List (K × (V × ℕ))) (w : V × ℕ) → lookup test es ≡ Some w
     → total_weight (moved_match test es (length es)) ≡ total_weight es
-total-moved test es w l = moved_by (λ _. test) es (stands_from_lookup test es w l).1.0 w l
+total-moved {K} test es w l =
+    let eq = λ (_ : K). test in
+    let k = (stands_from_lookup test es w l).1.0 in
+    let there : total_weight (moved_match test es (length es)) ≡ total_weight (put eq es k w (length es)) =
+    ap total_weight (moved-there eq es k (length es) w l) in
+    let split = ap total_weight (put_back eq es k w) in
+    let a = total-append (without eq es k) ((stored_key eq es k, w) ∷ []) in
+    omega (arith, total-cons (stored_key eq es k, w) [], total-without test es (Some w) l)
 
 module _ {K V S : Type 0} (test : K → Bool) (old new : MapState K (V × ℕ) S) (total budget : ℕ) where
   -- what an entry that left leaves of a total, and where there was none

@@ -3,9 +3,4 @@ use Rattle.hashlink_lru.proofs.Pushing.{pushes_named}
 use Rattle.hashlink_lru.proofs.laws.what_an_insert_evicts.Goals as goal
 
 pub returns : goal.returns
-returns g c = record {
-  first = evicts_first;
-  alone = evicts_alone;
-  none = evicts_none;
-  pushed = pushes_named;
-}
+returns g c = search (evicts_first, evicts_alone, evicts_none, pushes_named)

@@ -5,4 +5,4 @@ use Rattle.hashlink_text.proofs.line.Line.parse.Goals as goal
 
 pub returns-clause-said : goal.returns-clause-said
 returns-clause-said c =
-    IfOk-weaker c.line_of.result _ _ (λ line is. says_as _ _ reads_line _ _ is) c.line_of.ensures.said
+    IfOk-weaker c.line_of.result _ _ (λ line is. says_as reads_line _ _ is) c.line_of.ensures.said

@@ -1,5 +1,5 @@
-use Rattle.std.proofs.Common.{refl, ap, sym, ◌∙◌}
-use Rattle.std.specs.Option.{option_map, option_copied}
+use Rattle.std.proofs.Common.{refl, ap, sym, ◌∙◌, is_some, true≢false}
+use Rattle.std.specs.Option.{option_map}
 use Rattle.std.specs.Map.Iter.{deref_pair}
 use Rattle.hashlink_weighted.specs.Answers.{without_weight}
 use Rattle.hashlink_weighted.proofs.Moved.{last_value_match}
@@ -15,16 +15,8 @@ returns-in_err-value g c =
     let there = sym c.move_last.ensures.there ∙ c.if-not-move_last.false in
     let value = last_value_match _ _ _ c.move_last.ensures.moves there in
     let shown = ap (λ r. option_map (λ e. e.1) (option_map deref_pair r)) c.in_err-value.was in
-    rw (← c.self.view_is) (
-      (refl, λ _. tt, record { moves = c.move_last.ensures.moves; budget = refl }),
-      record {
-        used = tt;
-        value =
-            ap option_copied c.from_residual.ensures
-            ∙ ap without_weight (sym shown ∙ ap (option_map (λ e. e.1)) c.back.ensures.found ∙ value);
-        distinct = c.move_last.ensures.distinct;
-      },
-    )
+    absurd (true≢false (sym (ap is_some (sym shown ∙ ap (option_map (λ e. e.1)) c.back.ensures.found ∙ value)
+    ∙ there)))
 
 pub returns : goal.returns
 returns g c =

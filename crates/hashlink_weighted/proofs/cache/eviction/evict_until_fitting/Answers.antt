@@ -15,7 +15,7 @@ loop-others-init g c =
 pub overflow_sub-others : goal.overflow_sub-others
 overflow_sub-others g c =
     (drops_one _ _ _ _ _ _ c.loop-others.invariant.dropped c.requires.not_too_heavy c.loop-others-test.true _
-    c.in-Some.ensures.pops).light
+    c.in-Some.ensures.pops).0
 
 pub on_evicted-requires : goal.on_evicted-requires
 on_evicted-requires g c =
@@ -27,7 +27,7 @@ loop-others-preserved g c =
     let i = c.loop-others.invariant in
     record {
       dropped = (drops_one _ _ _ _ _ _ i.dropped c.requires.not_too_heavy c.loop-others-test.true _
-          c.in-Some.ensures.pops).dropped;
+          c.in-Some.ensures.pops).1;
       evicting = given _ _ _ _ _ _ _ _ _ i.dropped.last c.requires.not_too_heavy c.loop-others-test.true
           i.evicting _ c.in-Some.ensures.pops _ c.on_evicted.ensures;
       distinct = c.pop_front.ensures.distinct;
