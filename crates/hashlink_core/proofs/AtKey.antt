@@ -1,17 +1,11 @@
 -- What a step at the place of a key is for the key.
-use Rattle.std.proofs.Common.{◌≡◌, ℕ, Bool, List, [], ◌∷◌, ◌++◌, length, None, Some, refl, sym, ap, subst}
-use Rattle.std.proofs.Common.{◌∙◌, ap₂, arith}
-use Rattle.std.specs.Prelude.{insert}
-use Rattle.std.specs.Map.{set_value}
-use Rattle.std.proofs.lemmas.Map.{NonePasses}
-use Rattle.hashlink_model.specs.Entries.{place_of, put, set_value_at}
+use Rattle.hashlink_core.proofs.Names.{◌≡◌, ℕ, Bool, List, [], ◌∷◌, ◌++◌, length, None, Some, refl, sym, ap}
+use Rattle.hashlink_core.proofs.Names.{subst, ◌∙◌, ap₂, arith, insert, set_value, NonePasses, place_of, put}
+use Rattle.hashlink_core.proofs.Names.{set_value_at, RemovesKey, WritesEntry, with_value_of, moved_at-put}
+use Rattle.hashlink_core.proofs.Names.{set_value_at-here, set_value_at-place, put-here, place_left-past}
 use Rattle.hashlink_model.specs.Entry.{InsertsValue, ReplacesValue, TakesEntry}
 use Rattle.hashlink_model.specs.MapState.{MapState, Changes, PutsEntry, with_value}
-use Rattle.hashlink_model.specs.Steps.{RemovesKey, WritesEntry, with_value_of}
-use Rattle.hashlink_model.proofs.ByPlace.{moved_at-put, set_value_at-here, set_value_at-place}
-use Rattle.hashlink_model.proofs.Puts.{put-here}
 use Rattle.hashlink_model.proofs.Splits.{stands_from_place}
-use Rattle.hashlink_core.proofs.Edits.{place_left-past}
 use Rattle.hashlink_core.proofs.Steps.{lookup-place, lookup_entry-unplaced, removes_match}
 use Rattle.hashlink_core.proofs.Steps.{none_passes_from_place}
 

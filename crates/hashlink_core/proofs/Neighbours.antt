@@ -1,23 +1,15 @@
 -- The place after a place, and the one before it, by number.
-use Rattle.std.proofs.Common.{◌≡◌, inl, inr, ℕ, zero, suc, ◌+◌, ◌-◌, ◌%◌, ◌<◌, ◌≤◌, true, false, cond, List}
-use Rattle.std.proofs.Common.{[], ◌∷◌, ◌++◌, length, Option, None, Some, refl, ap, sym, ◌∙◌, arith}
-use Rattle.std.specs.Prelude.{slice_get, unwrap_or}
+use Rattle.hashlink_core.proofs.Names.{◌≡◌, inl, inr, ℕ, zero, suc, ◌+◌, ◌-◌, ◌%◌, ◌<◌, ◌≤◌, true, false}
+use Rattle.hashlink_core.proofs.Names.{cond, List, [], ◌∷◌, ◌++◌, length, Option, None, Some, refl, ap, sym}
+use Rattle.hashlink_core.proofs.Names.{◌∙◌, arith, slice_get, unwrap_or, keys_of, length-keys_of}
+use Rattle.hashlink_core.proofs.Names.{slice_get_cases, slice_get_within, get_or_from_slice_get}
+use Rattle.hashlink_core.proofs.Names.{following_place, preceding_place, IsEntries, each-left}
+use Rattle.hashlink_core.proofs.Names.{place_of_its_key, Node, same_node, same_node_equiv, node_after}
+use Rattle.hashlink_core.proofs.Names.{node_before, last_node, next_place, prev_place, IsPlace, place_number}
+use Rattle.hashlink_core.proofs.Names.{IsPlaceAt, from-mapped, node-at, around, following-within}
 use Rattle.std.specs.List.{IsDistinct}
-use Rattle.std.specs.Map.{keys_of}
 use Rattle.std.proofs.lemmas.Map.Keys.{IsDistinct-tail, apart_from_distinct, any_passes_from_place}
-use Rattle.std.proofs.lemmas.Map.Entries.{length-keys_of}
 use Rattle.std.proofs.lemmas.Map.Made.{is_some-lookup}
-use Rattle.std.proofs.lemmas.Option.{slice_get_cases, slice_get_within, get_or_from_slice_get}
-use Rattle.hashlink_model.specs.Cursor.{following_place, preceding_place}
-use Rattle.hashlink_model.specs.Entries.{IsEntries}
-use Rattle.hashlink_model.proofs.Distinct.{each-left}
-use Rattle.hashlink_model.proofs.Places.{place_of_its_key}
-use Rattle.hashlink_nodes.specs.declared.node.Node.{Node}
-use Rattle.hashlink_nodes.specs.Node.{same_node, same_node_equiv}
-use Rattle.hashlink_nodes.specs.Ring.{node_after, node_before, last_node, next_place, prev_place, IsPlace}
-use Rattle.hashlink_core.specs.Places.{place_number, IsPlaceAt}
-use Rattle.hashlink_core.proofs.Edits.{from-mapped}
-use Rattle.hashlink_core.proofs.Places.{node-at, around, following-within}
 use native.Mathlib.Nat.{mod-eq_of_lt, add-mod_right, zero-add}
 
 -- ---- nodes
