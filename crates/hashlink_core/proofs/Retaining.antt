@@ -1,4 +1,5 @@
 -- A retain, as it comes along the list: what it has kept, and what is left to call the closure on.
+use Rattle.std.proofs.lemmas.List.{nil_from_length}
 use Rattle.hashlink_core.proofs.Names.{◌≡◌, suc, ◌+◌, ◌-◌, ◌<◌, Bool, true, false, cond, List, [], ◌∷◌, ◌++◌}
 use Rattle.hashlink_core.proofs.Names.{length, Option, None, Some, refl, ap, ap₂, sym, subst, ◌∙◌, arith}
 use Rattle.hashlink_core.proofs.Names.{slice_get, remove, Bor, MutBor, Mut, Called, IsDistinct, keys_of}
@@ -22,10 +23,6 @@ module _ {X : Type 0} where
   begins [] [] x at = absurd (cc)
   begins [] (y ∷ ys) x at = let same : y ≡ x = cc in (ys, ap (λ z. z ∷ ys) same)
   begins (z ∷ xs) ys x at = begins xs ys x at
-
-  bare : (xs : List X) → length xs ≡ 0 → xs ≡ []
-  bare [] none = refl
-  bare (x ∷ xs) none = absurd (omega (arith, none))
 
   -- where nothing passes nothing is left
   pub none-passes : (xs : List X) → filter (λ x. false) xs ≡ []
@@ -102,7 +99,7 @@ module _ {F K V S : Type 0} {eq : K → K → Bool} {T : F → K → V → Bool 
     -- at the guard
     pub retained-all : p ≡ None → RetainsInOrder T start (state_of old) (state_of m) f
     retained-all end =
-        let none = bare found.left (omega (arith, many-left found, ap (place_number m.nodes) end)) in
+        let none = nil_from_length found.left (omega (arith, many-left found, ap (place_number m.nodes) end)) in
         record {
           kept = entries_of m;
           calls = rw found.is (found.calls found.left f
