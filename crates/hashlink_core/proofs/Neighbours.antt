@@ -18,9 +18,6 @@ unfolding IsDistinct
 distinct-left [] ys d = tt
 distinct-left (x ∷ xs) ys d = (each-left _ xs ys d.0, distinct-left xs ys d.1)
 
-same-itself : (n m : Node) → m ≡ n → same_node n m ≡ true
-same-itself n m same = ap (same_node n) same ∙ same_node_equiv.refl n
-
 other-at : (m : Node) (ns : List Node) (i : ℕ) (n : Node) → IsDistinct same_node (m ∷ ns)
     → slice_get ns i ≡ Some n
     → same_node n m ≡ false
@@ -34,7 +31,7 @@ pub node_after-at : (ns : List Node) (i : ℕ) (n : Node) → IsDistinct same_no
 node_after-at [] i n d at = absurd (cc)
 node_after-at (m ∷ ns) zero n d at =
     let same : m ≡ n = cc in
-    ap (λ b. cond b (slice_get ns 0) (node_after n ns)) (same-itself n m same)
+    ap (λ b. cond b (slice_get ns 0) (node_after n ns)) (ap (same_node n) same ∙ same_node_equiv.refl n)
 node_after-at (m ∷ ns) (suc i) n d at =
     ap (λ b. cond b (slice_get ns 0) (node_after n ns)) (other-at m ns i n d at)
     ∙ node_after-at ns i n (IsDistinct-tail same_node m ns d) at
@@ -53,7 +50,7 @@ node_before-at : (before : Option Node) (ns : List Node) (i : ℕ) (n : Node) �
 node_before-at before [] i n d at = absurd (cc)
 node_before-at before (m ∷ ns) zero n d at =
     let same : m ≡ n = cc in
-    ap (λ b. cond b before (node_before n (Some m) ns)) (same-itself n m same)
+    ap (λ b. cond b before (node_before n (Some m) ns)) (ap (same_node n) same ∙ same_node_equiv.refl n)
 node_before-at before (m ∷ ns) (suc i) n d at =
     ap (λ b. cond b before (node_before n (Some m) ns)) (other-at m ns i n d at)
     ∙ node_before-at (Some m) ns i n (IsDistinct-tail same_node m ns d) at ∙ before-later m ns i

@@ -46,10 +46,6 @@ pairs_in-last [] n h = refl
 pairs_in-last (e ∷ es) n h = ap (λ ps. pair_of e.1 ∷ ps) (pairs_in-last es n h)
 
 module _ {X : Type 0} (es : List (Node × X)) where
-  -- no place stands after the guard
-  most : (n : Node) → place_number es (Some n) ≤ length es
-  most n = place_or_end-most same_node es n
-
   -- the node that stands where a place does that is not the guard
   beside-number : (o : Option Node) (q : Node) (i : ℕ) → IfSome o (λ m. q ≡ m) → place_number es o ≡ i
       → i < length es → place_number es (Some q) ≡ i
@@ -59,7 +55,7 @@ module _ {X : Type 0} (es : List (Node × X)) where
   -- the node of a place, where it is the guard's only if there is no node
   node-number : (o : Option Node) (z : Node) (i : ℕ) → place_number es o ≡ i → (length es ≡ i → i ≡ 0)
       → place_number es (Some (unwrap_or o z)) ≡ i
-  node-number None z i number none = omega (arith, number, none number, most z)
+  node-number None z i number none = omega (arith, number, none number, place_or_end-most same_node es z)
   node-number (Some m) z i number none = number
 
 -- a walk over all entries
@@ -103,8 +99,8 @@ module _ {K V : Type 0} {es : List (Node × Held K V)} {first last : Node} {left
 
     pub stands-next : StandsBetween es (Some q) (Some last) (left - 1)
     stands-next = record {
-      few = ⊎_elim (λ more. omega (arith, w.few, next-first more)) (λ last. omega (arith, last, most es q))
-          (cases_lt 1 left);
+      few = ⊎_elim (λ more. omega (arith, w.few, next-first more))
+          (λ last. omega (arith, last, place_or_end-most same_node es q)) (cases_lt 1 left);
       ends = λ more. omega (arith, w.ends (omega (arith, some)), more, next-first (omega (arith, more)));
     }
 
