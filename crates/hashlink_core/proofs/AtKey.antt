@@ -1,8 +1,8 @@
 -- What a step at the place of a key is for the key.
-use Rattle.hashlink_core.proofs.Names.{◌≡◌, ℕ, Bool, List, [], ◌∷◌, ◌++◌, length, None, Some, refl, sym, ap}
-use Rattle.hashlink_core.proofs.Names.{subst, ◌∙◌, ap₂, arith, insert, set_value, NonePasses, place_of, put}
-use Rattle.hashlink_core.proofs.Names.{set_value_at, RemovesKey, WritesEntry, with_value_of, moved_at-put}
-use Rattle.hashlink_core.proofs.Names.{set_value_at-here, set_value_at-place, put-here, place_left-past}
+use Rattle.hashlink_core.proofs.Names.{◌≡◌, ℕ, Bool, List, [], ◌∷◌, length, None, Some, refl, sym, ap}
+use Rattle.hashlink_core.proofs.Names.{subst, ◌∙◌, arith, set_value, NonePasses, place_of}
+use Rattle.hashlink_core.proofs.Names.{RemovesKey, WritesEntry, with_value_of, moved_at-put}
+use Rattle.hashlink_core.proofs.Names.{set_value_at-place}
 use Rattle.hashlink_model.specs.Entry.{InsertsValue, ReplacesValue, TakesEntry}
 use Rattle.hashlink_model.specs.MapState.{MapState, Changes, PutsEntry, with_value}
 use Rattle.hashlink_model.proofs.Puts.{put_at_its_place}

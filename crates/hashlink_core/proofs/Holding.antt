@@ -1,7 +1,7 @@
 -- Which keys a node holds, by the entry that stands with it, and that it holds them still when it moves.
 use Rattle.hashlink_core.proofs.Names.{◌≡◌, ℕ, Bool, true, List, ◌∷◌, length, Some, refl, ap, sym, subst, ◌∙◌}
-use Rattle.hashlink_core.proofs.Names.{arith, is_some, insert, remove, slice_get, unwrap_or, IfSome, Contains}
-use Rattle.hashlink_core.proofs.Names.{option_map, IsEquivalence, lookup_from_place, lookup-from_Contains}
+use Rattle.hashlink_core.proofs.Names.{arith, is_some, insert, remove, slice_get, unwrap_or, Contains}
+use Rattle.hashlink_core.proofs.Names.{IsEquivalence, lookup_from_place, lookup-from_Contains}
 use Rattle.hashlink_core.proofs.Names.{Node, same_node, same_node_equiv, place_left, place_of_its_key, Keyed}
 use Rattle.hashlink_core.proofs.Names.{entries_of, HoldsKey, HoldsMatch, EqualsKeyAt, PassesAt, IsKeyed}
 use Rattle.hashlink_core.proofs.Names.{place_number, MovesNode, moved_at-is, passes-at, mapped-at, node-at}

@@ -1,5 +1,5 @@
 -- The place after a place, and the one before it, by number.
-use Rattle.hashlink_core.proofs.Names.{◌≡◌, inl, inr, ℕ, zero, suc, ◌+◌, ◌-◌, ◌%◌, ◌<◌, ◌≤◌, true, false}
+use Rattle.hashlink_core.proofs.Names.{◌≡◌, inl, inr, ℕ, zero, suc, ◌+◌, ◌-◌, ◌%◌, ◌<◌, ◌≤◌, false}
 use Rattle.hashlink_core.proofs.Names.{cond, List, [], ◌∷◌, ◌++◌, length, Option, None, Some, refl, ap, sym}
 use Rattle.hashlink_core.proofs.Names.{◌∙◌, arith, slice_get, unwrap_or, keys_of, length-keys_of}
 use Rattle.hashlink_core.proofs.Names.{slice_get_cases, slice_get_within, get_or_from_slice_get}

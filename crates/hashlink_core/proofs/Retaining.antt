@@ -2,7 +2,7 @@
 use Rattle.std.proofs.lemmas.List.{nil_from_length}
 use Rattle.hashlink_core.proofs.Names.{◌≡◌, suc, ◌+◌, ◌-◌, ◌<◌, Bool, true, false, cond, List, [], ◌∷◌, ◌++◌}
 use Rattle.hashlink_core.proofs.Names.{length, Option, None, Some, refl, ap, ap₂, sym, subst, ◌∙◌, arith}
-use Rattle.hashlink_core.proofs.Names.{slice_get, remove, Bor, MutBor, Mut, Called, IsDistinct, keys_of}
+use Rattle.hashlink_core.proofs.Names.{slice_get, remove, Bor, MutBor, Mut, Called}
 use Rattle.hashlink_core.proofs.Names.{remove_entry, CallableOnEachPair, CalledAtPair, length-append}
 use Rattle.hashlink_core.proofs.Names.{length-values_of, following_place, set_value_at, KeepsOnly}
 use Rattle.hashlink_core.proofs.Names.{set_value_at-here, Node, same_node, IsPlace, Keyed, IsKeyed}

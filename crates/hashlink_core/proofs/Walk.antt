@@ -1,5 +1,5 @@
 -- A walk along a ring, by where it stands at both ends.
-use Rattle.hashlink_core.proofs.Names.{◌≡◌, ℕ, zero, suc, ◌+◌, ◌-◌, ◌<◌, ◌≤◌, ◌≢◌, true, false, cond, List}
+use Rattle.hashlink_core.proofs.Names.{◌≡◌, ℕ, zero, suc, ◌+◌, ◌-◌, ◌<◌, ◌≢◌, true, false, cond, List}
 use Rattle.hashlink_core.proofs.Names.{[], ◌∷◌, ◌++◌, length, take, drop, Option, None, Some, refl, ap, sym}
 use Rattle.hashlink_core.proofs.Names.{◌∙◌, arith, ⊎_elim, slice_get, is_some, unwrap_or, IfSome, IsDistinct}
 use Rattle.hashlink_core.proofs.Names.{option_map, lookup, keys_of, TakesFirst, TakesLast, ShowsInOrder}
