@@ -2,7 +2,7 @@
 pub use Rattle.hashlink_core.proofs.Edits.{IsEntries-inserted, IsEntries-removed, at-element, drop-at}
 pub use Rattle.hashlink_core.proofs.Edits.{element-at, from-mapped, from_part, insert-map, length-inserted}
 pub use Rattle.hashlink_core.proofs.Edits.{length-removed, mapped-at, moved-map, moved_at-is, none-inserted}
-pub use Rattle.hashlink_core.proofs.Edits.{none-removed, passes-at, place_left-past, place_or_end-cons}
+pub use Rattle.hashlink_core.proofs.Edits.{none-removed, passes-at, place_or_end-cons}
 pub use Rattle.hashlink_core.proofs.Edits.{place_or_end-most, remove-map, remove_entry-at}
 pub use Rattle.hashlink_core.proofs.Places.{IsNodeAt, around, following-within, keys-renewed, left-at}
 pub use Rattle.hashlink_core.proofs.Places.{moves_after-at, moves_before-at, node-at, place-renewed}
@@ -22,10 +22,10 @@ pub use Rattle.hashlink_model.proofs.ByPlace.{moved_at-place, moved_at-put, remo
 pub use Rattle.hashlink_model.proofs.ByPlace.{set_value_at-place}
 pub use Rattle.hashlink_model.proofs.Distinct.{IsEntries-nil, each-left, none_equal}
 pub use Rattle.hashlink_model.proofs.Places.{place_of_its_key, slice_get_here}
-pub use Rattle.hashlink_model.proofs.Puts.{put-absent, put-here}
+pub use Rattle.hashlink_model.proofs.Puts.{put-absent}
 pub use Rattle.hashlink_model.specs.Cursor.{following_place, preceding_place}
 pub use Rattle.hashlink_model.specs.Entries.{IsEntries, IsKeyTest, moved_at, place_left, place_of}
-pub use Rattle.hashlink_model.specs.Entries.{place_or_end, put, set_key_at, set_value_at}
+pub use Rattle.hashlink_model.specs.Entries.{place_or_end, set_key_at, set_value_at}
 pub use Rattle.hashlink_model.specs.Entry.{key_at, replace_entry, value_at}
 pub use Rattle.hashlink_model.specs.Many.{AcceptsAll, InsertsPair, StopsAt}
 pub use Rattle.hashlink_model.specs.Steps.{KeepsOnly, MovesMatchAndWrites, RemovesKey, RemovesMatch, Replaces}
