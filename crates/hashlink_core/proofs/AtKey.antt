@@ -1,33 +1,13 @@
 -- What a step at the place of a key is for the key.
-use Rattle.std.proofs.Common.{◌≡◌, ℕ, Bool, List, [], ◌∷◌, ◌++◌, length, None, Some, refl, sym, ap, subst}
-use Rattle.std.proofs.Common.{◌∙◌, ap₂, arith}
-use Rattle.std.specs.Prelude.{insert}
-use Rattle.std.specs.Map.{set_value}
-use Rattle.std.proofs.lemmas.Map.{NonePasses}
-use Rattle.hashlink_model.specs.Entries.{place_of, put, set_value_at}
+use Rattle.hashlink_core.proofs.Names.{◌≡◌, ℕ, Bool, List, [], ◌∷◌, length, None, Some, refl, sym, ap}
+use Rattle.hashlink_core.proofs.Names.{subst, ◌∙◌, arith, set_value, NonePasses, place_of}
+use Rattle.hashlink_core.proofs.Names.{RemovesKey, WritesEntry, with_value_of, moved_at-put}
+use Rattle.hashlink_core.proofs.Names.{set_value_at-place}
 use Rattle.hashlink_model.specs.Entry.{InsertsValue, ReplacesValue, TakesEntry}
 use Rattle.hashlink_model.specs.MapState.{MapState, Changes, PutsEntry, with_value}
-use Rattle.hashlink_model.specs.Steps.{RemovesKey, WritesEntry, with_value_of}
-use Rattle.hashlink_model.proofs.ByPlace.{moved_at-put, set_value_at-here, set_value_at-place}
-use Rattle.hashlink_model.proofs.Puts.{put-here}
-use Rattle.hashlink_model.proofs.Splits.{stands_from_place}
-use Rattle.hashlink_core.proofs.Edits.{place_left-past}
+use Rattle.hashlink_model.proofs.Puts.{put_at_its_place}
 use Rattle.hashlink_core.proofs.Steps.{lookup-place, lookup_entry-unplaced, removes_match}
 use Rattle.hashlink_core.proofs.Steps.{none_passes_from_place}
-
-in-its-place : {X : Type 0} (xs ys : List X) (x : X) → insert (xs ++ ys) (length xs) x ≡ xs ++ x ∷ ys
-in-its-place [] ys x = refl
-in-its-place (z ∷ xs) ys x = ap (λ r. z ∷ r) (in-its-place xs ys x)
-
--- a key that is put where it stands takes the value alone
-put-there : {K V : Type 0} (eq : K → K → Bool) (es : List (K × V)) (k : K) (v : V) (j : ℕ)
-    → place_of (eq k) es ≡ Some j → set_value_at es j v ≡ put eq es k v j
-put-there eq es k v j p =
-    let s = stands_from_place (eq k) es j p in
-    ap₂ (λ zs n. set_value_at zs n v) s.3.is (sym s.4) ∙ set_value_at-here s.0 s.1 s.2 v
-    ∙ sym (put-here eq s.0 s.1 s.2 k v (length s.0) s.3.passes s.3.before
-    ∙ ap (λ i. insert (s.0 ++ s.2) i (s.1.0, v)) (place_left-past (length s.0) (length s.0) (omega arith))
-    ∙ in-its-place s.0 s.2 (s.1.0, v)) ∙ ap₂ (λ zs n. put eq zs k v n) (sym s.3.is) s.4
 
 module _ {K V S : Type 0} (eq : K → K → Bool) (old new : MapState K V S) (k : K) (j : ℕ)
     (p : place_of (eq k) old.entries ≡ Some j) where
@@ -35,7 +15,8 @@ module _ {K V S : Type 0} (eq : K → K → Bool) (old new : MapState K V S) (k 
   stays-key v w s = record {
     old_value = lookup-place (eq k) old.entries j p ∙ s.answer;
     puts = record {
-      entries = s.step.entries ∙ put-there eq old.entries k v j p;
+      entries = s.step.entries ∙ set_value_at-place (eq k) old.entries j v p
+          ∙ sym (put_at_its_place eq old.entries k v j p);
       spare = s.step.spare;
       room = s.step.room;
       link_writes = record {

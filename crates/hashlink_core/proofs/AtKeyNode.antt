@@ -1,27 +1,20 @@
 -- What the calls of a map leave, from what the calls of the keyed list inside it leave, at the node of a key.
-use Rattle.std.proofs.Common.{◌≡◌, ◌+◌, ◌≤◌, ℕ, Bool, List, [], ◌∷◌, length, Option, None, Some, refl, sym}
-use Rattle.std.proofs.Common.{ap, subst, ◌∙◌, arith}
-use Rattle.std.specs.Prelude.{slice_get, is_some, Result, Ok, Err, IsErrAnd, IsOk, OnOk, OnErr}
-use Rattle.std.specs.Option.{option_map}
-use Rattle.std.specs.Cmp.{IsEquivalence}
-use Rattle.std.specs.Map.{lookup, lookup_entry, values_of}
-use Rattle.std.proofs.lemmas.Map.Entries.{length-values_of}
+use Rattle.hashlink_core.proofs.Names.{◌≡◌, ◌+◌, ◌≤◌, ℕ, Bool, List, [], ◌∷◌, length, Option, None, Some}
+use Rattle.hashlink_core.proofs.Names.{refl, sym, ap, subst, ◌∙◌, arith, slice_get, is_some, option_map}
+use Rattle.hashlink_core.proofs.Names.{IsEquivalence, lookup, lookup_entry, values_of, length-values_of}
+use Rattle.hashlink_core.proofs.Names.{IsEntries, IsKeyTest, place_of, Shrinks, MovesMatchAndWrites}
+use Rattle.hashlink_core.proofs.Names.{with_match_value, lookup-moved, set_value_at-place, moved_at-put}
+use Rattle.hashlink_core.proofs.Names.{put-absent, Keyed, entries_of, state_of, HoldsKey, HoldsMatch, IsKeyed}
+use Rattle.hashlink_core.proofs.Names.{pair_with_value, with_value_at, place_number, AddsNode, MovesNode}
+use Rattle.hashlink_core.proofs.Names.{WritesNode, GrowsRoom, place_number-renewed, renewed-holds}
+use Rattle.std.specs.Prelude.{Result, Ok, Err, IsErrAnd, IsOk, OnOk, OnErr}
 use Rattle.std.proofs.lemmas.Result.{err_from_is_err_and}
-use Rattle.hashlink_model.specs.Entries.{IsEntries, IsKeyTest, place_of, moved_match}
+use Rattle.hashlink_model.specs.Entries.{moved_match}
 use Rattle.hashlink_model.specs.MapState.{RoomFor, Changes, AddsEntry, PutsEntry, RefusesEntry}
-use Rattle.hashlink_model.specs.Steps.{Shrinks, MovesMatchAndWrites, with_match_value}
-use Rattle.hashlink_model.proofs.Afterwards.{lookup-moved}
-use Rattle.hashlink_model.proofs.ByPlace.{set_value_at-place, moved_at-put}
-use Rattle.hashlink_model.proofs.Puts.{put-absent}
 use Rattle.hashlink_model.proofs.Splits.{key_from_place}
-use Rattle.hashlink_core.specs.Keyed.{Keyed, entries_of, state_of, HoldsKey, HoldsMatch, IsKeyed}
-use Rattle.hashlink_core.specs.Keyed.{pair_with_value}
-use Rattle.hashlink_core.specs.KeyedLends.{with_value_at}
-use Rattle.hashlink_core.specs.Places.{Node, Holds, place_number}
-use Rattle.hashlink_core.specs.Steps.{AddsNode, MovesNode, WritesNode, GrowsRoom}
+use Rattle.hashlink_core.specs.Places.{Node, Holds}
 use Rattle.hashlink_core.proofs.Holding.{moved-holds_key}
 use Rattle.hashlink_core.proofs.Mapped.{values-renewed_value}
-use Rattle.hashlink_core.proofs.Places.{place_number-renewed, renewed-holds}
 use Rattle.hashlink_core.proofs.Steps.{lookup_entry-place, lookup-place, lookup-unplaced, then_moves}
 use Rattle.hashlink_core.proofs.Steps.{none_passes_from_place}
 

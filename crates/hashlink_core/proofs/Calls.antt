@@ -1,41 +1,31 @@
 -- What the calls of the keyed list leave, from the clauses of the ring and of the table.
-use Rattle.std.proofs.Common.{◌≡◌, Result, Ok, Err, OnOk, OnErr, ℕ, ◌+◌, ◌-◌, ◌≤◌, Bool, true, List, ◌∷◌}
-use Rattle.std.proofs.Common.{◌++◌, length, drop, Option, None, Some, refl, ap, ap₂, sym, subst, ◌∙◌, arith}
-use Rattle.std.proofs.Common.{length-drop}
-use Rattle.std.specs.Prelude.{slice_get, insert, remove, IsPermutation}
-use Rattle.std.specs.List.{IsDistinct}
-use Rattle.std.specs.Option.{option_map, option_map_or, IfSome}
-use Rattle.std.specs.Cmp.{IsEquivalence}
+use Rattle.hashlink_core.proofs.Names.{◌≡◌, Result, Ok, Err, OnErr, ℕ, ◌+◌, ◌-◌, ◌≤◌, Bool, true, List, ◌∷◌}
+use Rattle.hashlink_core.proofs.Names.{◌++◌, length, drop, Option, None, Some, refl, ap, ap₂, sym, subst, ◌∙◌}
+use Rattle.hashlink_core.proofs.Names.{arith, slice_get, insert, remove, IsPermutation, IsDistinct}
+use Rattle.hashlink_core.proofs.Names.{option_map, IsEquivalence, lookup, remove_entry, set_value, keys_of}
+use Rattle.hashlink_core.proofs.Names.{values_of, NonePasses, lookup-none, length-values_of, following_place}
+use Rattle.hashlink_core.proofs.Names.{preceding_place, place_of, moved_at, place_left, Node, Held, same_node}
+use Rattle.hashlink_core.proofs.Names.{same_node_equiv, Holds, IsPlace, next_place, prev_place, Ring, held}
+use Rattle.hashlink_core.proofs.Names.{pair_of, with_value, with_key, MovesBefore, MovesAfter, put_before}
+use Rattle.hashlink_core.proofs.Names.{Contents, len_of, Keyed, nodes_of, pairs_in, entries_of, state_of}
+use Rattle.hashlink_core.proofs.Names.{keyed, seen_as, pair_with_value, pair_with_key, IsKeyed, HoldsKey}
+use Rattle.hashlink_core.proofs.Names.{with_value_at, place_number, IsPlaceAt, renewed_at, AddsNode}
+use Rattle.hashlink_core.proofs.Names.{RemovesNode, MovesNode, WritesNode, SetsNodeKey, GrowsRoom, IsInStep}
+use Rattle.hashlink_core.proofs.Names.{short, insert-map, remove-map, length-inserted, length-removed}
+use Rattle.hashlink_core.proofs.Names.{moved-map, remove_entry-at, moved_at-is, none-inserted, passes-at}
+use Rattle.hashlink_core.proofs.Names.{keys_of-map_values, lookup-map_values, IsNodeAt, node-at}
+use Rattle.hashlink_core.proofs.Names.{put_before-at, set_value-at, renewed_at-is, moves_before-at}
+use Rattle.hashlink_core.proofs.Names.{moves_after-at, same-number, same-place}
+use Rattle.std.proofs.Common.{OnOk, length-drop}
+use Rattle.std.specs.Option.{option_map_or, IfSome}
 use Rattle.std.specs.Int.{IsPowerOfTwo}
-use Rattle.std.specs.Map.{lookup, remove_entry, set_value, keys_of, values_of}
-use Rattle.std.proofs.lemmas.Map.{NonePasses, lookup-none}
-use Rattle.std.proofs.lemmas.Map.Entries.{length-values_of}
-use Rattle.hashlink_model.specs.Cursor.{following_place, preceding_place}
 use Rattle.hashlink_model.specs.MapState.{Changes, StoresAtMost}
-use Rattle.hashlink_model.specs.Entries.{place_of, moved_at, place_left}
-use Rattle.hashlink_nodes.specs.declared.node.Node.{Node}
-use Rattle.hashlink_nodes.specs.declared.held.Held.{Held}
-use Rattle.hashlink_nodes.specs.Node.{same_node, same_node_equiv}
-use Rattle.hashlink_nodes.specs.Ring.{Holds, IsPlace, next_place, prev_place, Ring, held, pair_of, with_value}
-use Rattle.hashlink_nodes.specs.Ring.{with_key, MovesBefore, MovesAfter, put_before}
-use Rattle.hashlink_nodes.specs.NodesLends.{with_value_at as ring_with_value_at}
-use Rattle.hashlink_table.specs.Contents.{Contents, len_of}
-use Rattle.hashlink_core.specs.Keyed.{Keyed, nodes_of, pairs_in, entries_of, state_of, keyed, seen_as}
-use Rattle.hashlink_core.specs.Keyed.{pair_with_value, pair_with_key, IsKeyed, HoldsKey}
-use Rattle.hashlink_core.specs.KeyedLends.{with_value_at}
-use Rattle.hashlink_core.specs.Places.{place_number, IsPlaceAt, renewed_at}
-use Rattle.hashlink_core.specs.Steps.{AddsNode, RemovesNode, MovesNode, WritesNode, SetsNodeKey, GrowsRoom}
-use Rattle.hashlink_core.specs.Tied.{IsInStep, short}
-use Rattle.hashlink_core.proofs.Edits.{insert-map, remove-map, length-inserted, length-removed, moved-map}
-use Rattle.hashlink_core.proofs.Edits.{remove_entry-at, moved_at-is, none-inserted, passes-at}
-use Rattle.hashlink_core.proofs.Mapped.{length-mapped, remove_entry-mapped, keys-mapped, lookup-mapped}
-use Rattle.hashlink_core.proofs.Mapped.{place_number-mapped, renewed-mapped, values-renewed_value}
-use Rattle.hashlink_core.proofs.Mapped.{values-renewed_key}
+use Rattle.hashlink_core.proofs.Mapped.{length-mapped, remove_entry-mapped, place_number-mapped}
+use Rattle.hashlink_core.proofs.Mapped.{renewed-mapped, values-renewed_value, values-renewed_key}
 use Rattle.hashlink_core.proofs.Neighbours.{distinct-left, next-number, prev-number}
-use Rattle.hashlink_core.proofs.Places.{IsNodeAt, node-at, put_before-at, set_value-at, renewed_at-is}
-use Rattle.hashlink_core.proofs.Places.{moves_before-at, moves_after-at, same-number, same-place}
 use Rattle.hashlink_core.proofs.Stepping.{pair-at, length-pairs, step-in, step-out, step-renewed, kept}
 use Rattle.hashlink_core.proofs.Steps.{none_passes_from_place}
+use Rattle.hashlink_nodes.specs.NodesLends.{with_value_at as ring_with_value_at}
 
 -- a step that stored n links stored n at most
 stores-exactly : (n old new : ℕ) → new ≡ old + n → StoresAtMost n old new
@@ -50,7 +40,7 @@ module _ {K V S : Type 0} {eq : K → K → Bool} {hash : K → ℕ} {s : S} {r 
   pub sound : {seen : Keyed K V S} → seen_as r t s ≡ seen → IsInStep eq hash r t → IsKeyed eq seen
   sound view step = subst (IsKeyed eq) view (record {
     distinct = step.distinct;
-    apart = subst (IsDistinct same_node) (sym (keys-mapped pair_of r.entries)) step.apart;
+    apart = subst (IsDistinct same_node) (sym (keys_of-map_values pair_of r.entries)) step.apart;
     fits = omega (arith, step.fits, length-pairs r.entries);
   })
 
@@ -62,7 +52,7 @@ module _ {K V S : Type 0} {eq : K → K → Bool} (laws : IsEquivalence eq) {has
 
   -- the nodes, as the ring has them
   keys-inside : keys_of seen.nodes ≡ keys_of r.entries
-  keys-inside = ap keys_of (sym nodes-seen) ∙ keys-mapped pair_of r.entries
+  keys-inside = ap keys_of (sym nodes-seen) ∙ keys_of-map_values pair_of r.entries
 
   number-inside : (p : Option Node) → place_number seen.nodes p ≡ place_number r.entries p
   number-inside p = same-number seen.nodes r.entries p keys-inside
@@ -77,7 +67,7 @@ module _ {K V S : Type 0} {eq : K → K → Bool} (laws : IsEquivalence eq) {has
       same-place (remove_entry (same_node n) seen.nodes) (remove_entry (same_node n) r.entries) p
       (ap (λ ns. keys_of (remove_entry (same_node n) ns)) (sym nodes-seen)
       ∙ ap keys_of (sym (remove_entry-mapped pair_of (same_node n) r.entries))
-      ∙ keys-mapped pair_of (remove_entry (same_node n) r.entries))
+      ∙ keys_of-map_values pair_of (remove_entry (same_node n) r.entries))
 
   -- the place that the ring answers
   pub next-inside : (p q : Option Node) → IsPlace seen.nodes p → q ≡ next_place (keys_of r.entries) p
@@ -310,7 +300,7 @@ module _ {K V S : Type 0} {eq : K → K → Bool} (laws : IsEquivalence eq) {has
         more ∙ ap (λ i. i + 1) (length-values_of old.nodes) in
         record {
           fresh = ap (λ ns. lookup (same_node n) ns) (sym same-nodes)
-              ∙ lookup-mapped pair_of (same_node n) r.entries
+              ∙ lookup-map_values pair_of (same_node n) r.entries
               ∙ ap (option_map pair_of) (lookup-none (same_node n) r.entries fresh-inside);
           nodes = gone_in;
           state = record {

@@ -24,10 +24,6 @@ module _ {X : Type 0} where
   drop-at (y ∷ xs) zero x at = let same : y ≡ x = cc in ap (λ z. z ∷ xs) same
   drop-at (y ∷ xs) (suc i) x at = drop-at xs i x at
 
-  -- taken apart at an element
-  split-at : (xs : List X) (i : ℕ) (x : X) → slice_get xs i ≡ Some x → xs ≡ take i xs ++ x ∷ drop (suc i) xs
-  split-at xs i x at = sym (take-append-drop i xs) ∙ ap (λ ys. take i xs ++ ys) (drop-at xs i x at)
-
   -- an element by its index
   pub element-at : (xs : List X) (i : ℕ) (x : X) → slice_get xs i ≡ Some x → Contains xs x
   element-at xs i x at = (i, slice_get_within xs i x at, get_or_from_slice_get xs i x x at)
@@ -128,7 +124,8 @@ module _ {A B : Type 0} (eq : A → A → Bool) where
   module _ (laws : IsEquivalence eq) (es : List (A × B)) (d : IsEntries eq es) where
     module _ (j : ℕ) (e : A × B) (at : slice_get es j ≡ Some e) where
       split : IsEntries eq (take j es ++ e ∷ drop (suc j) es)
-      split = subst (IsEntries eq) (split-at es j e at) d
+      split = subst (IsEntries eq)
+          (sym (take-append-drop j es) ∙ ap (λ ys. take j es ++ ys) (drop-at es j e at)) d
 
       pub IsEntries-removed : IsEntries eq (remove es j)
       IsEntries-removed = IsEntries-middle eq laws (take j es) e (drop (suc j) es) split

@@ -1,35 +1,22 @@
 -- Finding a key's node by the table. A node is marked by a number that is no short hash: so the table finds
 -- it, and so it is told from another.
-use Rattle.std.proofs.Common.{◌++◌, ◌≡◌, ℕ, ◌^◌, ◌<◌, ◌≤◌, Bool, true, false, cond, eqb, eqb-true, eq-eqb}
-use Rattle.std.proofs.Common.{List, ◌∷◌, Option, None, Some, refl, ap, sym, subst, ◌∙◌, arith, ◌⊎◌, inl, inr}
-use Rattle.std.proofs.Common.{length}
-use Rattle.std.specs.Borrow.{Bor}
-use Rattle.std.specs.Cmp.{IsEquivalence}
-use Rattle.std.specs.Fn.{Shared, FnReturnsAt}
-use Rattle.std.specs.List.{fold}
-use Rattle.std.specs.Map.{lookup, remove_entry, set_value, keys_of}
-use Rattle.std.specs.Option.{option_map, is_some, IfSome, IfNone, MatchOption}
-use Rattle.std.specs.Prelude.{is_some, IfSome, IfNone, IsTrue, IsPermutation, slice_get, Contains}
+use Rattle.hashlink_core.proofs.Names.{◌++◌, ◌≡◌, ℕ, ◌^◌, ◌<◌, ◌≤◌, Bool, true, false, cond, eqb, eqb-true}
+use Rattle.hashlink_core.proofs.Names.{eq-eqb, List, ◌∷◌, Option, None, Some, refl, ap, sym, subst, ◌∙◌}
+use Rattle.hashlink_core.proofs.Names.{arith, ◌⊎◌, inl, inr, length, Bor, IsEquivalence, Shared, FnReturnsAt}
+use Rattle.hashlink_core.proofs.Names.{fold, lookup, remove_entry, set_value, keys_of, option_map, is_some}
+use Rattle.hashlink_core.proofs.Names.{IfSome, IfNone, IsTrue, IsPermutation, slice_get, Contains}
+use Rattle.hashlink_core.proofs.Names.{lookup-set_value, NonePasses, Contains-from_lookup}
+use Rattle.hashlink_core.proofs.Names.{lookup-from_Contains, place_of_its_key, slice_get_here, place_of}
+use Rattle.hashlink_core.proofs.Names.{IsKeyTest, same_node, same_node_equiv, eq-same_node, Ring, ring, Holds}
+use Rattle.hashlink_core.proofs.Names.{pair_of, with_number, Held, Node, Contents, Keeps, nodes_of, pairs_in}
+use Rattle.hashlink_core.proofs.Names.{HoldsMatch, place_number, Tells, IsInStep, short, hash_with, mapped-at}
+use Rattle.hashlink_core.proofs.Names.{from_part, element-at, at-element, lookup-map_values, node-at}
+use Rattle.std.specs.Option.{is_some, IfSome, IfNone, MatchOption}
 use Rattle.std.proofs.Math.Path.{fun_ext}
-use Rattle.std.proofs.lemmas.Map.{lookup-set_value, NonePasses}
 use Rattle.std.proofs.lemmas.Map.Steps.{set_value_same}
-use Rattle.std.proofs.lemmas.Map.Views.{Contains-from_lookup, lookup-from_Contains}
-use Rattle.hashlink_model.proofs.Places.{place_of_its_key, slice_get_here}
 use Rattle.hashlink_model.proofs.Splits.{Stands, splits, place_of-none, stands_from_lookup, set_value-here}
 use Rattle.hashlink_model.proofs.Splits.{remove_entry-here}
-use Rattle.hashlink_model.specs.Entries.{place_of, IsKeyTest}
-use Rattle.hashlink_nodes.specs.Node.{same_node, same_node_equiv, eq-same_node}
-use Rattle.hashlink_nodes.specs.Ring.{Ring, ring, Holds, pair_of, with_number}
-use Rattle.hashlink_nodes.specs.declared.held.Held.{Held}
-use Rattle.hashlink_nodes.specs.declared.node.Node.{Node}
-use Rattle.hashlink_table.specs.Contents.{Contents, Keeps}
-use Rattle.hashlink_core.specs.Keyed.{nodes_of, pairs_in, HoldsMatch}
-use Rattle.hashlink_core.specs.Places.{place_number}
-use Rattle.hashlink_core.specs.Telling.{Tells}
-use Rattle.hashlink_core.specs.Tied.{IsInStep, short, hash_with}
-use Rattle.hashlink_core.proofs.Edits.{mapped-at, from_part, element-at, at-element}
-use Rattle.hashlink_core.proofs.Mapped.{lookup-mapped, place_number-mapped}
-use Rattle.hashlink_core.proofs.Places.{node-at}
+use Rattle.hashlink_core.proofs.Mapped.{place_number-mapped}
 use Rattle.hashlink_core.proofs.Stepping.{pair-at, held-at, kept, listed, in-table, number-of, was-kept}
 
 -- an entry that is written, and taken out or written again
@@ -310,7 +297,7 @@ module _ {K V : Type 0} {eq : K → K → Bool} (laws : IsEquivalence eq) {hash 
         let met : passes k ≡ true = answered n x.0 true x.1.found some.1 in
         let is : passes ≡ eq k = fun_ext (λ y. alike k y met) in
         record {
-          within = ap is_some (lookup-mapped pair_of (same_node n) r.entries
+          within = ap is_some (lookup-map_values pair_of (same_node n) r.entries
               ∙ ap (option_map pair_of) x.1.found);
           place = ap (λ test. place_of test (pairs_in r.entries)) is
               ∙ place_of_its_key eq laws (pairs_in r.entries) (place_number r.entries (Some n)) (pair_of x.0)

@@ -1,20 +1,12 @@
 -- Which keys a node holds, by the entry that stands with it, and that it holds them still when it moves.
-use Rattle.std.proofs.Common.{◌≡◌, ℕ, Bool, true, List, ◌∷◌, length, Some, refl, ap, sym, subst, ◌∙◌, arith}
-use Rattle.std.specs.Prelude.{is_some, insert, remove, slice_get, unwrap_or, IfSome, Contains}
-use Rattle.std.specs.Option.{option_map}
-use Rattle.std.specs.Cmp.{IsEquivalence}
+use Rattle.hashlink_core.proofs.Names.{◌≡◌, ℕ, Bool, true, List, ◌∷◌, length, Some, refl, ap, sym, subst, ◌∙◌}
+use Rattle.hashlink_core.proofs.Names.{arith, is_some, insert, remove, slice_get, unwrap_or, Contains}
+use Rattle.hashlink_core.proofs.Names.{IsEquivalence, lookup_from_place, lookup-from_Contains}
+use Rattle.hashlink_core.proofs.Names.{Node, same_node, same_node_equiv, place_left, place_of_its_key, Keyed}
+use Rattle.hashlink_core.proofs.Names.{entries_of, HoldsKey, HoldsMatch, EqualsKeyAt, PassesAt, IsKeyed}
+use Rattle.hashlink_core.proofs.Names.{place_number, MovesNode, moved_at-is, passes-at, mapped-at, node-at}
 use Rattle.std.proofs.lemmas.List.Sorted.{Contains-permutation, IsPermutation-insert}
-use Rattle.std.proofs.lemmas.Map.Entries.{lookup_from_place}
-use Rattle.std.proofs.lemmas.Map.Views.{lookup-from_Contains}
-use Rattle.hashlink_nodes.specs.declared.node.Node.{Node}
-use Rattle.hashlink_nodes.specs.Node.{same_node, same_node_equiv}
-use Rattle.hashlink_model.specs.Entries.{place_left}
-use Rattle.hashlink_model.proofs.Places.{place_of_its_key}
-use Rattle.hashlink_core.specs.Keyed.{Keyed, entries_of, HoldsKey, HoldsMatch, EqualsKeyAt, PassesAt, IsKeyed}
-use Rattle.hashlink_core.specs.Places.{Holds, place_number}
-use Rattle.hashlink_core.specs.Steps.{MovesNode}
-use Rattle.hashlink_core.proofs.Edits.{moved_at-is, passes-at, mapped-at}
-use Rattle.hashlink_core.proofs.Places.{node-at}
+use Rattle.hashlink_core.specs.Places.{Holds}
 
 -- an entry that stands at p with its node n
 module _ {K V S : Type 0} {eq : K → K → Bool} (laws : IsEquivalence eq) (m : Keyed K V S)

@@ -1,8 +1,7 @@
 -- Items that go in, in turn.
-use Rattle.std.proofs.Common.{◌≡◌, ℕ, ◌+◌, ◌-◌, ◌^◌, List, [], ◌∷◌, ◌++◌, length, map, min, Result, Ok, Err}
-use Rattle.std.proofs.Common.{refl, ap, ◌∙◌, arith, length-append, append_assoc}
-use Rattle.std.proofs.lemmas.List.{map-append}
-use Rattle.hashlink_model.specs.Many.{AcceptsAll, StopsAt}
+use Rattle.hashlink_core.proofs.Names.{◌≡◌, ℕ, ◌+◌, ◌-◌, ◌^◌, List, [], ◌∷◌, ◌++◌, length, map, min, Result}
+use Rattle.hashlink_core.proofs.Names.{Ok, Err, refl, ap, ◌∙◌, arith, map-append, AcceptsAll, StopsAt}
+use Rattle.std.proofs.Common.{length-append, append_assoc}
 use Rattle.hashlink_model.proofs.InTurn.{accepts_in_parts}
 
 module _ {State Item A : Type 0} (step : State → State → Item → Result A Item → Type 0) where

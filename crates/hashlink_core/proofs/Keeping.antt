@@ -1,25 +1,18 @@
 -- A place stays where its entry is, when a pair comes in, an entry moves or a value is written.
-use Rattle.std.proofs.Common.{◌≡◌, ℕ, suc, Bool, true, false, zero, List, [], ◌∷◌, length, Option, None, Some}
-use Rattle.std.proofs.Common.{refl, sym, ap, subst, ◌∙◌, cond, arith}
-use Rattle.std.specs.Prelude.{slice_get, is_some, unwrap_or}
-use Rattle.std.specs.Option.{option_map}
-use Rattle.std.specs.Cmp.{IsEquivalence}
-use Rattle.std.specs.Map.{lookup, remove_entry}
+use Rattle.hashlink_core.proofs.Names.{◌≡◌, ℕ, suc, Bool, true, false, zero, List, [], ◌∷◌, length, Option}
+use Rattle.hashlink_core.proofs.Names.{None, Some, refl, sym, ap, subst, ◌∙◌, cond, arith, slice_get, is_some}
+use Rattle.hashlink_core.proofs.Names.{unwrap_or, option_map, IsEquivalence, lookup, remove_entry}
+use Rattle.hashlink_core.proofs.Names.{length-values_of, same_node, same_node_equiv, eq-same_node, IsEntries}
+use Rattle.hashlink_core.proofs.Names.{lookup-moved, moved_at-place, place_of_its_key, Keyed, entries_of}
+use Rattle.hashlink_core.proofs.Names.{IsKeyed, pair_with_value, place_number, renewed_at, AddsNode}
+use Rattle.hashlink_core.proofs.Names.{MovesNode, WritesNode, GrowsRoom, KeepsKeys, KeepsPlace}
+use Rattle.hashlink_core.proofs.Names.{lookup-map_values, node-at}
 use Rattle.std.proofs.lemmas.Map.{none_passes_from_lookup, lookup-remove_entry, lookup-insert}
 use Rattle.std.proofs.lemmas.Option.{slice_get_past}
-use Rattle.std.proofs.lemmas.Map.Entries.{length-values_of}
-use Rattle.hashlink_nodes.specs.Node.{same_node, same_node_equiv, eq-same_node}
-use Rattle.hashlink_model.specs.Entries.{IsEntries}
-use Rattle.hashlink_model.proofs.Afterwards.{lookup-moved}
-use Rattle.hashlink_model.proofs.ByPlace.{moved_at-place}
-use Rattle.hashlink_model.proofs.Places.{place_of_its_key}
-use Rattle.hashlink_core.specs.Keyed.{Keyed, entries_of, IsKeyed, pair_with_value}
-use Rattle.hashlink_core.specs.Places.{Node, Holds, IsPlace, place_number, renewed_at}
-use Rattle.hashlink_core.specs.Steps.{AddsNode, MovesNode, WritesNode, GrowsRoom, KeepsKeys, KeepsPlace}
+use Rattle.hashlink_core.specs.Places.{Node, Holds, IsPlace}
 use Rattle.hashlink_core.proofs.AtKeyNode.{is_some-map}
 use Rattle.hashlink_core.proofs.Holding.{at-node, holds_key-at}
-use Rattle.hashlink_core.proofs.Mapped.{mapped, lookup-mapped}
-use Rattle.hashlink_core.proofs.Places.{node-at}
+use Rattle.hashlink_core.proofs.Mapped.{mapped}
 
 -- at the guard stands no entry
 pub at-guard : {K V S : Type 0} (m : Keyed K V S) → slice_get (entries_of m) (place_number m.nodes None)
@@ -88,9 +81,9 @@ module _ {K V S : Type 0} (old new : Keyed K V S) where
 
   pub keys-written : {j : ℕ} {v : V} → WritesNode old new j v → KeepsKeys old new
   keys-written {j} {v} s m _ =
-      sym (lookup-mapped (λ (e : K × V). e.0) (same_node m) new.nodes)
+      sym (lookup-map_values (λ (e : K × V). e.0) (same_node m) new.nodes)
       ∙ ap (lookup (same_node m)) (ap (mapped (λ e. e.0)) s.nodes ∙ same old.nodes j)
-      ∙ lookup-mapped (λ (e : K × V). e.0) (same_node m) old.nodes
+      ∙ lookup-map_values (λ (e : K × V). e.0) (same_node m) old.nodes
     where
       same : (es : List (Node × (K × V))) (i : ℕ)
           → mapped (λ (e : K × V). e.0) (renewed_at (pair_with_value v) es i) ≡ mapped (λ e. e.0) es

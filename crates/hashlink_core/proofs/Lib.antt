@@ -1,5 +1,6 @@
 -- Lemmas on lists by places, on the ring and the table in step, on what each call leaves, and on walks along
 -- a ring.
+pub mod Names
 pub mod AtKey
 pub mod AtKeyNode
 pub mod Calls

@@ -1,15 +1,9 @@
 -- Lists whose elements are seen through a function: the ring's entries as the pairs with their nodes, and
 -- those as the pairs alone.
-use Rattle.std.proofs.Common.{◌≡◌, ℕ, zero, suc, Bool, true, false, cond, List, [], ◌∷◌, length, Option, Some}
-use Rattle.std.proofs.Common.{refl, ap, map}
-use Rattle.std.specs.Option.{option_map}
-use Rattle.std.specs.Map.{lookup, remove_entry, keys_of, values_of}
-use Rattle.std.proofs.lemmas.List.{length-map}
-use Rattle.hashlink_model.specs.Entries.{set_value_at, set_key_at}
-use Rattle.hashlink_nodes.specs.declared.node.Node.{Node}
-use Rattle.hashlink_core.specs.Places.{place_number, renewed_at}
-use Rattle.hashlink_core.specs.Keyed.{pair_with_value, pair_with_key}
-use Rattle.hashlink_core.proofs.Places.{same-number}
+use Rattle.hashlink_core.proofs.Names.{◌≡◌, ℕ, zero, suc, Bool, true, false, cond, List, [], ◌∷◌, length}
+use Rattle.hashlink_core.proofs.Names.{Option, refl, ap, map, remove_entry, values_of, length-map}
+use Rattle.hashlink_core.proofs.Names.{keys_of-map_values, set_value_at, set_key_at, Node, place_number}
+use Rattle.hashlink_core.proofs.Names.{renewed_at, pair_with_value, pair_with_key, same-number}
 
 module _ {X Y : Type 0} (f : X → Y) where
   -- the entries with what f makes of what their nodes hold
@@ -19,20 +13,9 @@ module _ {X Y : Type 0} (f : X → Y) where
   pub length-mapped : (es : List (Node × X)) → length (mapped es) ≡ length es
   length-mapped es = length-map es (λ e. (e.0, f e.1))
 
-  pub keys-mapped : (es : List (Node × X)) → keys_of (mapped es) ≡ keys_of es
-  keys-mapped [] = refl
-  keys-mapped (e ∷ es) = ap (λ ns. e.0 ∷ ns) (keys-mapped es)
-
   pub place_number-mapped : (es : List (Node × X)) (p : Option Node) → place_number (mapped es) p
       ≡ place_number es p
-  place_number-mapped es p = same-number (mapped es) es p (keys-mapped es)
-
-  pub lookup-mapped : (test : Node → Bool) (es : List (Node × X))
-      → lookup test (mapped es) ≡ option_map f (lookup test es)
-  lookup-mapped test [] = refl
-  lookup-mapped test (e ∷ es) =
-      elim (test e.0) as (λ b. cond b (Some (f e.1)) (lookup test (mapped es))
-      ≡ option_map f (cond b (Some e.1) (lookup test es))) [ true ↦ refl | false ↦ lookup-mapped test es ]
+  place_number-mapped es p = same-number (mapped es) es p (keys_of-map_values f es)
 
   pub remove_entry-mapped : (test : Node → Bool) (es : List (Node × X))
       → mapped (remove_entry test es) ≡ remove_entry test (mapped es)

@@ -1,23 +1,15 @@
 -- The place after a place, and the one before it, by number.
-use Rattle.std.proofs.Common.{◌≡◌, inl, inr, ℕ, zero, suc, ◌+◌, ◌-◌, ◌%◌, ◌<◌, ◌≤◌, true, false, cond, List}
-use Rattle.std.proofs.Common.{[], ◌∷◌, ◌++◌, length, Option, None, Some, refl, ap, sym, ◌∙◌, arith}
-use Rattle.std.specs.Prelude.{slice_get, unwrap_or}
+use Rattle.hashlink_core.proofs.Names.{◌≡◌, inl, inr, ℕ, zero, suc, ◌+◌, ◌-◌, ◌%◌, ◌<◌, ◌≤◌, false}
+use Rattle.hashlink_core.proofs.Names.{cond, List, [], ◌∷◌, ◌++◌, length, Option, None, Some, refl, ap, sym}
+use Rattle.hashlink_core.proofs.Names.{◌∙◌, arith, slice_get, unwrap_or, keys_of, length-keys_of}
+use Rattle.hashlink_core.proofs.Names.{slice_get_cases, slice_get_within, get_or_from_slice_get}
+use Rattle.hashlink_core.proofs.Names.{following_place, preceding_place, IsEntries, each-left}
+use Rattle.hashlink_core.proofs.Names.{place_of_its_key, Node, same_node, same_node_equiv, node_after}
+use Rattle.hashlink_core.proofs.Names.{node_before, last_node, next_place, prev_place, IsPlace, place_number}
+use Rattle.hashlink_core.proofs.Names.{IsPlaceAt, from-mapped, node-at, around, following-within}
 use Rattle.std.specs.List.{IsDistinct}
-use Rattle.std.specs.Map.{keys_of}
 use Rattle.std.proofs.lemmas.Map.Keys.{IsDistinct-tail, apart_from_distinct, any_passes_from_place}
-use Rattle.std.proofs.lemmas.Map.Entries.{length-keys_of}
 use Rattle.std.proofs.lemmas.Map.Made.{is_some-lookup}
-use Rattle.std.proofs.lemmas.Option.{slice_get_cases, slice_get_within, get_or_from_slice_get}
-use Rattle.hashlink_model.specs.Cursor.{following_place, preceding_place}
-use Rattle.hashlink_model.specs.Entries.{IsEntries}
-use Rattle.hashlink_model.proofs.Distinct.{each-left}
-use Rattle.hashlink_model.proofs.Places.{place_of_its_key}
-use Rattle.hashlink_nodes.specs.declared.node.Node.{Node}
-use Rattle.hashlink_nodes.specs.Node.{same_node, same_node_equiv}
-use Rattle.hashlink_nodes.specs.Ring.{node_after, node_before, last_node, next_place, prev_place, IsPlace}
-use Rattle.hashlink_core.specs.Places.{place_number, IsPlaceAt}
-use Rattle.hashlink_core.proofs.Edits.{from-mapped}
-use Rattle.hashlink_core.proofs.Places.{node-at, around, following-within}
 use native.Mathlib.Nat.{mod-eq_of_lt, add-mod_right, zero-add}
 
 -- ---- nodes
@@ -25,9 +17,6 @@ pub distinct-left : (xs ys : List Node) → IsDistinct same_node (xs ++ ys) → 
 unfolding IsDistinct
 distinct-left [] ys d = tt
 distinct-left (x ∷ xs) ys d = (each-left _ xs ys d.0, distinct-left xs ys d.1)
-
-same-itself : (n m : Node) → m ≡ n → same_node n m ≡ true
-same-itself n m same = ap (same_node n) same ∙ same_node_equiv.refl n
 
 other-at : (m : Node) (ns : List Node) (i : ℕ) (n : Node) → IsDistinct same_node (m ∷ ns)
     → slice_get ns i ≡ Some n
@@ -42,7 +31,7 @@ pub node_after-at : (ns : List Node) (i : ℕ) (n : Node) → IsDistinct same_no
 node_after-at [] i n d at = absurd (cc)
 node_after-at (m ∷ ns) zero n d at =
     let same : m ≡ n = cc in
-    ap (λ b. cond b (slice_get ns 0) (node_after n ns)) (same-itself n m same)
+    ap (λ b. cond b (slice_get ns 0) (node_after n ns)) (ap (same_node n) same ∙ same_node_equiv.refl n)
 node_after-at (m ∷ ns) (suc i) n d at =
     ap (λ b. cond b (slice_get ns 0) (node_after n ns)) (other-at m ns i n d at)
     ∙ node_after-at ns i n (IsDistinct-tail same_node m ns d) at
@@ -61,7 +50,7 @@ node_before-at : (before : Option Node) (ns : List Node) (i : ℕ) (n : Node) �
 node_before-at before [] i n d at = absurd (cc)
 node_before-at before (m ∷ ns) zero n d at =
     let same : m ≡ n = cc in
-    ap (λ b. cond b before (node_before n (Some m) ns)) (same-itself n m same)
+    ap (λ b. cond b before (node_before n (Some m) ns)) (ap (same_node n) same ∙ same_node_equiv.refl n)
 node_before-at before (m ∷ ns) (suc i) n d at =
     ap (λ b. cond b before (node_before n (Some m) ns)) (other-at m ns i n d at)
     ∙ node_before-at (Some m) ns i n (IsDistinct-tail same_node m ns d) at ∙ before-later m ns i

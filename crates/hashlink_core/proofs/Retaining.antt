@@ -1,32 +1,20 @@
 -- A retain, as it comes along the list: what it has kept, and what is left to call the closure on.
-use Rattle.std.proofs.Common.{◌≡◌, suc, ◌+◌, ◌-◌, ◌<◌, Bool, true, false, cond, List, [], ◌∷◌, ◌++◌, length}
-use Rattle.std.proofs.Common.{Option, None, Some, refl, ap, ap₂, sym, subst, ◌∙◌, arith, filter, append_assoc}
-use Rattle.std.specs.Prelude.{slice_get, remove}
-use Rattle.std.specs.Borrow.{Bor, MutBor}
-use Rattle.std.specs.Fn.{Mut, Called}
-use Rattle.std.specs.List.{IsDistinct}
-use Rattle.std.specs.Map.{keys_of, remove_entry}
-use Rattle.std.specs.Map.Calls.{CallableOnEachPair, CalledAtPair}
-use Rattle.std.proofs.lemmas.List.{length-append}
-use Rattle.std.proofs.lemmas.Map.Entries.{length-values_of}
-use Rattle.hashlink_model.specs.Cursor.{following_place}
-use Rattle.hashlink_model.specs.Entries.{set_value_at}
+use Rattle.std.proofs.lemmas.List.{nil_from_length}
+use Rattle.hashlink_core.proofs.Names.{◌≡◌, suc, ◌+◌, ◌-◌, ◌<◌, Bool, true, false, cond, List, [], ◌∷◌, ◌++◌}
+use Rattle.hashlink_core.proofs.Names.{length, Option, None, Some, refl, ap, ap₂, sym, subst, ◌∙◌, arith}
+use Rattle.hashlink_core.proofs.Names.{slice_get, remove, Bor, MutBor, Mut, Called}
+use Rattle.hashlink_core.proofs.Names.{remove_entry, CallableOnEachPair, CalledAtPair, length-append}
+use Rattle.hashlink_core.proofs.Names.{length-values_of, following_place, set_value_at, KeepsOnly}
+use Rattle.hashlink_core.proofs.Names.{set_value_at-here, Node, same_node, IsPlace, Keyed, IsKeyed}
+use Rattle.hashlink_core.proofs.Names.{entries_of, state_of, pair_with_value, with_value_at, place_number}
+use Rattle.hashlink_core.proofs.Names.{IsPlaceAt, RemovesNode, remove_entry-at, following-within}
+use Rattle.hashlink_core.proofs.Names.{place_number-renewed, node-at, place-renewed, keys-renewed, left-at}
+use Rattle.std.proofs.Common.{filter, append_assoc}
 use Rattle.hashlink_model.specs.Retain.{KeepsInOrder, RetainsInOrder}
-use Rattle.hashlink_model.specs.Steps.{KeepsOnly}
-use Rattle.hashlink_model.proofs.ByPlace.{length-set_value_at, keys-set_value_at, set_value_at-here}
-use Rattle.hashlink_model.proofs.ByPlace.{remove-here}
-use Rattle.hashlink_nodes.specs.declared.node.Node.{Node}
-use Rattle.hashlink_nodes.specs.Node.{same_node}
-use Rattle.hashlink_nodes.specs.Ring.{IsPlace}
-use Rattle.hashlink_core.specs.Keyed.{Keyed, IsKeyed, entries_of, state_of, pair_with_value}
-use Rattle.hashlink_core.specs.KeyedLends.{with_value_at}
-use Rattle.hashlink_core.specs.Places.{place_number, IsPlaceAt}
-use Rattle.hashlink_core.specs.Steps.{RemovesNode}
-use Rattle.hashlink_core.proofs.Edits.{place_left-before, remove_entry-at}
+use Rattle.hashlink_model.proofs.ByPlace.{length-set_value_at, keys-set_value_at, remove-here}
+use Rattle.hashlink_core.proofs.Edits.{place_left-before}
 use Rattle.hashlink_core.proofs.Keeping.{left-place}
 use Rattle.hashlink_core.proofs.Mapped.{values-renewed_value}
-use Rattle.hashlink_core.proofs.Places.{following-within, place_number-renewed, node-at, place-renewed}
-use Rattle.hashlink_core.proofs.Places.{keys-renewed, left-at}
 
 module _ {X : Type 0} where
   -- what stands right after xs is the first of what is left
@@ -35,10 +23,6 @@ module _ {X : Type 0} where
   begins [] [] x at = absurd (cc)
   begins [] (y ∷ ys) x at = let same : y ≡ x = cc in (ys, ap (λ z. z ∷ ys) same)
   begins (z ∷ xs) ys x at = begins xs ys x at
-
-  bare : (xs : List X) → length xs ≡ 0 → xs ≡ []
-  bare [] none = refl
-  bare (x ∷ xs) none = absurd (omega (arith, none))
 
   -- where nothing passes nothing is left
   pub none-passes : (xs : List X) → filter (λ x. false) xs ≡ []
@@ -115,7 +99,7 @@ module _ {F K V S : Type 0} {eq : K → K → Bool} {T : F → K → V → Bool 
     -- at the guard
     pub retained-all : p ≡ None → RetainsInOrder T start (state_of old) (state_of m) f
     retained-all end =
-        let none = bare found.left (omega (arith, many-left found, ap (place_number m.nodes) end)) in
+        let none = nil_from_length found.left (omega (arith, many-left found, ap (place_number m.nodes) end)) in
         record {
           kept = entries_of m;
           calls = rw found.is (found.calls found.left f

@@ -1,33 +1,21 @@
 -- The ring and the table stay in step: the table keeps the nodes of the entries, through an entry that is put
 -- in, one that is taken out, one that is renewed, and where none is left.
-use Rattle.std.proofs.Common.{◌≡◌, ℕ, suc, Bool, List, [], ◌∷◌, Some, refl, ap, sym, ◌∙◌, map, arith, ◌+◌}
-use Rattle.std.proofs.Common.{◌-◌, ◌≤◌, true, length, ap₂, subst}
-use Rattle.std.specs.Cmp.{IsEquivalence}
-use Rattle.std.specs.List.{IsDistinct}
-use Rattle.std.specs.Map.{lookup, keys_of, values_of}
-use Rattle.std.specs.Prelude.{slice_get, remove, Contains, IsPermutation, insert}
-use Rattle.std.proofs.lemmas.List.{length-map, get_or-map}
+use Rattle.hashlink_core.proofs.Names.{◌≡◌, ℕ, suc, Bool, List, [], ◌∷◌, Some, refl, ap, sym, ◌∙◌, map, arith}
+use Rattle.hashlink_core.proofs.Names.{◌+◌, ◌-◌, ◌≤◌, true, length, ap₂, subst, IsEquivalence, IsDistinct}
+use Rattle.hashlink_core.proofs.Names.{lookup, keys_of, values_of, slice_get, remove, Contains, IsPermutation}
+use Rattle.hashlink_core.proofs.Names.{insert, length-map, get_or-map, NonePasses, Contains-tail}
+use Rattle.hashlink_core.proofs.Names.{Contains-from_lookup, lookup-from_Contains, slice_get_within}
+use Rattle.hashlink_core.proofs.Names.{get_or_from_slice_get, IsEntries-nil, none_equal, IsEntries, same_node}
+use Rattle.hashlink_core.proofs.Names.{same_node_equiv, eq-same_node, Ring, ring, pair_of, Held, Node}
+use Rattle.hashlink_core.proofs.Names.{Contents, Keeps, nodes_of, pairs_in, IsInStep, numbered_nodes, short}
+use Rattle.hashlink_core.proofs.Names.{element-at, at-element, mapped-at, from-mapped, length-inserted}
+use Rattle.hashlink_core.proofs.Names.{length-removed, insert-map, remove-map, IsEntries-removed}
+use Rattle.hashlink_core.proofs.Names.{IsEntries-inserted, none-removed}
 use Rattle.std.proofs.lemmas.List.Sorted.{Contains-permutation, IsPermutation-sym, IsPermutation-refl}
 use Rattle.std.proofs.lemmas.List.Sorted.{IsPermutation-cons, IsPermutation-trans, IsPermutation-map}
 use Rattle.std.proofs.lemmas.List.Sorted.{IsPermutation-remove, length_permutation, IsPermutation-insert}
-use Rattle.std.proofs.lemmas.Map.{NonePasses}
 use Rattle.std.proofs.lemmas.Map.Keys.{IsDistinct-tail, IsDistinct-IsPermutation, apart_from_distinct}
-use Rattle.std.proofs.lemmas.Map.Made.{Contains-tail}
-use Rattle.std.proofs.lemmas.Map.Views.{Contains-from_lookup, lookup-from_Contains}
-use Rattle.std.proofs.lemmas.Option.{slice_get_within, get_or_from_slice_get}
-use Rattle.hashlink_model.proofs.Distinct.{IsEntries-nil, none_equal}
-use Rattle.hashlink_model.specs.Entries.{IsEntries}
-use Rattle.hashlink_nodes.specs.Node.{same_node, same_node_equiv, eq-same_node}
-use Rattle.hashlink_nodes.specs.Ring.{Ring, ring, pair_of}
-use Rattle.hashlink_nodes.specs.declared.held.Held.{Held}
-use Rattle.hashlink_nodes.specs.declared.node.Node.{Node}
-use Rattle.hashlink_table.specs.Contents.{Contents, Keeps}
 use Rattle.hashlink_table.specs.declared.hashed.Hashed.{Hashed}
-use Rattle.hashlink_core.specs.Keyed.{nodes_of, pairs_in}
-use Rattle.hashlink_core.specs.Tied.{IsInStep, numbered_nodes, short}
-use Rattle.hashlink_core.proofs.Edits.{element-at, at-element, mapped-at, from-mapped, length-inserted}
-use Rattle.hashlink_core.proofs.Edits.{length-removed, insert-map, remove-map, IsEntries-removed}
-use Rattle.hashlink_core.proofs.Edits.{IsEntries-inserted, none-removed}
 
 abbrev pub kept : ℕ → Node → Hashed Node
 kept number n = record { hash = number; node = n }

@@ -1,21 +1,14 @@
 -- Steps at the place of a key, and the steps of a map's calls at the key.
-use Rattle.std.proofs.Common.{◌≡◌, inl, inr, ℕ, zero, suc, ◌+◌, Bool, List, [], ◌∷◌, ◌++◌, length, None, Some}
-use Rattle.std.proofs.Common.{refl, sym, ap, ap₂, subst, ◌∙◌, arith}
-use Rattle.std.specs.Prelude.{slice_get, Option}
-use Rattle.std.specs.Option.{option_map}
-use Rattle.std.specs.Map.{lookup, lookup_entry}
-use Rattle.std.proofs.lemmas.Map.{NonePasses}
-use Rattle.std.proofs.lemmas.Option.{none-some}
-use Rattle.hashlink_model.specs.Entries.{place_of, moved_at, set_value_at, set_key_at}
+use Rattle.hashlink_core.proofs.Names.{◌≡◌, inl, inr, ℕ, zero, suc, ◌+◌, Bool, List, [], ◌∷◌, ◌++◌, length}
+use Rattle.hashlink_core.proofs.Names.{None, Some, refl, sym, ap, ap₂, subst, ◌∙◌, arith, slice_get}
+use Rattle.hashlink_core.proofs.Names.{option_map, lookup, lookup_entry, NonePasses, none-some, place_of}
+use Rattle.hashlink_core.proofs.Names.{moved_at, set_value_at, set_key_at, key_at, value_at, replace_entry}
+use Rattle.hashlink_core.proofs.Names.{RemovesMatch, slice_get_here, remove-place, from_part}
+use Rattle.std.specs.Prelude.{Option}
 use Rattle.hashlink_model.specs.MapState.{MapState, Changes, Removes, RemovesAt, MovesAt, SetsKeyAt}
-use Rattle.hashlink_model.specs.Entry.{key_at, value_at, replace_entry}
-use Rattle.hashlink_model.specs.Steps.{RemovesMatch}
 use Rattle.hashlink_model.proofs.Splits.{splits, stands_from_place, place_of-here, lookup-none}
 use Rattle.hashlink_model.proofs.Splits.{lookup_entry-none, lookup_entry-here}
 use Rattle.hashlink_model.proofs.Finds.{lookup_is}
-use Rattle.hashlink_model.proofs.Places.{slice_get_here}
-use Rattle.hashlink_model.proofs.ByPlace.{remove-place}
-use Rattle.hashlink_core.proofs.Edits.{from_part}
 
 -- ---- what a place says of look-ups
 

@@ -1,27 +1,15 @@
 -- A walk along a ring, by where it stands at both ends.
-use Rattle.std.proofs.Common.{◌≡◌, ℕ, zero, suc, ◌+◌, ◌-◌, ◌<◌, ◌≤◌, ◌≢◌, true, false, cond, List, [], ◌∷◌}
-use Rattle.std.proofs.Common.{◌++◌, length, take, drop, Option, None, Some, refl, ap, sym, ◌∙◌, arith, ⊎_elim}
-use Rattle.std.specs.Prelude.{slice_get, is_some, unwrap_or, IfSome}
-use Rattle.std.specs.List.{IsDistinct}
-use Rattle.std.specs.Option.{option_map}
-use Rattle.std.specs.Map.{lookup, keys_of}
-use Rattle.std.specs.Map.Iter.{TakesFirst, TakesLast, ShowsInOrder, ShowsInReverse}
-use Rattle.std.proofs.iter.runs.Sources.{from_front, from_back}
-use Rattle.std.proofs.Math.Seq.{take-length, take-suc}
-use Rattle.std.proofs.lemmas.Bool.{cases_lt}
-use Rattle.std.proofs.lemmas.Option.{slice_get_within, get_or_from_slice_get}
-use Rattle.hashlink_model.specs.Cursor.{preceding_place}
-use Rattle.hashlink_model.specs.Entries.{place_or_end}
-use Rattle.hashlink_nodes.specs.declared.node.Node.{Node}
-use Rattle.hashlink_nodes.specs.declared.held.Held.{Held}
-use Rattle.hashlink_nodes.specs.Node.{same_node}
-use Rattle.hashlink_nodes.specs.Ring.{next_place, prev_place, pair_of, Holds}
-use Rattle.hashlink_core.specs.Keyed.{pairs_in}
-use Rattle.hashlink_core.specs.Places.{place_number}
+use Rattle.hashlink_core.proofs.Names.{◌≡◌, ℕ, zero, suc, ◌+◌, ◌-◌, ◌<◌, ◌≢◌, true, false, cond, List}
+use Rattle.hashlink_core.proofs.Names.{[], ◌∷◌, ◌++◌, length, take, drop, Option, None, Some, refl, ap, sym}
+use Rattle.hashlink_core.proofs.Names.{◌∙◌, arith, ⊎_elim, slice_get, is_some, unwrap_or, IfSome, IsDistinct}
+use Rattle.hashlink_core.proofs.Names.{option_map, lookup, keys_of, TakesFirst, TakesLast, ShowsInOrder}
+use Rattle.hashlink_core.proofs.Names.{ShowsInReverse, from_front, from_back, take-length, take-suc, cases_lt}
+use Rattle.hashlink_core.proofs.Names.{slice_get_within, get_or_from_slice_get, preceding_place, place_or_end}
+use Rattle.hashlink_core.proofs.Names.{Node, Held, same_node, next_place, prev_place, pair_of, Holds}
+use Rattle.hashlink_core.proofs.Names.{pairs_in, place_number, drop-at, place_or_end-cons, place_or_end-most}
+use Rattle.hashlink_core.proofs.Names.{node-at, around, following-within}
 use Rattle.hashlink_core.specs.Walk.{pairs_from, StandsBetween}
-use Rattle.hashlink_core.proofs.Edits.{drop-at, place_or_end-cons, place_or_end-most}
 use Rattle.hashlink_core.proofs.Neighbours.{distinct-left, next-number, prev-number, before-guard, before-suc}
-use Rattle.hashlink_core.proofs.Places.{node-at, around, following-within}
 
 -- each run of a walk shows what was left, in order from the front and in reverse from the back
 pub in-order : {A X : Type 0} (shows : A → X) → ShowsInOrder shows
@@ -58,10 +46,6 @@ pairs_in-last [] n h = refl
 pairs_in-last (e ∷ es) n h = ap (λ ps. pair_of e.1 ∷ ps) (pairs_in-last es n h)
 
 module _ {X : Type 0} (es : List (Node × X)) where
-  -- no place stands after the guard
-  most : (n : Node) → place_number es (Some n) ≤ length es
-  most n = place_or_end-most same_node es n
-
   -- the node that stands where a place does that is not the guard
   beside-number : (o : Option Node) (q : Node) (i : ℕ) → IfSome o (λ m. q ≡ m) → place_number es o ≡ i
       → i < length es → place_number es (Some q) ≡ i
@@ -71,7 +55,7 @@ module _ {X : Type 0} (es : List (Node × X)) where
   -- the node of a place, where it is the guard's only if there is no node
   node-number : (o : Option Node) (z : Node) (i : ℕ) → place_number es o ≡ i → (length es ≡ i → i ≡ 0)
       → place_number es (Some (unwrap_or o z)) ≡ i
-  node-number None z i number none = omega (arith, number, none number, most z)
+  node-number None z i number none = omega (arith, number, none number, place_or_end-most same_node es z)
   node-number (Some m) z i number none = number
 
 -- a walk over all entries
@@ -115,8 +99,8 @@ module _ {K V : Type 0} {es : List (Node × Held K V)} {first last : Node} {left
 
     pub stands-next : StandsBetween es (Some q) (Some last) (left - 1)
     stands-next = record {
-      few = ⊎_elim (λ more. omega (arith, w.few, next-first more)) (λ last. omega (arith, last, most es q))
-          (cases_lt 1 left);
+      few = ⊎_elim (λ more. omega (arith, w.few, next-first more))
+          (λ last. omega (arith, last, place_or_end-most same_node es q)) (cases_lt 1 left);
       ends = λ more. omega (arith, w.ends (omega (arith, some)), more, next-first (omega (arith, more)));
     }
 

@@ -1,8 +1,6 @@
-use Rattle.std.proofs.Common.{[], ◌∷◌, ◌++◌, ◌∙◌}
-use Rattle.std.proofs.iter.Next as it
-use Rattle.hashlink_model.specs.Many.{InsertsPair}
-use Rattle.hashlink_core.specs.Keyed.{state_of}
+use Rattle.hashlink_core.proofs.Names.{[], ◌∷◌, ◌++◌, ◌∙◌, InsertsPair, state_of}
 use Rattle.hashlink_core.proofs.InTurn.{accepts_another, stops_after, counts_another}
+use Rattle.std.proofs.iter.Next as it
 use Rattle.hashlink_core.proofs.keyed_list.KeyedList.extend_from.Goals as goal
 
 pub returns-in-Err-clause-stopped : goal.returns-in-Err-clause-stopped

@@ -1,9 +1,7 @@
 -- The items that came so far are in.
-use Rattle.std.proofs.Common.{◌≡◌, ◌-◌, ◌^◌, length, min}
-use Rattle.std.proofs.iter.Next as it
+use Rattle.hashlink_core.proofs.Names.{◌≡◌, ◌-◌, ◌^◌, length, min, AcceptsAll, InsertsPair, state_of}
 use Rattle.std.specs.Iterator.{EndsFrom, items_left}
-use Rattle.hashlink_model.specs.Many.{AcceptsAll, InsertsPair}
-use Rattle.hashlink_core.specs.Keyed.{state_of}
+use Rattle.std.proofs.iter.Next as it
 use Rattle.hashlink_core.proofs.keyed_list.KeyedList.extend_from.Given as goal
 
 abbrev pub invariant-loop-key : goal.invariant-loop-key

@@ -1,9 +1,8 @@
-use Rattle.std.proofs.Common.{◌≡◌, ap}
-use Rattle.hashlink_core.specs.Tied.{hash_with}
+use Rattle.hashlink_core.proofs.Names.{◌≡◌, ap, hash_with}
 use Rattle.hashlink_core.proofs.Calls.{sound}
 use Rattle.hashlink_core.proofs.Finding.{Search, query-search, listed-holds, told-hash, found-by_table}
-use Rattle.hashlink_core.proofs.keyed_list.KeyedList.find.Given as given
 use Rattle.hashlink_core.proofs.keyed_list.KeyedList.find.Goals.{After-short_hash}
+use Rattle.hashlink_core.proofs.keyed_list.KeyedList.find.Given as given
 use Rattle.hashlink_core.proofs.keyed_list.KeyedList.find.Goals as goal
 
 -- for the keys that the query matches

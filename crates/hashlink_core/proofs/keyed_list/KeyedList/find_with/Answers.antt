@@ -1,18 +1,9 @@
-use Rattle.std.proofs.Common.{◌≡◌, Some, ap, subst, sym, ◌∙◌}
-use Rattle.std.specs.Prelude.{Contains}
-use Rattle.std.specs.Fn.{FnReturnsAt}
-use Rattle.std.specs.List.{fold}
-use Rattle.std.specs.Map.{keys_of, lookup}
-use Rattle.hashlink_nodes.specs.declared.held.Held.{Held}
-use Rattle.hashlink_nodes.specs.declared.node.Node.{Node}
-use Rattle.hashlink_nodes.specs.Node.{same_node}
-use Rattle.hashlink_core.specs.Keyed.{entries_of}
-use Rattle.hashlink_core.specs.Tied.{hash_with, short}
-use Rattle.hashlink_core.specs.Telling.{Tells}
+use Rattle.hashlink_core.proofs.Names.{◌≡◌, Some, ap, subst, sym, ◌∙◌, Contains, FnReturnsAt, fold, keys_of}
+use Rattle.hashlink_core.proofs.Names.{lookup, Held, Node, same_node, entries_of, hash_with, short, Tells}
 use Rattle.hashlink_core.proofs.Calls.{sound}
 use Rattle.hashlink_core.proofs.Finding.{Search, listed-holds, told-hash, found-by_table, key-held, told}
-use Rattle.hashlink_core.proofs.keyed_list.KeyedList.find_with.Given as given
 use Rattle.hashlink_core.proofs.keyed_list.KeyedList.find_with.Goals.{After-short_hash}
+use Rattle.hashlink_core.proofs.keyed_list.KeyedList.find_with.Given as given
 use Rattle.hashlink_core.proofs.keyed_list.KeyedList.find_with.Goals as goal
 
 -- the key of a node is in the list

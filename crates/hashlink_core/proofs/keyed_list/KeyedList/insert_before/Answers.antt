@@ -1,10 +1,6 @@
-use Rattle.std.proofs.Common.{◌≡◌, ◌≢◌, ℕ, ◌+◌, ◌≤◌, length, Result, Ok, Err, OnErr, true, refl, ap, sym, ◌∙◌}
-use Rattle.std.proofs.Common.{rules, arith}
+use Rattle.hashlink_core.proofs.Names.{◌≡◌, ◌≢◌, ℕ, ◌+◌, ◌≤◌, length, Result, Ok, Err, OnErr, true, refl, ap}
+use Rattle.hashlink_core.proofs.Names.{sym, ◌∙◌, rules, arith, true≢false, length-values_of, Keyed, short}
 use Rattle.std.specs.Result.{is_ok, is_err}
-use Rattle.std.proofs.lemmas.Bool.{true≢false}
-use Rattle.std.proofs.lemmas.Map.Entries.{length-values_of}
-use Rattle.hashlink_core.specs.Keyed.{Keyed}
-use Rattle.hashlink_core.specs.Tied.{short}
 use Rattle.hashlink_core.proofs.Calls.{sound, place-inside, added-step, added-node}
 use Rattle.hashlink_core.proofs.keyed_list.KeyedList.insert_before.Goals as goal
 

@@ -1,6 +1,4 @@
-use Rattle.std.proofs.Common.{length, ap, arith}
-use Rattle.std.specs.Map.Iter.{deref_pair}
-use Rattle.hashlink_core.specs.Keyed.{entries_of}
+use Rattle.hashlink_core.proofs.Names.{length, ap, arith, deref_pair, entries_of}
 use Rattle.hashlink_core.proofs.Calls.{sound}
 use Rattle.hashlink_core.proofs.Stepping.{length-pairs}
 use Rattle.hashlink_core.proofs.Walk.{in-order, in-reverse}

@@ -1,5 +1,4 @@
-use Rattle.std.proofs.Common.{refl, ap, sym}
-use Rattle.std.specs.List.{fold}
+use Rattle.hashlink_core.proofs.Names.{refl, ap, sym, fold}
 use Rattle.hashlink_core.proofs.Calls.{sound, held-inside, part-stored, key-written}
 use Rattle.hashlink_core.proofs.Holding.{equal-holds}
 use Rattle.hashlink_core.proofs.keyed_list.KeyedList.replace_key.Goals as goal

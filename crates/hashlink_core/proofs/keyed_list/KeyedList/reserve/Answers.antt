@@ -1,5 +1,4 @@
-use Rattle.std.proofs.Common.{refl, ap, arith}
-use Rattle.hashlink_nodes.specs.Ring.{pair_of}
+use Rattle.hashlink_core.proofs.Names.{refl, ap, arith, pair_of}
 use Rattle.hashlink_core.proofs.Calls.{sound}
 use Rattle.hashlink_core.proofs.Mapped.{length-mapped}
 use Rattle.hashlink_core.proofs.Stepping.{step-same}

@@ -1,5 +1,4 @@
-use Rattle.std.proofs.Common.{refl}
-use Rattle.hashlink_core.proofs.Places.{renewed-holds}
+use Rattle.hashlink_core.proofs.Names.{refl, renewed-holds}
 use Rattle.hashlink_core.proofs.Retaining.{retaining-first, retained-all, takes-pair, pair-kept, pair-dropped}
 use Rattle.hashlink_core.proofs.Retaining.{called-at}
 use Rattle.hashlink_core.proofs.keyed_list.KeyedList.retain_in_order.Goals as goal

@@ -1,6 +1,4 @@
-use Rattle.std.proofs.Common.{◌-◌, length}
-use Rattle.std.specs.Map.Calls.{CalledAtPair, TakesPair}
-use Rattle.hashlink_core.specs.Places.{place_number}
+use Rattle.hashlink_core.proofs.Names.{◌-◌, length, CalledAtPair, TakesPair, place_number}
 use Rattle.hashlink_core.proofs.Retaining.{Retaining}
 use Rattle.hashlink_core.proofs.keyed_list.KeyedList.retain_in_order.Given as goal
 

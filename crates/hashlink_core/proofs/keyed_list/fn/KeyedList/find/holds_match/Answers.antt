@@ -1,6 +1,4 @@
-use Rattle.std.proofs.Common.{◌≡◌}
-use Rattle.std.specs.Map.{lookup}
-use Rattle.hashlink_nodes.specs.Node.{same_node}
+use Rattle.hashlink_core.proofs.Names.{◌≡◌, lookup, same_node}
 use Rattle.hashlink_core.proofs.Finding.{answered-at}
 use Rattle.hashlink_core.proofs.keyed_list.fn.KeyedList.find.holds_match.Goals as goal
 

@@ -1,9 +1,4 @@
-use Rattle.std.proofs.Common.{refl, ap, sym}
-use Rattle.std.specs.Fn.{FnReturnsAt}
-use Rattle.std.specs.Map.{lookup}
-use Rattle.hashlink_nodes.specs.Node.{same_node}
-use Rattle.hashlink_nodes.specs.Ring.{pair_of}
-use Rattle.hashlink_core.proofs.Edits.{from_part}
+use Rattle.hashlink_core.proofs.Names.{refl, ap, sym, FnReturnsAt, lookup, same_node, pair_of, from_part}
 use Rattle.hashlink_core.proofs.Finding.{answered-at}
 use Rattle.hashlink_core.proofs.keyed_list.fn.KeyedList.find_with.holds_match.Goals as goal
 
