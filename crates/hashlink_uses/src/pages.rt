@@ -39,7 +39,7 @@ pub struct Page<V> {
 }
 
 /// Why a page cannot be read or written: memory ran out, or the store failed.
-#[derive(PartialEq, Eq, Drop)]
+#[derive(Debug, PartialEq, Eq, Drop)]
 pub enum PageError<E> {
     Memory,
     Store(E),
