@@ -25,12 +25,15 @@ returns-in-Some g c =
     let e = c.in-Some.ensures in
     let last = guard-number m in
     let below = le_refl (length m.nodes) in
+    let written = lent-moved eq laws test tells m new n e.found (length (entries_of m)) _ last below s.moved
+    s.sound in
+    let was = moved-value eq laws test tells m new n e.found (length (entries_of m)) _ last below s.moved
+    s.sound in
     rw (← c.self.view_is) (
-      (refl, lent-moved eq laws test tells m new n e.found (length (entries_of m)) _ last below s.moved s.sound, refl),
+      (refl, written, refl),
       record {
         lends = tt;
-        value = sym (moved-value eq laws test tells m new n e.found (length (entries_of m)) _ last below
-            s.moved s.sound c.value_mut.result.now c.value_mut.ensures.value e.sound.distinct);
+        value = sym (was c.value_mut.result.now c.value_mut.ensures.value e.sound.distinct);
         distinct = e.sound.distinct;
       },
     )

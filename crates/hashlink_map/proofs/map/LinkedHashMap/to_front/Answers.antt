@@ -23,12 +23,15 @@ returns-in-Some g c =
     let s = c.move_after.ensures in
     let e = c.in-Some.ensures in
     let first = following_place-guard (length m.nodes) in
+    let written = lent-moved eq laws test tells m new n e.found 0 _ first (omega (arith, first)) s.moved
+    s.sound in
+    let was = moved-value eq laws test tells m new n e.found 0 _ first (omega (arith, first)) s.moved
+    s.sound in
     rw (← c.self.view_is) (
-      (refl, lent-moved eq laws test tells m new n e.found 0 _ first (omega (arith, first)) s.moved s.sound, refl),
+      (refl, written, refl),
       record {
         lends = tt;
-        value = sym (moved-value eq laws test tells m new n e.found 0 _ first (omega (arith, first))
-            s.moved s.sound c.value_mut.result.now c.value_mut.ensures.value e.sound.distinct);
+        value = sym (was c.value_mut.result.now c.value_mut.ensures.value e.sound.distinct);
         distinct = e.sound.distinct;
       },
     )
