@@ -1,6 +1,5 @@
-use Rattle.hashlink_core.proofs.Names.{refl, ap, arith, pair_of}
+use Rattle.hashlink_core.proofs.Names.{refl, arith}
 use Rattle.hashlink_core.proofs.Calls.{sound}
-use Rattle.hashlink_core.proofs.Mapped.{length-mapped}
 use Rattle.hashlink_core.proofs.Stepping.{step-same}
 use Rattle.hashlink_core.proofs.keyed_list.KeyedList.reserve.Goals as goal
 
