@@ -1,4 +1,4 @@
-use Rattle.hashlink_core.proofs.Names.{◌≡◌, ◌≢◌, ℕ, ◌+◌, ◌≤◌, length, Result, Ok, Err, OnErr, true, refl, ap}
+use Rattle.hashlink_core.proofs.Names.{◌≡◌, ◌≢◌, ℕ, ◌+◌, ◌≤◌, length, Result, Ok, Err, true, refl, ap}
 use Rattle.hashlink_core.proofs.Names.{sym, ◌∙◌, rules, arith, true≢false, length-values_of, Keyed, short}
 use Rattle.std.specs.Result.{is_ok, is_err}
 use Rattle.hashlink_core.proofs.Calls.{sound, place-inside, added-step, added-node}
@@ -11,10 +11,6 @@ full n spare room fits more = omega arith
 not-both : {A B : Type 0} (r : Result A B) → is_err r ≡ true → is_ok r ≢ true
 not-both (Ok x) e o = absurd (true≢false (sym e))
 not-both (Err x) e o = absurd (true≢false (sym o))
-
-on-err : {A B P : Type 0} (r : Result A B) → P → OnErr r P
-on-err (Ok x) p = tt
-on-err (Err e) p = p
 
 pub push_before-requires-clause-place : goal.push_before-requires-clause-place
 push_before-requires-clause-place g c =
@@ -56,8 +52,3 @@ returns-then-is_err-clause-no_spare g c =
     = omega (arith, r.sound.fits, length-values_of old.nodes) in
     full (length old.nodes) old.spare old.room fits
     (λ more. not-both c.reserve.result (sym c.is_err.ensures.value ∙ c.if-is_err.true) (r.enough more).0)
-
-pub returns-in_err-node-clause-refused : goal.returns-in_err-node-clause-refused
-returns-in_err-node-clause-refused g c =
-    on-err c.from_residual.result
-    (rw (c.in_err-node.ensures.refused, c.self.view_is) c.reserve.ensures.grown)

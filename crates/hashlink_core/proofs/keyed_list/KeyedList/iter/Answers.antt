@@ -1,6 +1,5 @@
-use Rattle.hashlink_core.proofs.Names.{length, ap, arith, deref_pair, entries_of}
+use Rattle.std.specs.Map.Iter.{deref_pair}
 use Rattle.hashlink_core.proofs.Calls.{sound}
-use Rattle.hashlink_core.proofs.Stepping.{length-pairs}
 use Rattle.hashlink_core.proofs.Walk.{in-order, in-reverse}
 use Rattle.hashlink_core.proofs.keyed_list.KeyedList.iter.Goals as goal
 
@@ -9,15 +8,6 @@ returns-clause-runs g c = in-order deref_pair
 
 pub returns-clause-runs_back : goal.returns-clause-runs_back
 returns-clause-runs_back g c = in-reverse deref_pair
-
-pub returns-clause-fits : goal.returns-clause-fits
-returns-clause-fits g c =
-    omega (
-      arith,
-      c.new.ensures.fits,
-      length-pairs c.self.inside.nodes.entries,
-      ap (λ m. length (entries_of m)) c.self.view_is,
-    )
 
 pub returns-clause-sound : goal.returns-clause-sound
 returns-clause-sound g c = sound c.self.view_is c.self.invariant

@@ -1,12 +1,6 @@
-use Rattle.hashlink_core.proofs.Names.{refl, ap, sym, FnReturnsAt, lookup, same_node, pair_of, from_part}
+use Rattle.hashlink_core.proofs.Names.{refl, FnReturnsAt, lookup, same_node}
 use Rattle.hashlink_core.proofs.Finding.{answered-at}
 use Rattle.hashlink_core.proofs.keyed_list.fn.KeyedList.find_with.holds_match.Goals as goal
-
-pub is_match-requires : goal.is_match-requires
-is_match-requires g c =
-    let h = from_part pair_of (lookup (same_node c.args.node) c.captures.nodes.now.entries) _
-    c.entry.ensures in
-    c.requires.callable h.0 h.1 c.entry.result.0 (sym (ap (λ p. p.0) h.2))
 
 pub returns : goal.returns
 returns g c =
