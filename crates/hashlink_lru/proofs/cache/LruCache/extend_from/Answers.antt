@@ -19,18 +19,10 @@ returns-in-Err-clause-stopped g c =
 
 pub returns-in-Err-clause-within : goal.returns-in-Err-clause-within
 returns-in-Err-clause-within g c = λ n within.
-    let inv = c.loop-key.invariant in
-    c.insert.ensures.within n
-    (extended_within g.K.PartialEq.eq (state_of c.args.self.now) (state_of c.loop-key.self)
-    inv.seen n inv.holds.0
-    within)
+    c.insert.ensures.within n (extended_within _ _ _ _ n c.loop-key.invariant.holds.0 within)
 
 pub returns-clause-within : goal.returns-clause-within
-returns-clause-within g c = λ n within.
-    let inv = c.loop-key.invariant in
-    extended_within g.K.PartialEq.eq (state_of c.args.self.now) (state_of c.loop-key.self)
-    inv.seen n inv.holds.0
-    within
+returns-clause-within g c = λ n within. extended_within _ _ _ _ n c.loop-key.invariant.holds.0 within
 
 pub loop-key-preserved : goal.loop-key-preserved
 loop-key-preserved g c =
