@@ -27,8 +27,8 @@ use Rattle.hashlink_text.specs.declared.cache_line.CacheLine.TheVariants as cach
 use Rattle.hashlink_text.specs.declared.modes.Mode.TheVariants as mode
 use Rattle.hashlink_text.specs.declared.weighted_line.WeightedLine.TheVariants as weighted_line
 use Rattle.hashlink_text.proofs.Grammar.{says_as, EachNamed, EachFound, IsRead, IsReader, IsOf, reads_names}
-use Rattle.hashlink_text.proofs.Grammar.{SaysWhatIsRead, read_in-of, read_words-of, chosen, step_some, map_some}
-use Rattle.hashlink_text.proofs.Grammar.{are_names, word_of, token_of}
+use Rattle.hashlink_text.proofs.Grammar.{SaysWhatIsRead, read_in-of, read_words-of, chosen, step_some}
+use Rattle.hashlink_text.proofs.Grammar.{map_some, are_names, word_of, token_of}
 
 -- ---- lines to caches, and the first line
 

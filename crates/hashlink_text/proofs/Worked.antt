@@ -63,7 +63,8 @@ first {old} {text = text} line answer mid shows more =
     record { all = (answer, mid, text, shows_line old mid line answer shows, more.all, refl) }
 
 -- to the lines after the first one, which asks for a map
-runs : {new : State} {lines : List (List ℕ)} {text : List ℕ} → Shown (empty_map default_builder) new lines text
+runs : {new : State} {lines : List (List ℕ)} {text : List ℕ}
+    → Shown (empty_map default_builder) new lines text
     → LinesRun DefaultHashBuilder (codes "map" ∷ lines) text
 runs {new} {lines} {text} shown =
     runs_mode DefaultHashBuilder (codes "map") lines text (default_builder, new, shown.all)
@@ -126,7 +127,11 @@ worked_entries =
     (Seen (Some (1, 10)) ∷ [], (changes _ _ 1 4 0 6 (lit≤ tt), (Some (1, 10), refl, refl)), refl)
     (first (codes "entry 2 or_insert 21") (codes "21") two (
       Inserted (2, 21) ∷ [],
-      (Ok tt, record { absent = refl; adds = adds ((1, 10) ∷ []) 4 (2, 21) (1, refl) }, ((2, 21), refl, refl)),
+      (
+        Ok tt,
+        record { absent = refl; adds = adds ((1, 10) ∷ []) 4 (2, 21) (1, refl) },
+        ((2, 21), refl, refl),
+      ),
       refl,
     )
     (first (codes "entry 1 replace_entry 12") (codes "1:10") end (

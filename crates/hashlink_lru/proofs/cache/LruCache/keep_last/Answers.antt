@@ -12,8 +12,7 @@ loop-preserved g c =
     let end = i.2 in
     let next : c.loop.counter - c.args.count + 1 ≡ c.loop.counter + 1 - c.args.count = omega arith in (
       subst (λ n. KeepsOnly (state_of old) (state_of new) (drop n (entries_of old))) next
-          (drops_more (state_of old) (state_of c.loop.self.map) (state_of new) (c.loop.counter - c.args.count)
-          c.pop_front.result i.0 c.pop_front.ensures.pops),
+          (drops_more _ _ _ (c.loop.counter - c.args.count) _ i.0 c.pop_front.ensures.pops),
       c.pop_front.ensures.distinct,
       end,
       omega arith,

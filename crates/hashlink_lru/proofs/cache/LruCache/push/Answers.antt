@@ -12,6 +12,5 @@ returns-clause-pushes g c =
     let new = state_of c.evict_excess-evicted.new.self in
     let keeps = c.evict_excess-evicted.ensures.keeps in
     subst (λ out. Pushes g.K.PartialEq.eq old new c.args.key c.args.value (Ok out)) (sym c.or.ensures)
-    (pushes g.K.PartialEq.eq old new c.args.key c.args.value (keyed.state_of c.put_last.new.map)
-    c.in_ok-replaced.replaced c.evict_excess-evicted.result c.in_ok-replaced.ensures.inserts
+    (pushes _ old new _ _ (keyed.state_of c.put_last.new.map) _ _ c.in_ok-replaced.ensures.inserts
     c.in_ok-replaced.ensures.replaced keeps.map keeps.cap c.evict_excess-evicted.ensures.first)
