@@ -88,7 +88,7 @@ module _ {K V : Type 0} (eq : K → K → Bool) (es : List (K × V)) (cap : ℕ)
   long = let a = length-append (without eq es k) (Last ∷ []) in ap length split ∙ a
 
   -- what is named fills a place that the insert needs
-  named : (e : K × V) → evicted_by (eq k) es cap ≡ Some e
+  pub named : (e : K × V) → evicted_by (eq k) es cap ≡ Some e
       → (cap ≤ length (without eq es k)) × (first_of (without eq es k) ≡ Some e)
   named e n =
       ⊎_elim (λ room. absurd (none-some e (sym (evicted-room (eq k) es cap room) ∙ n)))
@@ -107,6 +107,24 @@ module _ {K V : Type 0} (eq : K → K → Bool) (es : List (K × V)) (cap : ℕ)
       let more : length All - cap ≡ suc (length All - cap - 1) = omega arith in
       (rest, is, omega arith, ap₂ drop more is)
 
+  pub named_first : (e : K × V) → evicted_by (eq k) es cap ≡ Some e
+      → (others : List (K × V)) × (All ≡ e ∷ others ++ last_entries All cap)
+  named_first e n =
+      let p = named_parts e n in
+      let d = length All - cap - 1 in
+      (take d p.0, p.1 ∙ ap (λ zs. e ∷ zs) (sym (take-append-drop d p.0) ∙ ap (λ zs. take d p.0 ++ zs) (sym p.3)))
+
+  -- where none is named there is a place
+  pub unnamed : evicted_by (eq k) es cap ≡ None → 1 ≤ cap → last_entries All cap ≡ All
+  unnamed n one =
+      let others = without eq es k in
+      let l = long in
+      let fits : length All ≤ cap =
+      ⊎_elim (λ (room : length others < cap). omega arith) (λ (full : cap ≤ length others).
+      let none = first_of-none others (sym (evicted-full (eq k) es cap full) ∙ n) in absurd (omega arith))
+      (cases_lt (length others) cap) in
+      last_entries-within All cap fits
+
 -- ---- the same of a cache
 
 module _ {K V S : Type 0} (eq : K → K → Bool) (old new : CacheState K V S) (k : K) (v : V) where
@@ -117,10 +135,8 @@ module _ {K V S : Type 0} (eq : K → K → Bool) (old new : CacheState K V S) (
       → evicted_by (eq k) old.map.entries old.cap ≡ Some e
       → (others : List (K × V)) × (Put ≡ e ∷ others ++ new.map.entries)
   evicts_first w e s n =
-      let p = named_parts eq old.map.entries old.cap k v e n in
-      let d = length Put - old.cap - 1 in
-      let left = sym (inserts_entries eq old new k v w s ∙ p.3) in
-      (take d p.0, p.1 ∙ ap (λ zs. e ∷ zs) (sym (take-append-drop d p.0) ∙ ap (λ zs. take d p.0 ++ zs) left))
+      let f = named_first eq old.map.entries old.cap k v e n in
+      (f.0, f.1 ∙ ap (λ zs. e ∷ f.0 ++ zs) (sym (inserts_entries eq old new k v w s)))
 
   -- of a cache within its capacity
   pub evicts_alone : (w : Option V) (e : K × V) → CacheInserts eq old new k v (Ok w)
@@ -144,16 +160,7 @@ module _ {K V S : Type 0} (eq : K → K → Bool) (old new : CacheState K V S) (
           let one = others-there (eq k) es (ap is_some l) in
           absurd (omega arith)
 
-  -- where none is named there is a place
   pub evicts_none : (w : Option V) → CacheInserts eq old new k v (Ok w)
       → evicted_by (eq k) old.map.entries old.cap ≡ None → 1 ≤ old.cap
       → new.map.entries ≡ Put
-  evicts_none w s n one =
-      let es = old.map.entries in
-      let others = without eq es k in
-      let l = long eq es old.cap k v in
-      let fits : length Put ≤ old.cap =
-      ⊎_elim (λ (room : length others < old.cap). omega arith) (λ (full : old.cap ≤ length others).
-      let none = first_of-none others (sym (evicted-full (eq k) es old.cap full) ∙ n) in absurd (omega arith))
-      (cases_lt (length others) old.cap) in
-      inserts_entries eq old new k v w s ∙ last_entries-within Put old.cap fits
+  evicts_none w s n one = inserts_entries eq old new k v w s ∙ unnamed eq old.map.entries old.cap k v n one
