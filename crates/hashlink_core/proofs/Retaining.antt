@@ -99,7 +99,8 @@ module _ {F K V S : Type 0} {eq : K → K → Bool} {T : F → K → V → Bool 
     -- at the guard
     pub retained-all : p ≡ None → RetainsInOrder T start (state_of old) (state_of m) f
     retained-all end =
-        let none = nil_from_length found.left (omega (arith, many-left found, ap (place_number m.nodes) end)) in
+        let none = nil_from_length found.left
+        (omega (arith, many-left found, ap (place_number m.nodes) end)) in
         record {
           kept = entries_of m;
           calls = rw found.is (found.calls found.left f

@@ -1,4 +1,4 @@
-use Rattle.std.specs.Map.Iter.{deref_pair}
+use Rattle.hashlink_core.proofs.Names.{deref_pair}
 use Rattle.hashlink_core.proofs.Calls.{sound}
 use Rattle.hashlink_core.proofs.Walk.{in-order, in-reverse}
 use Rattle.hashlink_core.proofs.keyed_list.KeyedList.iter.Goals as goal
