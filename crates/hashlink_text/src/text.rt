@@ -81,12 +81,13 @@ pub(crate) fn push_reply(
         Reply::Done => write!(out, "ok"),
         Reply::Denied | Reply::Refused(..) => write!(out, "memory"),
         Reply::TooHeavy(..) => write!(out, "heavy"),
-        Reply::Value(Some(value)) => write!(out, "{value}"),
-        Reply::Key(Some(key)) => write!(out, "{key}"),
-        Reply::Seen(Some((_, value))) => write!(out, "{value}"),
-        Reply::Inserted((_, value)) => write!(out, "{value}"),
-        Reply::Pair(Some((key, value))) => write!(out, "{key}:{value}"),
-        Reply::AtPlace(Some((key, value))) => write!(out, "{key}:{value}"),
+        Reply::Value(Some(value))
+        | Reply::Key(Some(value))
+        | Reply::Seen(Some((_, value)))
+        | Reply::Inserted((_, value)) => write!(out, "{value}"),
+        Reply::Pair(Some((key, value))) | Reply::AtPlace(Some((key, value))) => {
+            write!(out, "{key}:{value}")
+        }
         Reply::Value(None)
         | Reply::Key(None)
         | Reply::Seen(None)
