@@ -13,7 +13,7 @@ use Rattle.hashlink_map.proofs.PairTies.{Rests, Lends, carries, IsLent, IsHanded
 use Rattle.hashlink_map.specs.contracts.raw_entry.occupied.RawOccupiedEntryMut+K+V+S.pair_of as lends
 use types.Kit.{Item, Goal, Seq, Soaks, ‵, raw, ◌⊛◌, some, later, ◌$◌, ◌∵◌, !, qed, by, move, drop, split}
 use types.Kit.{join, fjoin, pick, await, updating, now, use0, use1, use2, done}
-use Rattle.hashlink_map.specs.Names.{EqGhosts, HashGhosts, HasherGhosts, BuilderGhosts}
+use Rattle.hashlink_map.specs.Bounds.{EqGhosts, HashGhosts, HasherGhosts, BuilderGhosts}
 
 -- a value of R is returned, and Q holds of it
 abbrev pub then_with : {M : Type 1} {𝓤 : Ura M} (𝓛 : Logic 𝓤) → RattleType → (Val → SProp 𝓤) → Val → SProp 𝓤

@@ -17,7 +17,7 @@ use Rattle.hashlink_map.specs.contracts.raw_entry.occupied.RawOccupiedEntryMut a
 use Rattle.hashlink_map.proofs.PairSteps.{word_had, node_made, Asks, adds_fact, ended, clauses}
 use types.Kit.{‵, raw, ◌⊛◌, some, later, ◌$◌, ◌∵◌, !, qed, by, move, keep, drop, split, join, fsplit, fjoin}
 use types.Kit.{fpick, feq_l, pick, await, rewrite, use0, use1, suffices, done}
-use Rattle.hashlink_map.specs.Names.{EqGhosts, HashGhosts, HasherGhosts, BuilderGhosts}
+use Rattle.hashlink_map.specs.Bounds.{EqGhosts, HashGhosts, HasherGhosts, BuilderGhosts}
 
 -- what no walk reads of the code
 pub record Unread : Type 0 where

@@ -14,7 +14,7 @@ use Rattle.hashlink_map.proofs.raw_entry.RawEntryMut.TheLaws as place_laws
 use Rattle.hashlink_map.proofs.raw_entry.occupied.RawOccupiedEntryMut.TheLaws as entry_laws
 use Rattle.hashlink_map.proofs.raw_entry.vacant.RawVacantEntryMut.TheLaws as empty_laws
 use denote.Struct.Field.{shr_ref_field, mut_ref_field}
-use Rattle.hashlink_map.specs.Names.{EqGhosts, HashGhosts, HasherGhosts, BuilderGhosts}
+use Rattle.hashlink_map.specs.Bounds.{EqGhosts, HashGhosts, HasherGhosts, BuilderGhosts}
 
 abbrev at_lft : Lft → NamedLft
 at_lft κ = record { mir = named 0; lft = κ }

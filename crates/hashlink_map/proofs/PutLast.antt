@@ -10,7 +10,7 @@ use Rattle.hashlink_map.proofs.LastMoved.{put_written, put_parts}
 use Rattle.hashlink_map.proofs.PairTies.{ok_carried, err_carried, on_err_carried, IsLent, IsHandedOn}
 use Rattle.hashlink_map.proofs.PairTies.{new_written, new_parts}
 use types.Kit.{raw, ◌$◌, ◌∵◌, !, qed, by, done, drop, use0}
-use Rattle.hashlink_map.specs.Names.{EqGhosts, HashGhosts, HasherGhosts, BuilderGhosts}
+use Rattle.hashlink_map.specs.Bounds.{EqGhosts, HashGhosts, HasherGhosts, BuilderGhosts}
 
 module _ {M : Type 1} (𝓤 : Ura M) (𝓛 : Logic 𝓤) (K V S T : RattleType) (LK : Laws K) (LV : Laws V)
     (LS : Laws S) (LT : Laws T) (p : EqGhosts K.Denot) (h : HashGhosts K.Denot)

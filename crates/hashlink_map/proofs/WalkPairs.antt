@@ -18,7 +18,7 @@ use Rattle.hashlink_map.specs.IterMut.{walk_map, walk_state}
 use Rattle.hashlink_map.specs.IterMutLends.{walk_with_value, LendsAtWalkNode, LendsPairThere}
 use Rattle.hashlink_map.specs.IterMutLends.{LendsPairFromWalk, LentFrom, StaysThere, StepsAndWrites, TakesOff}
 use Rattle.hashlink_map.specs.WritingWalk.{StandsIn-prop}
-use Rattle.hashlink_map.specs.Names.{EqGhosts, HashGhosts, HasherGhosts, BuilderGhosts, NodeGhosts}
+use Rattle.hashlink_map.specs.Bounds.{EqGhosts, HashGhosts, HasherGhosts, BuilderGhosts, NodeGhosts}
 
 module _ {K V S T : Type 0} {g : EqGhosts K} {h : HashGhosts K} {b : BuilderGhosts S T}
     {w : HasherGhosts T}

@@ -4,7 +4,7 @@ use Rattle.hashlink_map.proofs.Names.{with_value_in, set_value_at, Keyed, HoldsK
 use Rattle.hashlink_map.proofs.Names.{pair_with_value, Node, Holds, place_number, with_value_at}
 use Rattle.hashlink_map.proofs.Names.{values-renewed_value, place_number-renewed, OccupiedEntry}
 use Rattle.hashlink_map.proofs.Names.{RawOccupiedEntryMut, raw_place, raw_with, RawIsWritten}
-use Rattle.hashlink_map.specs.Names.{EqGhosts, HashGhosts, HasherGhosts, BuilderGhosts, NodeGhosts}
+use Rattle.hashlink_map.specs.Bounds.{EqGhosts, HashGhosts, HasherGhosts, BuilderGhosts, NodeGhosts}
 use Rattle.hashlink_map.specs.Entry.{occupied_place, occupied_with, IsWritten}
 
 HoldsKey-prop : {K V : Type 0} (eq : K → K → Bool) (ns : List (Node × (K × V))) (k : K) (n : Node)

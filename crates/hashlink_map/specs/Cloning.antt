@@ -1,8 +1,9 @@
 -- What a map is made of, and when it is not.
-use Rattle.hashlink_map.specs.Names.{◌≡◌, Bool, true, List, Result, MapState, empty_map}
+use Rattle.std.specs.Prelude.{◌≡◌, Bool, true, List, Result}
 use Rattle.std.specs.List.{AllZip}
 use Rattle.hashlink_model.specs.Compare.{entries_eq}
 use Rattle.hashlink_model.specs.Many.{StopsAtLast, MadeFrom, InsertsPair}
+use Rattle.hashlink_model.specs.MapState.{MapState, empty_map}
 
 -- each pair of the second list is made of a clone of the key and a clone of the value of the pair in its
 -- place

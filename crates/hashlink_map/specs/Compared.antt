@@ -1,11 +1,12 @@
 -- Maps compared, and what they feed a hasher: by their entries alone.
-use Rattle.hashlink_map.specs.Names.{◌≡◌, Bool, true, List, Option, Some, Keyed, entries_of}
+use Rattle.std.specs.Prelude.{◌≡◌, Bool, true, List, Option, Some}
 use Rattle.std.specs.Cmp.{IsEquivalence, IsPartialEquivalence, IsPartialOrder, IsTotalOrder, on_equiv, on_per}
 use Rattle.std.specs.Cmp.{on_po, on_total, partial_equiv_from_equiv}
 use Rattle.std.specs.Ordering.{eq_by_cmp}
 use Rattle.std.specs.declared.cmp.Ordering.{Ordering}
 use Rattle.hashlink_model.specs.Compare.{entries_eq, entries_cmp, entries_partial_cmp, entries_hash_input}
 use Rattle.hashlink_model.proofs.Comparisons as compared
+use Rattle.hashlink_core.specs.Keyed.{Keyed, entries_of}
 
 module _ {K V S : Type 0} where
   abbrev pub maps_eq : (K → K → Bool) → (V → V → Bool) → Keyed K V S → Keyed K V S → Bool

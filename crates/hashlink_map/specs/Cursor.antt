@@ -1,7 +1,11 @@
 -- What a contract sees of a cursor.
-use Rattle.hashlink_map.specs.Names.{EqGhosts, HashGhosts, HasherGhosts, BuilderGhosts, NodeGhosts, ◌≡◌, ℕ}
-use Rattle.hashlink_map.specs.Names.{Option, Bor, MutBor, option_map, CursorState, entry_in, with_value_in}
-use Rattle.hashlink_map.specs.Names.{Node, IsPlaceAt, place_number, Keyed, state_of}
+use Rattle.std.specs.Prelude.{◌≡◌, ℕ, Option}
+use Rattle.std.specs.Borrow.{Bor, MutBor}
+use Rattle.std.specs.Option.{option_map}
+use Rattle.hashlink_map.specs.Bounds.{EqGhosts, HashGhosts, HasherGhosts, BuilderGhosts, NodeGhosts}
+use Rattle.hashlink_model.specs.Cursor.{CursorState, entry_in, with_value_in}
+use Rattle.hashlink_core.specs.Places.{Node, IsPlaceAt, place_number}
+use Rattle.hashlink_core.specs.Keyed.{Keyed, state_of}
 use Rattle.hashlink_map.specs.declared.cursor.CursorMut.{CursorMut}
 
 -- the pair behind a key that is lent beside its value

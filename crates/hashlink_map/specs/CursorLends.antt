@@ -1,8 +1,11 @@
 -- What a cursor ends as, once a `&mut` to a value that came through it has ended.
-use Rattle.hashlink_map.specs.Names.{EqGhosts, HashGhosts, HasherGhosts, BuilderGhosts, NodeGhosts, ◌≡◌, ℕ}
-use Rattle.hashlink_map.specs.Names.{[], Option, Some, OnSome, Fml, RattleType, Bor, MutBor, Lends, LendsSo}
-use Rattle.hashlink_map.specs.Names.{follows_so, name_if_some, named, place_next, place_previous, Node}
-use Rattle.hashlink_map.specs.Names.{place_number, node_row, with_value_at}
+use Rattle.std.specs.Prelude.{◌≡◌, ℕ, [], Option, Some, OnSome}
+use Rattle.std.specs.Borrow.{Fml, RattleType, Bor, MutBor, Lends, LendsSo, follows_so, name_if_some}
+use mir.Syntax.{named}
+use Rattle.hashlink_map.specs.Bounds.{EqGhosts, HashGhosts, HasherGhosts, BuilderGhosts, NodeGhosts}
+use Rattle.hashlink_model.specs.Cursor.{place_next, place_previous}
+use Rattle.hashlink_core.specs.Places.{Node, place_number}
+use Rattle.hashlink_core.specs.KeyedLends.{node_row, with_value_at}
 use Rattle.hashlink_map.specs.contracts.cursor.CursorMut as cursor
 use Rattle.hashlink_map.specs.declared.cursor.CursorMut.{CursorMut}
 use Rattle.hashlink_map.specs.Cursor.{cursor_map, cursor_node, cursor_state, CursorWritten}

@@ -1,7 +1,9 @@
 -- What a contract sees of a drain.
-use Rattle.hashlink_map.specs.Names.{◌≡◌, List, Option, MutBor, Keyed, entries_of, state_of}
+use Rattle.std.specs.Prelude.{◌≡◌, List, Option}
+use Rattle.std.specs.Borrow.{MutBor}
 use Rattle.std.specs.Map.Iter.{TakesFirst, TakesLast}
 use Rattle.hashlink_model.specs.Steps.{PopsFront, PopsBack}
+use Rattle.hashlink_core.specs.Keyed.{Keyed, entries_of, state_of}
 use Rattle.hashlink_map.specs.declared.drain.Drain.{Drain}
 
 module _ {K V S T : Type 0} where

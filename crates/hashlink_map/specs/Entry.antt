@@ -1,8 +1,13 @@
 -- What a contract sees of an entry with its key in hand.
-use Rattle.hashlink_map.specs.Names.{EqGhosts, HashGhosts, HasherGhosts, BuilderGhosts, NodeGhosts, ◌≡◌, ℕ}
-use Rattle.hashlink_map.specs.Names.{Option, Some, None, MatchOption, option_and_then, MutBor, Once}
-use Rattle.hashlink_map.specs.Names.{FnOnceReturnsAtMut, with_value, EntryState, value_at, place_number}
-use Rattle.hashlink_map.specs.Names.{Keyed, state_of, with_value_at}
+use Rattle.std.specs.Prelude.{◌≡◌, ℕ, Option, Some, None, MatchOption, option_and_then}
+use Rattle.std.specs.Borrow.{MutBor}
+use Rattle.std.specs.Fn.{Once, FnOnceReturnsAtMut}
+use Rattle.hashlink_map.specs.Bounds.{EqGhosts, HashGhosts, HasherGhosts, BuilderGhosts, NodeGhosts}
+use Rattle.hashlink_model.specs.MapState.{with_value}
+use Rattle.hashlink_model.specs.Entry.{EntryState, value_at}
+use Rattle.hashlink_core.specs.Places.{place_number}
+use Rattle.hashlink_core.specs.Keyed.{Keyed, state_of}
+use Rattle.hashlink_core.specs.KeyedLends.{with_value_at}
 use Rattle.hashlink_map.specs.Standing.{still_holds_match}
 use Rattle.hashlink_map.specs.declared.entry.Entry.{Entry}
 use Rattle.hashlink_map.specs.declared.entry.Entry.TheVariants.{Occupied, Vacant}

@@ -1,8 +1,13 @@
 -- What a map or an entry ends as, once a `&mut` to a value that came through an entry has ended.
-use Rattle.hashlink_map.specs.Names.{EqGhosts, HashGhosts, HasherGhosts, BuilderGhosts, NodeGhosts, []}
-use Rattle.hashlink_map.specs.Names.{length, Bool, Result, Ok, IfErr, Fml, RattleType, MutBor, Lends}
-use Rattle.hashlink_map.specs.Names.{LendsSoOk, named, lookup, MapState, Inserts, AddsEntry, RefusesEntry}
-use Rattle.hashlink_map.specs.Names.{state_of, entries_of, Node, node_row, with_value_at}
+use Rattle.std.specs.Prelude.{[], length, Bool, Result, Ok, IfErr}
+use Rattle.std.specs.Borrow.{Fml, RattleType, MutBor, Lends, LendsSoOk}
+use mir.Syntax.{named}
+use Rattle.hashlink_map.specs.Bounds.{EqGhosts, HashGhosts, HasherGhosts, BuilderGhosts, NodeGhosts}
+use Rattle.std.specs.Map.{lookup}
+use Rattle.hashlink_model.specs.MapState.{MapState, Inserts, AddsEntry, RefusesEntry}
+use Rattle.hashlink_core.specs.Keyed.{state_of, entries_of}
+use Rattle.hashlink_core.specs.Places.{Node}
+use Rattle.hashlink_core.specs.KeyedLends.{node_row, with_value_at}
 use Rattle.hashlink_map.specs.contracts.map.LinkedHashMap.{the_row}
 use Rattle.hashlink_map.specs.contracts.entry.occupied.OccupiedEntry as occupied
 use Rattle.hashlink_map.specs.declared.entry.Entry.{Entry}

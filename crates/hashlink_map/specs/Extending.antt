@@ -1,5 +1,5 @@
 -- What a container becomes by std's `extend`, whose error names no item.
-use Rattle.hashlink_map.specs.Names.{List, Result}
+use Rattle.std.specs.Prelude.{List, Result}
 use Rattle.hashlink_model.specs.Many.{AcceptsAll}
 
 -- the items went in, in turn; then nothing changed but what a refusal may change

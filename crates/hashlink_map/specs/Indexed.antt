@@ -1,7 +1,12 @@
 -- What a map ends as, once a `&mut` to the value of a key that is there has ended.
-use Rattle.hashlink_map.specs.Names.{HasherGhosts, BuilderGhosts, Bool, IsSome, Fml, RattleType, MutBor}
-use Rattle.hashlink_map.specs.Names.{Lends, lookup, place_or_end, Keyed, entries_of, pair_with_value}
-use Rattle.hashlink_map.specs.Names.{HashMembers, renewed_at}
+use Rattle.std.specs.Prelude.{Bool, IsSome}
+use Rattle.std.specs.Borrow.{Fml, RattleType, MutBor, Lends}
+use Rattle.std.specs.Map.{lookup}
+use Rattle.hashlink_map.specs.Bounds.{HasherGhosts, BuilderGhosts}
+use Rattle.hashlink_model.specs.Entries.{place_or_end}
+use Rattle.hashlink_core.specs.Keyed.{Keyed, entries_of, pair_with_value}
+use Rattle.hashlink_core.specs.KeyedLends.{HashMembers}
+use Rattle.hashlink_core.specs.Places.{renewed_at}
 use Rattle.hashlink_map.specs.Lends.{map_row}
 
 module _ {K V S : Type 0} (eq : K → K → Bool) where

@@ -1,6 +1,10 @@
 -- What a map ends as, once the value of a key that was inserted by its key has ended.
-use Rattle.hashlink_map.specs.Names.{HasherGhosts, BuilderGhosts, Result, IfErr, Fml, RattleType, MutBor}
-use Rattle.hashlink_map.specs.Names.{LendsSoOk, RefusesEntry, Keyed, state_of, HashMembers}
+use Rattle.std.specs.Prelude.{Result, IfErr}
+use Rattle.std.specs.Borrow.{Fml, RattleType, MutBor, LendsSoOk}
+use Rattle.hashlink_map.specs.Bounds.{HasherGhosts, BuilderGhosts}
+use Rattle.hashlink_model.specs.MapState.{RefusesEntry}
+use Rattle.hashlink_core.specs.Keyed.{Keyed, state_of}
+use Rattle.hashlink_core.specs.KeyedLends.{HashMembers}
 use Rattle.hashlink_map.specs.EntryLends.{PutsLast}
 use Rattle.hashlink_map.specs.Lends.{map_row}
 

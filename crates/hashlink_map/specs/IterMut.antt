@@ -1,6 +1,7 @@
 -- What a contract sees of the walks that lend values for writing, with the keys and without.
-use Rattle.hashlink_map.specs.Names.{EqGhosts, HashGhosts, HasherGhosts, BuilderGhosts, NodeGhosts, MutBor}
-use Rattle.hashlink_map.specs.Names.{Keyed}
+use Rattle.std.specs.Borrow.{MutBor}
+use Rattle.hashlink_map.specs.Bounds.{EqGhosts, HashGhosts, HasherGhosts, BuilderGhosts, NodeGhosts}
+use Rattle.hashlink_core.specs.Keyed.{Keyed}
 use Rattle.hashlink_map.specs.declared.iter_mut.IterMut.{IterMut}
 use Rattle.hashlink_map.specs.declared.values_mut.ValuesMut.{ValuesMut}
 use Rattle.hashlink_map.specs.WritingWalk.{WritingWalk, walk_in}

@@ -1,9 +1,12 @@
 -- What a walk ends as, once a `&mut` to a value that came through it has ended.
-use Rattle.hashlink_map.specs.Names.{EqGhosts, HashGhosts, HasherGhosts, BuilderGhosts, NodeGhosts, ◌≡◌, ℕ}
-use Rattle.hashlink_map.specs.Names.{◌-◌, [], Option, None, Some, OnSome, IfNone, MatchOption, slice_get}
-use Rattle.hashlink_map.specs.Names.{Fml, RattleType, Bor, MutBor, Lends, LendsSo, follows_so, name_if_some}
-use Rattle.hashlink_map.specs.Names.{option_map, option_copied_mut, named, Keyed, entries_of, Node}
-use Rattle.hashlink_map.specs.Names.{place_number, node_row, with_value_at}
+use Rattle.std.specs.Prelude.{◌≡◌, ℕ, ◌-◌, [], Option, None, Some, OnSome, IfNone, MatchOption, slice_get}
+use Rattle.std.specs.Borrow.{Fml, RattleType, Bor, MutBor, Lends, LendsSo, follows_so, name_if_some}
+use Rattle.std.specs.Option.{option_map, option_copied_mut}
+use mir.Syntax.{named}
+use Rattle.hashlink_map.specs.Bounds.{EqGhosts, HashGhosts, HasherGhosts, BuilderGhosts, NodeGhosts}
+use Rattle.hashlink_core.specs.Keyed.{Keyed, entries_of}
+use Rattle.hashlink_core.specs.Places.{Node, place_number}
+use Rattle.hashlink_core.specs.KeyedLends.{node_row, with_value_at}
 use Rattle.hashlink_map.specs.contracts.iter_mut.IterMut as walk
 use Rattle.hashlink_map.specs.contracts.values_mut.ValuesMut as values
 use Rattle.hashlink_map.specs.declared.iter_mut.IterMut.{IterMut}

@@ -1,9 +1,13 @@
 -- What a map ends as, once a `&mut` to a value has ended.
-use Rattle.hashlink_map.specs.Names.{HasherGhosts, BuilderGhosts, ◌≡◌, ℕ, ◌-◌, Bool, Option, OnSome, length}
-use Rattle.hashlink_map.specs.Names.{⊤, Fml, RattleType, MutBor, Lends, LendsSo, follows_so, with_value}
-use Rattle.hashlink_map.specs.Names.{Keyed, state_of, entries_of, HashMembers, with_value_at, Node}
+use Rattle.std.specs.Prelude.{◌≡◌, ℕ, ◌-◌, Bool, Option, OnSome, length, ⊤}
+use Rattle.std.specs.Borrow.{Fml, RattleType, MutBor, Lends, LendsSo, follows_so}
 use mathlib.Core.Option.{none}
+use Rattle.hashlink_map.specs.Bounds.{HasherGhosts, BuilderGhosts}
+use Rattle.hashlink_model.specs.MapState.{with_value}
 use Rattle.hashlink_model.specs.Steps.{with_match_value, MovesMatchAndWrites}
+use Rattle.hashlink_core.specs.Keyed.{Keyed, state_of, entries_of}
+use Rattle.hashlink_core.specs.KeyedLends.{HashMembers, with_value_at}
+use Rattle.hashlink_core.specs.Places.{Node}
 use Rattle.hashlink_map.specs.contracts.map.LinkedHashMap.{the_row}
 
 module _ (K V S T : RattleType) (g : HashMembers K.Denot) (b : BuilderGhosts S.Denot T.Denot)

@@ -1,4 +1,5 @@
 -- What the contracts of the map cite, beside `hashlink_model`.
+pub mod Bounds
 pub mod Cloning
 pub mod Compared
 pub mod Cursor
@@ -12,7 +13,6 @@ pub mod InsertLends
 pub mod IterMut
 pub mod IterMutLends
 pub mod Lends
-pub mod Names
 pub mod RawEntry
 pub mod RawLends
 pub mod Reading

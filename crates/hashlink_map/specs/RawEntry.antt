@@ -1,8 +1,13 @@
 -- What a contract sees of a raw entry, and what its caller may have to promise.
-use Rattle.hashlink_map.specs.Names.{EqGhosts, HashGhosts, HasherGhosts, BuilderGhosts, NodeGhosts, ◌≡◌, ℕ}
-use Rattle.hashlink_map.specs.Names.{Option, None, Some, MatchOption, slice_get, option_and_then, Bor}
-use Rattle.hashlink_map.specs.Names.{MutBor, Shared, Once, with_value, RawEntryState, place_number, Keyed}
-use Rattle.hashlink_map.specs.Names.{state_of, with_value_at}
+use Rattle.std.specs.Prelude.{◌≡◌, ℕ, Option, None, Some, MatchOption, slice_get, option_and_then}
+use Rattle.std.specs.Borrow.{Bor, MutBor}
+use Rattle.std.specs.Fn.{Shared, Once}
+use Rattle.hashlink_map.specs.Bounds.{EqGhosts, HashGhosts, HasherGhosts, BuilderGhosts, NodeGhosts}
+use Rattle.hashlink_model.specs.MapState.{with_value}
+use Rattle.hashlink_model.specs.Entry.{RawEntryState}
+use Rattle.hashlink_core.specs.Places.{place_number}
+use Rattle.hashlink_core.specs.Keyed.{Keyed, state_of}
+use Rattle.hashlink_core.specs.KeyedLends.{with_value_at}
 use Rattle.hashlink_map.specs.Standing.{still_holds}
 use Rattle.hashlink_map.specs.declared.raw_entry.builders.RawEntryBuilder.{RawEntryBuilder}
 use Rattle.hashlink_map.specs.declared.raw_entry.builders.RawEntryBuilderMut.{RawEntryBuilderMut}

@@ -1,11 +1,17 @@
 -- What a map or a raw entry ends as, once what came through a raw entry has ended.
-use Rattle.hashlink_map.specs.Names.{EqGhosts, HashGhosts, HasherGhosts, BuilderGhosts, NodeGhosts, ◌≡◌, ◌-◌}
-use Rattle.hashlink_map.specs.Names.{Bool, [], Option, Some, MatchOption, length, slice_get, Result, Ok, Err}
-use Rattle.hashlink_map.specs.Names.{IfOk, IfErr, ⊤, Fml, ftrue, RattleType, Bor, MutBor, Lends, RestsIfNone}
-use Rattle.hashlink_map.specs.Names.{RestsIfErr, follows_so, name_if_ok, named, place_of, AddsEntry}
-use Rattle.hashlink_map.specs.Names.{RefusesEntry, MovesAt, RawEntryState, Keyed, state_of, entries_of, Node}
-use Rattle.hashlink_map.specs.Names.{HashMembers, node_row, with_value_at}
+use Rattle.std.specs.Prelude.{◌≡◌, ◌-◌, Bool, [], Option, Some, MatchOption, length, slice_get, Result, Ok}
+use Rattle.std.specs.Prelude.{Err, IfOk, IfErr, ⊤}
+use Rattle.std.specs.Borrow.{Fml, ftrue, RattleType, Bor, MutBor, Lends, RestsIfNone, RestsIfErr, follows_so}
+use Rattle.std.specs.Borrow.{name_if_ok}
 use mathlib.Core.Option.{none}
+use mir.Syntax.{named}
+use Rattle.hashlink_map.specs.Bounds.{EqGhosts, HashGhosts, HasherGhosts, BuilderGhosts, NodeGhosts}
+use Rattle.hashlink_model.specs.Entries.{place_of}
+use Rattle.hashlink_model.specs.MapState.{AddsEntry, RefusesEntry, MovesAt}
+use Rattle.hashlink_model.specs.Entry.{RawEntryState}
+use Rattle.hashlink_core.specs.Keyed.{Keyed, state_of, entries_of}
+use Rattle.hashlink_core.specs.Places.{Node}
+use Rattle.hashlink_core.specs.KeyedLends.{HashMembers, node_row, with_value_at}
 use Rattle.hashlink_map.specs.contracts.map.LinkedHashMap.{the_row}
 use Rattle.hashlink_map.specs.contracts.raw_entry.occupied.RawOccupiedEntryMut as occupied
 use Rattle.hashlink_map.specs.declared.raw_entry.RawEntryMut.{RawEntryMut}

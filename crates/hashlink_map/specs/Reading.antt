@@ -1,7 +1,9 @@
 -- What a call says of an iterator: what it reads from a key on, what it read, and of one that its caller
 -- keeps that it read no more.
-use Rattle.hashlink_map.specs.Names.{Bool, List, [], drop, Option, None, option_map_or, place_of}
+use Rattle.std.specs.Prelude.{Bool, List, [], drop, Option, None}
 use Rattle.std.specs.Iterator.{Yields, YieldsThen}
+use Rattle.std.specs.Option.{option_map_or}
+use Rattle.hashlink_model.specs.Entries.{place_of}
 
 -- the entries from the first one on whose key passes the test; where none passes none
 abbrev pub entries_from : {K V : Type 0} → (K → Bool) → List (K × V) → List (K × V)

@@ -1,5 +1,6 @@
 -- What an insert prints of whose value none was made, or for which there was no memory.
-use Rattle.hashlink_map.specs.Names.{ℕ, List, ◌++◌, codes, Option, Some, option_map}
+use Rattle.std.specs.Prelude.{ℕ, List, ◌++◌, codes, Option, Some}
+use Rattle.std.specs.Option.{option_map}
 use Rattle.hashlink_map.specs.declared.try_insert_error.TryInsertError.{TryInsertError}
 use Rattle.hashlink_map.specs.declared.try_insert_error.TryInsertError.TheVariants.{Make, Memory}
 

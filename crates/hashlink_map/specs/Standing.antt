@@ -1,10 +1,15 @@
 -- Where a node stands after a step, and that it still holds its keys.
-use Rattle.hashlink_map.specs.Names.{◌≡◌, ℕ, zero, suc, ◌+◌, ◌≤◌, length, Bool, cond, List, [], ◌∷◌, Option}
-use Rattle.hashlink_map.specs.Names.{None, Some, option_map, values_of, place_of, Node, Holds, IsPlace}
-use Rattle.hashlink_map.specs.Names.{place_number, renewed_at, Keyed, HoldsKey, HoldsMatch, pair_with_value}
-use Rattle.hashlink_map.specs.Names.{StandsBetween, props}
+use Rattle.std.specs.Prelude.{◌≡◌, ℕ, zero, suc, ◌+◌, ◌≤◌, length, Bool, cond, List, [], ◌∷◌, Option, None}
+use Rattle.std.specs.Prelude.{Some}
+use Rattle.std.specs.Option.{option_map}
+use Rattle.std.specs.Map.{values_of}
 use Rattle.std.proofs.Common.{refl, sym, ap, subst, ◌∙◌}
+use Rattle.hashlink_model.specs.Entries.{place_of}
+use Rattle.hashlink_core.specs.Places.{Node, Holds, IsPlace, place_number, renewed_at}
+use Rattle.hashlink_core.specs.Keyed.{Keyed, HoldsKey, HoldsMatch, pair_with_value}
+use Rattle.hashlink_core.specs.Walk.{StandsBetween}
 use Rattle.hashlink_core.proofs.Places.{place_number-renewed, renewed-holds}
+use denote.Struct.Props.{props}
 
 -- that a place is of the list is a fact
 pub IsPlace-prop : {X : Type 0} (ns : List (Node × X)) (p : Option Node) → IsProp (IsPlace ns p)

@@ -1,5 +1,6 @@
 -- What the error says of a call that makes the value of an absent key, where either may fail.
-use Rattle.hashlink_map.specs.Names.{◌≡◌, Bool, Result, Ok, Err, MapState, RefusesEntry}
+use Rattle.std.specs.Prelude.{◌≡◌, Bool, Result, Ok, Err}
+use Rattle.hashlink_model.specs.MapState.{MapState, RefusesEntry}
 use Rattle.hashlink_map.specs.declared.try_insert_error.TryInsertError.{TryInsertError}
 use Rattle.hashlink_map.specs.declared.try_insert_error.TryInsertError.TheVariants.{Make, Memory}
 

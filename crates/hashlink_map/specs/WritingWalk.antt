@@ -1,8 +1,13 @@
 -- What a contract sees of a walk that lends values for writing, and of the places that it has left.
-use Rattle.hashlink_map.specs.Names.{◌≡◌, ℕ, ◌+◌, ◌-◌, ◌<◌, List, ◌++◌, length, map, take, drop, Option}
-use Rattle.hashlink_map.specs.Names.{Some, MatchOption, option_map, MapState, with_value, Keyed, state_of}
-use Rattle.hashlink_map.specs.Names.{Node, Holds, place_number, StandsBetween, props}
+use Rattle.std.specs.Prelude.{◌≡◌, ℕ, ◌+◌, ◌-◌, ◌<◌, List, ◌++◌, length, map, take, drop, Option, Some}
+use Rattle.std.specs.Prelude.{MatchOption}
+use Rattle.std.specs.Option.{option_map}
+use Rattle.hashlink_model.specs.MapState.{MapState, with_value}
+use Rattle.hashlink_core.specs.Keyed.{Keyed, state_of}
+use Rattle.hashlink_core.specs.Places.{Node, Holds, place_number}
+use Rattle.hashlink_core.specs.Walk.{StandsBetween}
 use Rattle.hashlink_map.specs.declared.places_left.PlacesLeft.{PlacesLeft}
+use denote.Struct.Props.{props}
 
 -- the map, the number of the first place left, and how many entries are left
 pub record WritingWalk (K V S : Type 0) : Type 0 where

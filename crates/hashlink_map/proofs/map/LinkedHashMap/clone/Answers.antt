@@ -1,5 +1,5 @@
-use Rattle.hashlink_map.proofs.Names.{[], ◌∷◌, ◌++◌, ap, sym, ◌∙◌, append_assoc, append-nil}
-use Rattle.hashlink_map.proofs.Names.{MadeFrom, InsertsPair, entries_of, state_of, ArePairClones}
+use Rattle.hashlink_map.proofs.Names.{[], ◌∷◌, ◌++◌, ap, subst, sym, ◌∙◌, append_assoc, append-nil}
+use Rattle.hashlink_map.proofs.Names.{AcceptsAll, MadeFrom, InsertsPair, entries_of, state_of, ArePairClones}
 use Rattle.hashlink_map.proofs.Names.{accepts_another, IsEntries}
 use Rattle.hashlink_map.proofs.Clones.{cloned_another, clone_equal, clone_same}
 use Rattle.hashlink_map.proofs.map.LinkedHashMap.clone.Given as given

@@ -1,0 +1,6 @@
+-- What a clause has of each bound on a parameter of the map.
+pub use Rattle.std.specs.declared.cmp.PartialEq.{Ghosts as EqGhosts}
+pub use Rattle.std.specs.declared.hash.Hash.{Ghosts as HashGhosts}
+pub use Rattle.std.specs.declared.hash.Hasher.{Ghosts as HasherGhosts}
+pub use Rattle.std.specs.declared.hash.BuildHasher.{Ghosts as BuilderGhosts}
+pub use Rattle.hashlink_map.specs.declared.as_node.AsNode.{Ghosts as NodeGhosts}
