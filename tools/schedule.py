@@ -1,11 +1,13 @@
 """Proves crates side by side, each after those that it stands on.
 
 A crate's chain is the crate and those above it that have to follow one after the other, by their lines of
-code. The crates with the longest chains begin first, and the first of them gets the processors that are left
-over. A check that is split between processors takes half as much processor time again.
+code: those that end in a brace or a semicolon, since a law without a body is quickly proved. The crates with
+the longest chains begin first, and the first of them gets the processors that are left over. A check that is
+split between processors takes half as much processor time again.
 """
 
 import os
+import re
 import sys
 import tempfile
 import time
@@ -13,6 +15,7 @@ from pathlib import Path
 
 from repository import all_below
 
+CODE = re.compile(rb"^(?!ghost use|use|pub use|\{\}).*[;{}]$", re.M)
 SPLIT = 1.5  # times the processor time
 
 
@@ -60,7 +63,7 @@ class Schedule:
 
 
 def lines_in(folder):
-    return sum(file.read_bytes().count(b"\n") for file in folder.rglob("*.rt"))
+    return sum(len(CODE.findall(file.read_bytes())) for file in folder.rglob("*.rt"))
 
 
 def planned(schedule):
