@@ -2,9 +2,11 @@
 //! allocates or hashes an element. Each node that becomes spare serves the next insert of an absent element.
 ghost use Rattle.std.specs.Fn.{CalledAt};
 ghost use Rattle.std.specs.List.{IsDistinct};
+ghost use Rattle.std.specs.Map.Calls.{CallableOnEachPair, CalledAtPair, TakesPair};
+ghost use Rattle.hashlink_model.specs.Entries.{IsEntries};
 ghost use Rattle.hashlink_model.specs.Retain.{RetainsInOrder};
 ghost use Rattle.hashlink_model.specs.Sets.{elements_of, at_element};
-ghost use Rattle.hashlink_core.specs.Keyed.{state_of};
+ghost use Rattle.hashlink_core.specs.Keyed.{entries_of, state_of};
 ghost use Rattle.hashlink_set.specs.Called.{CallableOnEachElement};
 
 use super::LinkedHashSet;
@@ -68,9 +70,25 @@ where
         (state_of map.new) keep.new }
     ensures distinct { IsDistinct T.eq (elements_of (state_of map.new)) }
 {
-    map.retain_from(
+    retain_by(
+        map,
         &mut |element: &T, _: &mut ()|
             requires { F.pre keep.now element }
         { keep(element) },
     );
+}
+
+/// Does what the map's `retain_from` does. That its condition has a name makes it a record, which is compared
+/// at little cost where the closure is known.
+fn retain_by<K: Eq + Hash + Drop, V: Drop, S: BuildHasher, F: FnMut(&K, &mut V) -> bool>(
+    map: &mut LinkedHashMap<K, V, S>,
+    keep: &mut F,
+)
+    requires callable { CallableOnEachPair (CalledAtPair F.FnMut) (TakesPair F.FnMut) keep.old
+        (entries_of map.old) }
+    ensures retained { RetainsInOrder (CalledAtPair F.FnMut) keep.old (state_of map.old) (state_of map.new)
+        keep.new }
+    ensures distinct { IsEntries K.eq (entries_of map.new) }
+{
+    map.retain_from(keep);
 }
