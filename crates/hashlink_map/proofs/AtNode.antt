@@ -2,9 +2,9 @@
 use Rattle.hashlink_map.proofs.Names
 use Names.{[], ◌∷◌, ap₂, ◌++◌, length-append, ◌≡◌, ℕ, ◌+◌, ◌-◌, ◌≤◌, Bool, true, List, length, None, Some}
 use Names.{refl, sym, ap, subst, ◌∙◌, arith, slice_get, insert, remove, unwrap_or, Result, Ok, Err, IfOk}
-use Names.{IfErr, OnErr, MatchOption, MatchResult, option_map, IsEquivalence, lookup, slice_get-map}
+use Names.{IfErr, OnErr, MatchOption, option_map, IsEquivalence, lookup, slice_get-map}
 use Names.{length-values_of, place_of, place_left, moved_at, put, stored_key, set_value_at, MapState}
-use Names.{AddsEntry, PutsEntry, RefusesEntry, MovesAt, RoomFor, with_value, key_at, value_at, VacantInserts}
+use Names.{AddsEntry, PutsEntry, MovesAt, RoomFor, with_value, key_at, value_at, VacantInserts}
 use Names.{split_at, slice_get_here, set_value_at-here, moved_at-last, moved_at-put, lookup_key_is}
 use Names.{put-absent, Keyed, entries_of, state_of, HoldsKey, EqualsKeyAt, IsKeyed, Node, Holds, place_number}
 use Names.{renewed_at, with_value_at, AddsNode, GrowsRoom, number-at, holds-at, holds_key-at, equals-stored}

@@ -2,7 +2,7 @@
 use Rattle.hashlink_map.proofs.Names
 use Names.{◌≡◌, ℕ, ◌-◌, List, [], ◌∷◌, ◌++◌, Bool, None, Some, length, refl, sym, ap, ap₂, subst, ◌∙◌}
 use Names.{append-nil, slice_get, Result, Ok, Err, IfOk, IfErr, OnErr, MatchOption, Bor, MutBor}
-use Names.{IsEquivalence, IsEntries, moved_at, place_of, MapState, MovesAt, AddsEntry, PutsEntry}
+use Names.{IsEquivalence, IsEntries, moved_at, place_of, MapState, MovesAt, AddsEntry}
 use Names.{RefusesEntry, RawEntryState, moved_at-last, split_at, place_of_its_key, Keyed, state_of}
 use Names.{entries_of, Node, Holds, place_number, at-node, node-at, RawOccupiedEntryMut, raw_occupied_state}
 use Names.{raw_occupied_map, raw_place, raw_pair, PutsLast, StandsLast, with_value_at}

@@ -11,6 +11,7 @@ ghost use Rattle.hashlink_core.specs.Keyed.{state_of, entries_of, HoldsKey, Equa
 ghost use Rattle.hashlink_core.specs.Places.{Holds, place_number};
 ghost use Rattle.hashlink_core.specs.Tied.{hash_with};
 
+use crate::as_node::AsNode;
 use crate::map::LinkedHashMap;
 use hashlink_core::Node;
 use std::hash::{BuildHasher, Hash};
@@ -150,12 +151,12 @@ impl<K: Eq + Hash, V, S: BuildHasher> LinkedHashMap<K, V, S> {
 
     /// Removes the entry of the node, and returns it.
     #[inline]
-    pub(crate) fn take_at(&mut self, node: Node) -> (K, V)
-        requires { Holds self.old.nodes node }
+    pub(crate) fn take_at<N: AsNode>(&mut self, node: N) -> (K, V)
+        requires held { Holds self.old.nodes (N.node node) }
         ensures { TakesEntry (state_of self.old) (state_of self.new)
-            (place_number self.old.nodes (Some node)) result }
+            (place_number self.old.nodes (Some (N.node node))) result }
     {
-        self.list.remove(node)
+        self.list.remove(node.as_node())
     }
 
     /// Inserts a pair at the back. Its key is absent and has this hash.

@@ -16,7 +16,7 @@ impl<K: Eq + Hash, V, S: BuildHasher> LinkedHashMap<K, V, S> {
     /// Returns the place after a place: after the guard comes the first.
     #[inline]
     pub(crate) fn place_after(&self, place: Option<Node>) -> Option<Node>
-        requires { IsPlace self.now.nodes place }
+        requires within { IsPlace self.now.nodes place }
         ensures { IsPlaceAt self.now.nodes result
             (following_place (length (entries_of self.now)) (place_number self.now.nodes place)) }
     {
@@ -26,7 +26,7 @@ impl<K: Eq + Hash, V, S: BuildHasher> LinkedHashMap<K, V, S> {
     /// Returns the place before a place: before the first comes the guard.
     #[inline]
     pub(crate) fn place_before(&self, place: Option<Node>) -> Option<Node>
-        requires { IsPlace self.now.nodes place }
+        requires within { IsPlace self.now.nodes place }
         ensures { IsPlaceAt self.now.nodes result
             (preceding_place (length (entries_of self.now)) (place_number self.now.nodes place)) }
     {
@@ -36,13 +36,14 @@ impl<K: Eq + Hash, V, S: BuildHasher> LinkedHashMap<K, V, S> {
     /// Returns the pair at the place, or `None` at the guard.
     #[inline]
     pub(crate) fn pair_at_place(&self, place: Option<Node>) -> Option<(&K, &V)>
-        requires { IsPlace self.now.nodes place }
+        requires within { IsPlace self.now.nodes place }
         ensures { option_map deref_pair result
             ≡ slice_get (entries_of self.now) (place_number self.now.nodes place) }
     {
         let node = place?;
         Some(self.pair_at(node))
     }
+
     /// Inserts the pair directly before the place, as `KeyedList::insert_at` does. Each place stays on its
     /// entry.
     pub(crate) fn insert_at(
@@ -53,7 +54,7 @@ impl<K: Eq + Hash, V, S: BuildHasher> LinkedHashMap<K, V, S> {
     ) -> Result<Option<V>, (K, V)>
     where
         K: Drop,
-        requires { IsPlace self.old.nodes place }
+        requires within { IsPlace self.old.nodes place }
         ensures inserts { Inserts K.eq (state_of self.old) (state_of self.new) key value
             (place_number self.old.nodes place) result }
         ensures keeps { (p : Option Node) → IsPlace self.old.nodes p → KeepsPlace K.eq self.old self.new p }

@@ -32,7 +32,7 @@ impl<K: Eq + Hash, V, S: BuildHasher> LinkedHashMap<K, V, S> {
         ensures unchanged { (cursor_map result).now ≡ self.old }
         ensures first { (cursor_state result).place ≡ 0 }
     {
-        let place = self.list.front();
+        let place = self.first_node();
         CursorMut { map: self, place }
     }
 
@@ -43,7 +43,7 @@ impl<K: Eq + Hash, V, S: BuildHasher> LinkedHashMap<K, V, S> {
         ensures unchanged { (cursor_map result).now ≡ self.old }
         ensures last { (cursor_state result).place ≡ length (entries_of self.old) - 1 }
     {
-        let place = self.list.back();
+        let place = self.last_node();
         CursorMut { map: self, place }
     }
 }

@@ -122,18 +122,18 @@ impl<'a, K: Eq + Hash + fmt::Debug, V: fmt::Debug, S: BuildHasher> fmt::Debug
 
 impl<'a, K: Eq + Hash, V, S: BuildHasher> fmt::Debug for RawVacantEntryMut<'a, K, V, S> {
     fn fmt<W: fmt::Write>(&self, f: &mut fmt::Formatter<W>) -> fmt::Result {
-        f.debug_struct("RawVacantEntryMut").finish()
+        f.write_str("RawVacantEntryMut")
     }
 }
 
 impl<'a, K: Eq + Hash, V, S: BuildHasher> fmt::Debug for RawEntryBuilder<'a, K, V, S> {
     fn fmt<W: fmt::Write>(&self, f: &mut fmt::Formatter<W>) -> fmt::Result {
-        f.debug_struct("RawEntryBuilder").finish()
+        f.write_str("RawEntryBuilder")
     }
 }
 
 impl<'a, K: Eq + Hash, V, S: BuildHasher> fmt::Debug for RawEntryBuilderMut<'a, K, V, S> {
     fn fmt<W: fmt::Write>(&self, f: &mut fmt::Formatter<W>) -> fmt::Result {
-        f.debug_struct("RawEntryBuilder").finish()
+        f.write_str("RawEntryBuilder")
     }
 }

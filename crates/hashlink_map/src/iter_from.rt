@@ -46,11 +46,11 @@ impl<K: Eq + Hash, V, S: BuildHasher> LinkedHashMap<K, V, S> {
         ensures runs { ShowsInOrder (deref_pair {K = K} {X = V}) }
         ensures fits { length (entries_of self.now) < 2 ^ 63 }
     {
-        // `len` says that no two keys are equal.
+        // `len` says how many entries there can be.
         let _count = self.len();
         IterFrom {
             map: self,
-            place: self.list.find(self.list.hash_of(key), key),
+            place: self.find(key),
         }
     }
 }

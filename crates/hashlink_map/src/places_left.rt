@@ -37,7 +37,7 @@ impl PlacesLeft {
         &mut self,
         map: &LinkedHashMap<K, V, S>,
     ) -> Option<Node>
-        requires { StandsIn (λ n. n) map.now.nodes self.old }
+        requires stands { StandsIn (λ n. n) map.now.nodes self.old }
         ensures stands { StandsIn (λ n. n) map.now.nodes self.new }
         ensures takes { TakesPlace map.now (walk_in (λ n. n) map.now self.old)
             (walk_in (λ n. n) map.now self.new)
@@ -57,7 +57,7 @@ impl PlacesLeft {
         &mut self,
         map: &LinkedHashMap<K, V, S>,
     ) -> Option<Node>
-        requires { StandsIn (λ n. n) map.now.nodes self.old }
+        requires stands { StandsIn (λ n. n) map.now.nodes self.old }
         ensures stands { StandsIn (λ n. n) map.now.nodes self.new }
         ensures takes { TakesPlace map.now (walk_in (λ n. n) map.now self.old)
             (walk_in (λ n. n) map.now self.new) (last_place (walk_in (λ n. n) map.now self.old))

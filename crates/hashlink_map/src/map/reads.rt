@@ -1,19 +1,50 @@
 //! Reads of a map. Each lookup hashes the key once, and looks at the entries of one bucket.
-ghost use Rattle.std.specs.Prelude.{◌≡◌, is_some, option_copied};
+ghost use Rattle.std.specs.Prelude.{◌≡◌, ◌-◌, [], length, None, IfNone, MatchOption, is_some, option_copied};
 ghost use Rattle.std.specs.Borrow.{sem};
 ghost use Rattle.std.specs.Option.{option_map, option_copied_mut};
 ghost use Rattle.std.specs.Map.{lookup, lookup_entry};
 ghost use Rattle.std.specs.Map.Iter.{deref_pair};
-ghost use Rattle.hashlink_model.specs.Entries.{IsEntries};
+ghost use Rattle.hashlink_model.specs.Entries.{IsEntries, place_of};
 ghost use Rattle.hashlink_model.specs.Walk.{first_of, last_of};
-ghost use Rattle.hashlink_core.specs.Keyed.{entries_of};
+ghost use Rattle.hashlink_core.specs.Keyed.{entries_of, HoldsMatch};
+ghost use Rattle.hashlink_core.specs.Places.{IsPlaceAt};
 
 use super::LinkedHashMap;
-use hashlink_core::Equivalent;
+use hashlink_core::{Equivalent, Node};
 use std::hash::{BuildHasher, Hash};
 
 impl<K: Eq + Hash, V, S: BuildHasher> LinkedHashMap<K, V, S> {
     ghost use Rattle.hashlink_map.specs.Lends.{LendsValueOf, LendsLastValue};
+
+    /// Returns the node of the key, or `None` if it is absent. It hashes the key once.
+    #[inline]
+    pub(crate) fn find<Q: Equivalent<K>>(&self, key: Q) -> Option<Node>
+        ensures found { MatchOption result (place_of (Q.matches key) (entries_of self.now) ≡ None)
+            (HoldsMatch (Q.matches key) self.now.nodes) }
+        ensures distinct { IsEntries K.eq (entries_of self.now) }
+    {
+        self.list.find(self.list.hash_of(key), key)
+    }
+
+    /// Returns the node at the front, or `None` if the map is empty.
+    #[inline]
+    pub(crate) fn first_node(&self) -> Option<Node>
+        ensures place { IsPlaceAt self.now.nodes result 0 }
+        ensures none { IfNone result (entries_of self.now ≡ []) }
+        ensures distinct { IsEntries K.eq (entries_of self.now) }
+    {
+        self.list.front()
+    }
+
+    /// Returns the node at the back, or `None` if the map is empty.
+    #[inline]
+    pub(crate) fn last_node(&self) -> Option<Node>
+        ensures place { IsPlaceAt self.now.nodes result (length (entries_of self.now) - 1) }
+        ensures none { IfNone result (entries_of self.now ≡ []) }
+        ensures distinct { IsEntries K.eq (entries_of self.now) }
+    {
+        self.list.back()
+    }
 
     /// Returns a reference to the value of the key, or `None` if it is absent. The order does not change. It
     /// hashes the key once.
@@ -31,8 +62,8 @@ impl<K: Eq + Hash, V, S: BuildHasher> LinkedHashMap<K, V, S> {
         ensures found { option_map deref_pair result ≡ lookup_entry (Q.matches key) (entries_of self.now) }
         ensures distinct { IsEntries K.eq (entries_of self.now) }
     {
-        let node = self.list.find(self.list.hash_of(key), key)?;
-        Some(self.list.entry(node))
+        let node = self.find(key)?;
+        Some(self.pair_at(node))
     }
 
     /// Returns whether the key is present. It hashes the key once.
@@ -40,7 +71,7 @@ impl<K: Eq + Hash, V, S: BuildHasher> LinkedHashMap<K, V, S> {
         ensures found { result ≡ is_some (lookup (Q.matches key) (entries_of self.now)) }
         ensures distinct { IsEntries K.eq (entries_of self.now) }
     {
-        self.get_key_value(key).is_some()
+        self.get(key).is_some()
     }
 
     /// Returns a mutable reference to the value of the key, or `None` if it is absent. The order does not
@@ -51,9 +82,8 @@ impl<K: Eq + Hash, V, S: BuildHasher> LinkedHashMap<K, V, S> {
         ensures value { option_copied_mut result ≡ lookup (Q.matches key) (entries_of self.old) }
         ensures distinct { IsEntries K.eq (entries_of self.old) }
     {
-        let hash = self.list.hash_of(key);
-        match self.list.find(hash, key) {
-            Some(node) => Some(self.list.value_mut(node)),
+        match self.find(key) {
+            Some(node) => Some(self.value_at_mut(node)),
             None => None,
         }
     }
@@ -64,8 +94,8 @@ impl<K: Eq + Hash, V, S: BuildHasher> LinkedHashMap<K, V, S> {
         ensures found { option_map deref_pair result ≡ first_of (entries_of self.now) }
         ensures distinct { IsEntries K.eq (entries_of self.now) }
     {
-        let node = self.list.front()?;
-        Some(self.list.entry(node))
+        let node = self.first_node()?;
+        Some(self.pair_at(node))
     }
 
     /// Returns the entry at the back, or `None` if the map is empty. It takes constant time and hashes
@@ -74,8 +104,8 @@ impl<K: Eq + Hash, V, S: BuildHasher> LinkedHashMap<K, V, S> {
         ensures found { option_map deref_pair result ≡ last_of (entries_of self.now) }
         ensures distinct { IsEntries K.eq (entries_of self.now) }
     {
-        let node = self.list.back()?;
-        Some(self.list.entry(node))
+        let node = self.last_node()?;
+        Some(self.pair_at(node))
     }
 
     /// Returns a mutable reference to the value of the entry at the back, or `None` if the map is empty. The
@@ -85,8 +115,8 @@ impl<K: Eq + Hash, V, S: BuildHasher> LinkedHashMap<K, V, S> {
             S.BuildHasher S.Hasher.Hasher self.entry result) }
         ensures value { option_copied_mut result ≡ option_map (λ e. e.1) (last_of (entries_of self.old)) }
     {
-        match self.list.back() {
-            Some(node) => Some(self.list.value_mut(node)),
+        match self.last_node() {
+            Some(node) => Some(self.value_at_mut(node)),
             None => None,
         }
     }

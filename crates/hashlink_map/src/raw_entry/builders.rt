@@ -57,7 +57,7 @@ impl<K: Eq + Hash, V, S: BuildHasher> LinkedHashMap<K, V, S> {
         ensures first { IfSome result (λ o. raw_place o ≡ 0) }
         ensures none { IfNone result (entries_of self.old ≡ []) }
     {
-        let node = self.list.front()?;
+        let node = self.first_node()?;
         Some(RawOccupiedEntryMut { map: self, node })
     }
 
@@ -70,7 +70,7 @@ impl<K: Eq + Hash, V, S: BuildHasher> LinkedHashMap<K, V, S> {
         ensures last { IfSome result (λ o. raw_place o ≡ length (entries_of self.old) - 1) }
         ensures none { IfNone result (entries_of self.old ≡ []) }
     {
-        let node = self.list.back()?;
+        let node = self.last_node()?;
         Some(RawOccupiedEntryMut { map: self, node })
     }
 }

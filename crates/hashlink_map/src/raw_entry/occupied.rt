@@ -199,7 +199,7 @@ impl<'a, K: Eq + Hash, V, S: BuildHasher, N: AsNode> RawOccupiedEntryMut<'a, K, 
             (raw_place self.entry) }
     {
         let node = self.node;
-        let (_, value) = self.map.take_at(node.as_node());
+        let (_, value) = self.map.take_at(node);
         value
     }
 
@@ -209,6 +209,6 @@ impl<'a, K: Eq + Hash, V, S: BuildHasher, N: AsNode> RawOccupiedEntryMut<'a, K, 
             (raw_place self.entry) result }
     {
         let node = self.node;
-        self.map.take_at(node.as_node())
+        self.map.take_at(node)
     }
 }

@@ -21,3 +21,8 @@ returns-clause-steps g c =
     ∙ ap (λ p. drop (place_number ns p) (entries_of i.map.now)) c.in_ok-node.was
     ∙ from-following (entries_of i.map.now) _ _ (deref_pair c.pair_at.result) c.pair_at.ensures
     c.place_after-self-inside.ensures.number
+
+pub returns-clause-goes : goal.returns-clause-goes
+returns-clause-goes g c =
+    let steps = returns-clause-steps g c in
+    record { on = λ _. (tt, tt, omega (arith, ap length steps)); keeps = tt; rests = λ _. tt }

@@ -5,7 +5,8 @@ use Rattle.hashlink_map.specs.IterMut.{walk_state}
 
 pub pair_at_place-requires : goal.pair_at_place-requires
 pair_at_place-requires g c =
-    let s = c.args.self.now in first-placed s.map.now s.places s.stands c.if-self-eq0.false
+    let s = c.args.self.now in
+    record { within = first-placed s.map.now s.places s.stands c.if-self-eq0.false }
 
 pub returns-clause-pair : goal.returns-clause-pair
 returns-clause-pair g c =

@@ -1,9 +1,11 @@
-use Rattle.hashlink_map.proofs.Names.{[], ◌∷◌, ◌++◌, ap, subst, sym, ◌∙◌, append_assoc, append-nil}
-use Rattle.hashlink_map.proofs.Names.{AcceptsAll, MadeFrom, InsertsPair, entries_of, state_of, ArePairClones}
-use Rattle.hashlink_map.proofs.Names.{accepts_another, IsEntries}
+use Rattle.hashlink_map.proofs.Names.{[], ◌∷◌, ◌++◌, ap, refl, sym, ◌∙◌, append_assoc, append-nil}
+use Rattle.hashlink_map.proofs.Names.{MadeFrom, InsertsPair, entries_of, state_of, ArePairClones, accepts_another}
 use Rattle.hashlink_map.proofs.Clones.{cloned_another, clone_equal, clone_same}
 use Rattle.hashlink_map.proofs.map.LinkedHashMap.clone.Given as given
 use Rattle.hashlink_map.proofs.map.LinkedHashMap.clone.Goals as goal
+
+pub loop-key-init : goal.loop-key-init
+loop-key-init g c = record { seen = []; clones = []; is = refl; cloned = tt; inserted = refl }
 
 pub loop-key-preserved : goal.loop-key-preserved
 loop-key-preserved g c =
@@ -35,9 +37,6 @@ made : (g : given.Over) (c : goal.In-None g)
     (state_of c.loop-key.map)
 made g c = rw (← c.with_hasher-map.ensures) c.loop-key.invariant.inserted
 
-distinct : (g : given.Over) (c : goal.In-None g) → IsEntries g.K.PartialEq.eq (entries_of c.args.self.now)
-distinct g c = rw (← c.self.view_is) c.allocator.ensures.distinct
-
 pub returns-clause-made : goal.returns-clause-made
 returns-clause-made g c = (
   c.in_ok-hash_builder.hash_builder,
@@ -52,11 +51,11 @@ returns-clause-equal g c eqv f h =
     clone_equal g.K.Clone.is_clone g.V.Clone.is_clone g.K.PartialEq.eq g.met.K.Eq.laws
     (entries_of c.args.self.now)
     c.loop-key.invariant.clones c.in_ok-hash_builder.hash_builder (state_of c.loop-key.map)
-    (distinct g c) (whole g c) (made g c) eqv f h
+    c.iter-key-items.ensures.distinct (whole g c) (made g c) eqv f h
 
 pub returns-clause-same : goal.returns-clause-same
 returns-clause-same g c f h =
     clone_same g.K.Clone.is_clone g.V.Clone.is_clone g.K.PartialEq.eq g.met.K.Eq.laws
     (entries_of c.args.self.now)
     c.loop-key.invariant.clones c.in_ok-hash_builder.hash_builder (state_of c.loop-key.map)
-    (distinct g c) (whole g c) (made g c) f h
+    c.iter-key-items.ensures.distinct (whole g c) (made g c) f h

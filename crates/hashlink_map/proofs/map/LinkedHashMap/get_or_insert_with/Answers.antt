@@ -1,6 +1,4 @@
-use Rattle.hashlink_map.proofs.Names.{◌≡◌, refl, subst, ◌∙◌, place_of, HoldsKey, entries_of, state_of}
-use Rattle.hashlink_map.proofs.Names.{lookup-place, lookup-unplaced}
-use Rattle.std.specs.Prelude.{None}
+use Rattle.hashlink_map.proofs.Names.{refl, ◌∙◌, entries_of, state_of, lookup-place, lookup-unplaced}
 use Rattle.hashlink_map.proofs.AtNode.{moves-and-writes, moved-value, adds-written, added-value}
 use Rattle.hashlink_map.proofs.map.LinkedHashMap.get_or_insert_with.Goals as goal
 

@@ -1,7 +1,11 @@
-use Rattle.hashlink_map.proofs.Names.{sym, ap, ◌∙◌, length-values_of, moved_at, entries_of, at-node}
+use Rattle.hashlink_map.proofs.Names.{entries_of, at-node, guard-number}
 use Rattle.hashlink_map.proofs.AtNode.{stays-last}
 use Rattle.hashlink_map.proofs.LastMoved.{distinct_before}
 use Rattle.hashlink_map.proofs.map.LinkedHashMap.move_to_back.Goals as goal
+
+pub returns-clause-moves : goal.returns-clause-moves
+returns-clause-moves g c =
+    rw (← guard-number c.args.self.now, ← c.self.view_is) c.move_before.ensures.moved.state
 
 pub returns-clause-stays : goal.returns-clause-stays
 returns-clause-stays g c =
@@ -11,7 +15,6 @@ returns-clause-stays g c =
 pub returns-clause-distinct : goal.returns-clause-distinct
 returns-clause-distinct g c =
     let old = c.args.self.now in
-    let moved = (rw c.self.view_is at c.move_before.ensures.moved.state.entries)
-    ∙ ap (moved_at (entries_of old) _) (sym (length-values_of old.nodes)) in
     distinct_before g.K.PartialEq.eq g.met.K.Eq.laws (entries_of old) _ _
-    (at-node old c.args.node c.requires) (rw moved at c.move_before.ensures.sound.distinct)
+    (at-node old c.args.node c.requires)
+    (rw ((returns-clause-moves g c).entries) at c.move_before.ensures.sound.distinct)

@@ -1,4 +1,3 @@
-use Rattle.hashlink_map.proofs.Names.{◌≡◌, None, sym, subst, place_of, entries_of}
 use Rattle.hashlink_map.proofs.AtNode.{pushes, pushed-holds, pushed-place}
 use Rattle.hashlink_map.proofs.map.LinkedHashMap.push_back.Goals as goal
 

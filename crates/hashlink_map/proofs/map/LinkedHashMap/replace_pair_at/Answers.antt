@@ -12,3 +12,6 @@ returns-clause-stays g c =
     (same-keys laws _ _ sound n c.requires.within key
     (holds-equal g.K.PartialEq.eq c.args.self.now n key c.requires))
     (rw c.self.view_is at c.replace_pair.ensures.nodes)
+
+pub returns-clause-replaces : goal.returns-clause-replaces
+returns-clause-replaces g c = rw (← c.self.view_is) c.replace_pair.ensures.replaces

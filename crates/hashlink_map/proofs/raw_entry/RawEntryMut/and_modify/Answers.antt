@@ -1,5 +1,8 @@
 use Rattle.hashlink_map.proofs.raw_entry.RawEntryMut.and_modify.Goals as goal
 
+pub f-requires : goal.f-requires
+f-requires g c = c.requires _ _ (rw c.in-Occupied.is c.get_key_value_mut-value.ensures.pair)
+
 pub returns-in-Occupied-clause-modifies : goal.returns-in-Occupied-clause-modifies
 returns-in-Occupied-clause-modifies g c =
     let lent = c.get_key_value_mut-value in
