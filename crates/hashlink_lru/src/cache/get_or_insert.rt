@@ -64,7 +64,7 @@ impl<K: Eq + Hash, V, S: BuildHasher> LruCache<K, V, S> {
         K: Drop,
         V: Drop,
         F: Drop,
-        requires { lookup (K.eq key) (entries_of self.old) ≡ None → F.pre make }
+        requires callable { lookup (K.eq key) (entries_of self.old) ≡ None → F.pre make }
         ensures used { OnOk result (UsesOrPuts K.eq (F.post make) (state_of self.old)
             (state_of self.new) key) }
         ensures refused { IfErr result
@@ -121,7 +121,7 @@ impl<K: Eq + Hash, V, S: BuildHasher> LruCache<K, V, S> {
         K: Drop,
         V: Drop,
         F: Drop,
-        requires { lookup (K.eq key) (entries_of self.old) ≡ None → F.pre make }
+        requires callable { lookup (K.eq key) (entries_of self.old) ≡ None → F.pre make }
         ensures used { OnOk result (UsesOrPuts K.eq (λ x. F.post make (Ok x)) (state_of self.old)
             (state_of self.new) key) }
         ensures failed { IfErr result (FailsToUse K.eq (state_of self.old) (state_of self.new) key) }
@@ -145,7 +145,7 @@ fn move_or_make<K: Eq + Hash + Drop, V: Drop, S: BuildHasher, F: FnOnce() -> V +
     key: K,
     make: F,
 ) -> Result<(), (K, V)>
-    requires { lookup (K.eq key) (keyed.entries_of map.old) ≡ None → F.pre make }
+    requires callable { lookup (K.eq key) (keyed.entries_of map.old) ≡ None → F.pre make }
     ensures puts { OnOk result (MovesOrMakes K.eq (F.post make) (keyed.state_of map.old)
         (keyed.state_of map.new) key) }
     ensures refused { IfErr result
@@ -165,7 +165,7 @@ fn move_or_try_make<
     E,
     F: FnOnce() -> Result<V, E> + Drop,
 >(map: &mut LinkedHashMap<K, V, S>, key: K, make: F) -> Result<(), TryInsertError<K, V, E>>
-    requires { lookup (K.eq key) (keyed.entries_of map.old) ≡ None → F.pre make }
+    requires callable { lookup (K.eq key) (keyed.entries_of map.old) ≡ None → F.pre make }
     ensures puts { OnOk result
         (MovesOrMakes K.eq (λ v. F.post make (Ok v)) (keyed.state_of map.old) (keyed.state_of map.new) key) }
     ensures failed { IfErr result (FailsToInsert K.eq (keyed.state_of map.old) (keyed.state_of map.new) key) }
