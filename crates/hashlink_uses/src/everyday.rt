@@ -92,6 +92,17 @@ pub fn exchange<T: Eq + Hash, S: BuildHasher>(
     words.replace(word)
 }
 
+/// Removes a word, and returns whether it was present.
+pub fn strike<T: Eq + Hash + Drop, S: BuildHasher>(
+    words: &mut LinkedHashSet<T, S>,
+    word: &T,
+) -> bool
+    ensures found { result ≡ list_any (T.eq word.now) (elements_of words.old) }
+    ensures elements { elements_of words.new ≡ remove_key (T.eq word.now) (elements_of words.old) }
+{
+    words.remove(word)
+}
+
 /// Removes the first word, and returns it.
 pub fn take_first<T: Eq + Hash, S: BuildHasher>(words: &mut LinkedHashSet<T, S>) -> Option<T>
     ensures { MatchOption result ((elements_of words.old ≡ []) × (elements_of words.new ≡ []))

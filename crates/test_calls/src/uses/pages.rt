@@ -6,11 +6,12 @@ use hashlink_uses::pages::{PageCache, PageError, Store};
 use std::alloc::{AllocError, Global};
 use std::process::ExitCode;
 
-/// A disk of numbered pages, and whether it can be written.
+/// A disk of numbered pages, whether it can be written, and how often it was.
 #[derive(Drop)]
 struct Disk {
     pages: Vec<u32>,
     is_locked: bool,
+    saves: u32,
 }
 
 /// Why a disk fails: there is no such page, or it cannot be written.
@@ -39,6 +40,7 @@ impl Store<u32> for Disk {
         match self.pages.get_mut(number as usize) {
             Some(page) => {
                 *page = value;
+                self.saves = self.saves.wrapping_add(1);
                 Ok(())
             }
             None => Err(DiskError::NoPage),
@@ -49,11 +51,16 @@ impl Store<u32> for Disk {
 /// A cache of two pages before a disk of four.
 fn four_pages(alloc: Global, is_locked: bool) -> Result<PageCache<u32, Disk>, AllocError> {
     let pages = vec![in alloc; 10, 11, 12, 13]?;
-    Ok(PageCache::new(alloc, 2, Disk { pages, is_locked }))
+    let disk = Disk {
+        pages,
+        is_locked,
+        saves: 0,
+    };
+    Ok(PageCache::new(alloc, 2, disk))
 }
 
 /// Whether each page is read as it was last written, whether it has left the cache or not, and the disk has
-/// it in the end.
+/// it in the end, written once for each time that it left changed.
 fn is_read_as_written(mut cache: PageCache<u32, Disk>) -> bool {
     let is_written = cache.write(0, 20).is_ok()
         & cache.write(1, 21).is_ok()
@@ -63,7 +70,9 @@ fn is_read_as_written(mut cache: PageCache<u32, Disk>) -> bool {
     is_written
         & (read == [Ok(30), Ok(21), Ok(22), Ok(13)])
         & (cache.read(4) == Err(DiskError::NoPage))
-        & cache.close().is_ok_and(|disk| disk.pages.as_slice() == [30, 21, 22, 13].as_slice())
+        & cache
+            .close()
+            .is_ok_and(|disk| (disk.saves == 3) & (disk.pages.as_slice() == [30, 21, 22, 13].as_slice()))
 }
 
 #[test]

@@ -1,6 +1,7 @@
 //! Calls of a set.
 use crate::uses::passes;
 use hashlink::LinkedHashSet;
+use hashlink_uses::everyday::strike;
 use hashlink_uses::sets::{append, copy_of, empty_out, promote};
 use std::alloc::Global;
 use std::process::ExitCode;
@@ -23,6 +24,16 @@ fn is_promoted(set: &mut Set) -> bool {
 #[test]
 fn a_word_is_promoted(rt: HostRuntime) -> ExitCode {
     passes(is_promoted(&mut set_of(rt.alloc(), [1, 2, 3])))
+}
+
+/// Whether a word is removed once.
+fn is_struck_once(set: &mut Set) -> bool {
+    strike(set, &2) & !strike(set, &2) & (set.len() == 2)
+}
+
+#[test]
+fn a_word_is_struck(rt: HostRuntime) -> ExitCode {
+    passes(is_struck_once(&mut set_of(rt.alloc(), [1, 2, 3])))
 }
 
 /// Whether 4 and 1 are appended to 1, 2 and 3, of which 1 then stands last.
