@@ -94,5 +94,11 @@ pub fn insert_then_keep_divisors<K: Eq + Hash + Drop, S: BuildHasher>(
     requires held { All (λ e. e.1 ≢ 0) (keyed.entries_of map.old) }
 {
     let commands = two_commands(alloc, Command::Insert(key, value), Command::Keep)?;
-    run(map, commands, &|_: &K, value: &u64| total % *value == 0)
+    run(
+        map,
+        commands,
+        &|_: &K, value: &u64|
+            requires { value.now ≢ 0 }
+        { total % *value == 0 },
+    )
 }

@@ -16,8 +16,7 @@ pub fn use_number<K: Eq + Hash, S: BuildHasher>(
     ensures used { WeightedGets K.eq cache.old cache.new key.now }
     ensures value { result ≡ without_weight (lookup (K.eq key.now) (entries_of cache.old)) }
 {
-    let value = cache.get(key)?;
-    Some(*value)
+    cache.get(key).copied()
 }
 
 /// Inserts a pair, and returns the sum of the weights afterwards.

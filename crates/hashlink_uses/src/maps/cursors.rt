@@ -26,6 +26,6 @@ pub fn put_after<K: Eq + Hash + Drop, V: Drop, S: BuildHasher>(
 {
     match map.entry(before) {
         Entry::Occupied(entry) => Some(entry.cursor_mut().insert_after(key, value)),
-        Entry::Vacant(_) => None,
+        Entry::Vacant(_entry) => None,
     }
 }

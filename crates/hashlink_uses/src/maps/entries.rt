@@ -102,7 +102,7 @@ pub fn refresh<K: Eq + Hash + Drop, V: Drop, S: BuildHasher>(
             entry.into_key();
             Some(old)
         }
-        Entry::Vacant(_) => None,
+        Entry::Vacant(_entry) => None,
     }
 }
 
@@ -193,7 +193,7 @@ where
     ensures refused { IfErr result (RefusesEntry K.eq (state_of map.old) (state_of map.new) key value) }
 {
     match map.raw_entry_of(&key) {
-        RawEntryMut::Occupied(_) => Ok(false),
+        RawEntryMut::Occupied(_entry) => Ok(false),
         RawEntryMut::Vacant(entry) => {
             *entry.insert_entry(key, value)?.into_mut() = written;
             Ok(true)

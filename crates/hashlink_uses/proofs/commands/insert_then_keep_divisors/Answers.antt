@@ -1,4 +1,4 @@
-use Rattle.std.proofs.Common.{◌≢◌, ℕ, Bool, All, [], ◌∷◌, inl, inr, length, subst, sym, rules}
+use Rattle.std.proofs.Common.{◌≢◌, ℕ, Bool, All, [], ◌∷◌, inl, inr, length, subst, sym}
 use Rattle.std.proofs.lemmas.List.Elements.{All-contains}
 use Rattle.hashlink.specs.MapState.{MapState}
 use Rattle.hashlink.specs.Run.{ShownBy}
@@ -32,5 +32,4 @@ pub run-requires : goal.run-requires
 run-requires g c = λ pair shown key value first second.
     let commands = c.in_ok-commands.ensures in
     let not_zero = shown_by_both c.requires.given c.requires.held (rw commands at shown) in
-    let here : value.now ≢ 0 = subst (λ n. n ≢ 0) (sym second) not_zero in
-    search rules
+    subst (λ n. n ≢ 0) (sym second) not_zero

@@ -1,8 +1,10 @@
 use Rattle.std.proofs.Common.{List, [], ◌∷◌, ◌++◌, append_assoc, ap, sym, ◌∙◌}
+use Rattle.std.proofs.lemmas.List.{append-nil}
 use Rattle.std.proofs.lemmas.List.Sums.{fold-append}
 use Rattle.std.proofs.lemmas.Result.{err_from_is_err_and}
 use Rattle.hashlink.specs.Entries.{place_or_end, put}
 use Rattle.hashlink.specs.Keyed.{entries_of}
+use Rattle.hashlink_uses.specs.Merged.{merged}
 use Rattle.hashlink_uses.proofs.settings.merge.Goals as goal
 
 pub returns-in_err-set-clause-stopped : goal.returns-in_err-set-clause-stopped
@@ -27,3 +29,9 @@ loop-key-preserved g c =
       c.in_ok-set.ensures.entries ∙ ap (λ es. set es p) inv.4
           ∙ sym (fold-append set (entries_of c.args.settings.now) inv.2 (p ∷ [])),
     )
+
+pub returns-clause-all : goal.returns-clause-all
+returns-clause-all g c =
+    let inv = c.loop-key.invariant in
+    let all = inv.3 ∙ ap (λ ps. inv.2 ++ ps) c.in-None.ensures.steps.0 ∙ append-nil inv.2 in
+    inv.4 ∙ ap (merged g.K.PartialEq.eq (entries_of c.args.settings.now)) (sym all)

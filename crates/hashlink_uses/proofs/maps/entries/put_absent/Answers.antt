@@ -23,5 +23,5 @@ returns-in_ok-map-in-Vacant-clause-put g c ok =
 
 pub returns-in-Occupied-clause-added : goal.returns-in-Occupied-clause-added
 returns-in-Occupied-clause-added g c =
-    is-not-absent (g.K.PartialEq.eq c.args.key) (entries_of c.args.map.now) (raw_place c.in-Occupied.field-0)
+    is-not-absent (g.K.PartialEq.eq c.args.key) (entries_of c.args.map.now) (raw_place c.in-Occupied._entry)
     (search rules)
