@@ -107,11 +107,24 @@ fn get_each(map: &Numbers, comparisons: &Rc<Cell<u64>>) -> Result<bool, AllocErr
     Ok(all)
 }
 
-/// Whether both go well with at most 4,000 comparisons.
+/// Whether a map takes each of them, and then finds it.
+fn takes_and_finds(map: &mut Numbers, comparisons: &Rc<Cell<u64>>) -> Result<bool, AllocError> {
+    let all = insert_each(map, comparisons)?;
+    Ok(all & get_each(map, comparisons)?)
+}
+
+/// Whether an empty map does.
+fn serves_each(alloc: Global, comparisons: &Rc<Cell<u64>>) -> Result<bool, AllocError> {
+    takes_and_finds(
+        &mut LinkedHashMap::with_hasher(alloc, OwnNumber::default()),
+        comparisons,
+    )
+}
+
+/// Whether it does with at most 4,000 comparisons.
 fn compares_few(alloc: Global) -> Result<bool, AllocError> {
     let comparisons = Rc::new(alloc, Cell::new(0u64))?;
-    let mut map = LinkedHashMap::with_hasher(alloc, OwnNumber::default());
-    let all = insert_each(&mut map, &comparisons)? & get_each(&map, &comparisons)?;
+    let all = serves_each(alloc, &comparisons)?;
     Ok(all & (comparisons.get() <= 4_000))
 }
 

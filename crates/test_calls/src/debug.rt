@@ -158,14 +158,19 @@ fn those_over_one_show_two(
     shows(alloc, left.intersection(left), "[1, 2]") & shows(alloc, left.difference(other), "[1, 2]")
 }
 
+/// Whether they do of two sets of one element each.
+fn one_of_each_is_shown(alloc: Global) -> bool {
+    those_over_both_show_two(alloc, &set_of(alloc, &[1]), &set_of(alloc, &[2]))
+}
+
+/// Whether they do of a set of two, of which the other has none.
+fn two_of_one_are_shown(alloc: Global) -> bool {
+    those_over_one_show_two(alloc, &set_of(alloc, &[1, 2]), &set_of(alloc, &[3]))
+}
+
 #[test]
 fn iterators_over_two_sets_show_two_that_are_left(rt: HostRuntime) -> ExitCode {
-    let (one, two) = (set_of(rt.alloc(), &[1]), set_of(rt.alloc(), &[2]));
-    let (both, other) = (set_of(rt.alloc(), &[1, 2]), set_of(rt.alloc(), &[3]));
-    passes(
-        those_over_both_show_two(rt.alloc(), &one, &two)
-            & those_over_one_show_two(rt.alloc(), &both, &other),
-    )
+    passes(one_of_each_is_shown(rt.alloc()) & two_of_one_are_shown(rt.alloc()))
 }
 
 /// Whether an occupied entry shows itself.

@@ -1,5 +1,5 @@
 //! Entries: whether a closure is called, and the raw entry of a vacant one.
-use crate::few::{Map, map_of, passes};
+use crate::few::{Map, map_of, passes_on};
 use hashlink::linked_hash_map::Entry;
 use std::process::ExitCode;
 
@@ -30,7 +30,7 @@ fn what_is_absent_is_made(map: &mut Map) -> bool {
 
 #[test]
 fn an_entry_makes_what_is_absent_alone(rt: HostRuntime) -> ExitCode {
-    passes(what_is_absent_is_made(&mut map_of(rt.alloc(), &[(1, 10)])))
+    passes_on(map_of(rt.alloc(), &[(1, 10)]), what_is_absent_is_made)
 }
 
 /// Inserts a pair by the raw entry of a vacant entry.
@@ -48,7 +48,7 @@ fn is_put_raw(map: &mut Map) -> bool {
 
 #[test]
 fn the_raw_entry_of_a_vacant_entry_takes_a_pair(rt: HostRuntime) -> ExitCode {
-    passes(is_put_raw(&mut map_of(rt.alloc(), &[(1, 10)])))
+    passes_on(map_of(rt.alloc(), &[(1, 10)]), is_put_raw)
 }
 
 /// Counts each word by an entry whose value is 0 at first, and says whether the first was met twice.
@@ -63,5 +63,5 @@ fn counts_from_nothing(map: &mut Map) -> bool {
 
 #[test]
 fn an_entry_makes_a_default_value(rt: HostRuntime) -> ExitCode {
-    passes(counts_from_nothing(&mut map_of(rt.alloc(), &[])))
+    passes_on(map_of(rt.alloc(), &[]), counts_from_nothing)
 }

@@ -12,6 +12,13 @@ pub(crate) fn passes(holds: bool) -> ExitCode {
     }
 }
 
+/// How a test ends that asks this of a value. It takes the value, so that a test has none to drop.
+pub(crate) fn passes_on<T: Drop, F: FnOnce(&mut T) -> bool>(mut value: T, holds: F) -> ExitCode
+    requires { F.IsAlwaysCallable holds }
+{
+    passes(holds(&mut value))
+}
+
 pub(crate) type Map = LinkedHashMap<u32, u32>;
 
 pub(crate) fn map_of(alloc: Global, pairs: &[(u32, u32)]) -> Map {

@@ -1,5 +1,5 @@
 //! One large run of each container, and of a text.
-use crate::few::{Map, map_of, passes, set_of};
+use crate::few::{Map, map_of, passes, passes_on, set_of};
 use hashlink::run::run_text;
 use hashlink::weighted::WeightedCache;
 use hashlink::{LinkedHashSet, LruCache};
@@ -24,7 +24,7 @@ fn takes_each_pair(map: &mut Map) -> bool {
 
 #[test]
 fn a_large_map_takes_each_pair(rt: HostRuntime) -> ExitCode {
-    passes(takes_each_pair(&mut map_of(rt.alloc(), &[])))
+    passes_on(map_of(rt.alloc(), &[]), takes_each_pair)
 }
 
 /// Whether the clone of a map of thousands is equal to it.
@@ -38,7 +38,7 @@ fn is_cloned(map: &mut Map) -> bool {
 
 #[test]
 fn a_map_of_thousands_is_cloned(rt: HostRuntime) -> ExitCode {
-    passes(is_cloned(&mut map_of(rt.alloc(), &[])))
+    passes_on(map_of(rt.alloc(), &[]), is_cloned)
 }
 
 /// Whether a set takes each element.
@@ -51,7 +51,7 @@ fn takes_each_element(set: &mut LinkedHashSet<u32>) -> bool {
 
 #[test]
 fn a_large_set_takes_each_element(rt: HostRuntime) -> ExitCode {
-    passes(takes_each_element(&mut set_of(rt.alloc(), &[])))
+    passes_on(set_of(rt.alloc(), &[]), takes_each_element)
 }
 
 /// Whether a cache keeps as many as it may, and the last key that had to leave is gone.
@@ -64,7 +64,7 @@ fn keeps_the_last_pairs(cache: &mut LruCache<u32, ()>) -> bool {
 
 #[test]
 fn a_large_cache_keeps_the_last_pairs(rt: HostRuntime) -> ExitCode {
-    passes(keeps_the_last_pairs(&mut LruCache::new(rt.alloc(), 1_000_001)))
+    passes_on(LruCache::new(rt.alloc(), 1_000_001), keeps_the_last_pairs)
 }
 
 /// Whether a cache with a budget keeps as many as weigh no more.
@@ -77,7 +77,7 @@ fn keeps_what_fits(cache: &mut WeightedCache<u32, ()>) -> bool {
 
 #[test]
 fn a_large_cache_with_a_budget_keeps_what_fits(rt: HostRuntime) -> ExitCode {
-    passes(keeps_what_fits(&mut WeightedCache::new(rt.alloc(), 2_000_002)))
+    passes_on(WeightedCache::new(rt.alloc(), 2_000_002), keeps_what_fits)
 }
 
 /// A text of more than a megabyte, which inserts one pair again and again.

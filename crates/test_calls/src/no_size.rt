@@ -1,5 +1,5 @@
 //! Keys and values without size. `large.rt` has caches whose values alone have none.
-use crate::few::passes;
+use crate::few::{passes, passes_on};
 use hashlink::weighted::WeightedCache;
 use hashlink::{LinkedHashMap, LinkedHashSet, LruCache};
 use std::process::ExitCode;
@@ -32,7 +32,7 @@ fn comes_and_goes(map: &mut Unit) -> bool {
 
 #[test]
 fn a_map_of_keys_without_size_has_one_entry(rt: HostRuntime) -> ExitCode {
-    passes(comes_and_goes(&mut Unit::new(rt.alloc())))
+    passes_on(Unit::new(rt.alloc()), comes_and_goes)
 }
 
 /// Whether an element is inserted once.
@@ -42,7 +42,7 @@ fn is_element_inserted_once(set: &mut LinkedHashSet<()>) -> bool {
 
 #[test]
 fn a_set_of_elements_without_size_has_one(rt: HostRuntime) -> ExitCode {
-    passes(is_element_inserted_once(&mut LinkedHashSet::new(rt.alloc())))
+    passes_on(LinkedHashSet::new(rt.alloc()), is_element_inserted_once)
 }
 
 /// Whether two inserts into a cache find nothing, and a read and a removal find none of them.
@@ -80,5 +80,5 @@ fn weighs_once(cache: &mut WeightedCache<(), ()>) -> bool {
 
 #[test]
 fn a_cache_with_a_budget_weighs_a_key_without_size_once(rt: HostRuntime) -> ExitCode {
-    passes(weighs_once(&mut WeightedCache::new(rt.alloc(), 3)))
+    passes_on(WeightedCache::new(rt.alloc(), 3), weighs_once)
 }

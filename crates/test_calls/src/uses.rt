@@ -6,14 +6,3 @@ mod maps;
 mod pages;
 mod sets;
 mod whole_uses;
-
-use std::process::ExitCode;
-
-/// How a test ends. It costs its proof less than an assertion, which would be one more way out.
-fn passes(holds: bool) -> ExitCode {
-    if holds {
-        ExitCode::SUCCESS
-    } else {
-        ExitCode::FAILURE
-    }
-}

@@ -1,5 +1,5 @@
 //! Values that are not equal to themselves, and what a hasher is fed.
-use crate::few::{map_of, passes, set_of};
+use crate::few::{map_of, passes, passes_on, set_of};
 use hashlink::LinkedHashMap;
 use std::hash::{FoldHasher, Hash, Hasher};
 use std::process::ExitCode;
@@ -16,7 +16,7 @@ fn takes_no_number(map: &mut LinkedHashMap<u32, f64>) -> bool {
 
 #[test]
 fn a_map_with_a_value_that_equals_nothing_is_not_equal_to_itself(rt: HostRuntime) -> ExitCode {
-    passes(takes_no_number(&mut LinkedHashMap::new(rt.alloc())))
+    passes_on(LinkedHashMap::new(rt.alloc()), takes_no_number)
 }
 
 /// The hash of what a hasher is fed.

@@ -1,5 +1,5 @@
 //! `?` where an allocation fails.
-use crate::few::{Map, map_of, passes};
+use crate::few::{Map, map_of, passes, passes_on};
 use hashlink::TryReserveError;
 use std::alloc::{AllocError, AllocFailed, Global};
 use std::error::Error;
@@ -62,7 +62,7 @@ fn is_put_each_time(map: &mut Map) -> bool {
 
 #[test]
 fn a_refusal_is_passed_on(rt: HostRuntime) -> ExitCode {
-    passes(is_put_each_time(&mut map_of(rt.alloc(), &[])))
+    passes_on(map_of(rt.alloc(), &[]), is_put_each_time)
 }
 
 /// Whether an error has a text.

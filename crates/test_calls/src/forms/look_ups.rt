@@ -1,5 +1,5 @@
 //! What stands for a key in a lookup: a text for a `String`, a slice for a `Vec`, a `&K` for a `K`.
-use crate::few::passes;
+use crate::few::{passes, passes_on};
 use hashlink::weighted::WeightedCache;
 use hashlink::{LinkedHashMap, LinkedHashSet, LruCache};
 use std::alloc::Global;
@@ -80,7 +80,7 @@ fn is_found_borrowed(map: &mut LinkedHashMap<&'static str, u32>) -> bool {
 
 #[test]
 fn a_borrowed_text_finds_its_entry(rt: HostRuntime) -> ExitCode {
-    passes(is_found_borrowed(&mut LinkedHashMap::new(rt.alloc())))
+    passes_on(LinkedHashMap::new(rt.alloc()), is_found_borrowed)
 }
 
 /// Whether the calls of a text find the element of a set.

@@ -166,34 +166,44 @@ fn finds_each_of_500_in_1000_steps(rt: HostRuntime) -> Result<(), Fail> {
 
 /// What is found in a table: what stays, before and after it is shrunk, nothing under a hash that no number
 /// has, once it is cleared not what was there, and then what is inserted.
-fn found(alloc: Global, hashes: Hashes) -> Result<[bool; 5], TryReserveError> {
-    let mut table = table_of(alloc, hashes)?;
-    let stays = finds(&table, hashes);
+fn found(table: &mut Table<Entry>, hashes: Hashes) -> [bool; 5]
+    requires { Tells (λ e. e.hash) table.old }
+{
+    let stays = finds(table, hashes);
     let is_strange = table
         .look_up(u32::MAX, |node| node.hash == u32::MAX)
         .is_some();
-    let still = table.shrink().is_ok() && finds(&table, hashes);
+    let still = table.shrink().is_ok() && finds(table, hashes);
     table.clear();
-    let is_left = has(&table, hashes.of(7), 7);
-    let comes = put_second(&mut table, 5, 6, 7).is_ok() && has(&table, 5, 7);
-    Ok([stays, is_strange, still, is_left, comes])
+    let is_left = has(table, hashes.of(7), 7);
+    let comes = put_second(table, 5, 6, 7).is_ok() && has(table, 5, 7);
+    [stays, is_strange, still, is_left, comes]
+}
+
+/// The same of the numbers below 300.
+fn found_of_300(alloc: Global, hashes: Hashes) -> Result<[bool; 5], TryReserveError> {
+    Ok(found(&mut table_of(alloc, hashes)?, hashes))
 }
 
 /// The numbers and the room of a table, before and after it is shrunk and cleared.
-fn rooms(alloc: Global, hashes: Hashes) -> Result<[(usize, usize); 2], TryReserveError> {
-    let mut table = table_of(alloc, hashes)?;
+fn rooms(table: &mut Table<Entry>) -> Result<[(usize, usize); 2], TryReserveError> {
     let full = (table.len(), table.room());
     table.shrink()?;
     table.clear();
     Ok([full, (table.len(), table.room())])
 }
 
+/// The same of the numbers below 300.
+fn rooms_of_300(alloc: Global, hashes: Hashes) -> Result<[(usize, usize); 2], TryReserveError> {
+    rooms(&mut table_of(alloc, hashes)?)
+}
+
 #[test]
 fn finds_what_stays_whatever_the_hashes_agree_in(rt: HostRuntime) -> ExitCode {
     let mut all = true;
     for hashes in HASHES {
-        all &= found(rt.alloc(), hashes) == Ok([true, false, true, false, true]);
-        all &= rooms(rt.alloc(), hashes) == Ok([(300, 512), (0, 300)]);
+        all &= found_of_300(rt.alloc(), hashes) == Ok([true, false, true, false, true]);
+        all &= rooms_of_300(rt.alloc(), hashes) == Ok([(300, 512), (0, 300)]);
     }
     passes(all)
 }
@@ -222,14 +232,20 @@ fn made_with_room(alloc: Global, room: usize) -> Result<usize, TryReserveError> 
     Ok(Table::with_room(alloc, Entry::new(0, 0), room)?.room())
 }
 
-/// The room of a table that held a number, before and after it is shrunk without one.
-fn rooms_of_none(alloc: Global) -> Result<(usize, usize), TryReserveError> {
-    let mut table = Table::new(alloc, Entry::new(0, 0));
-    put(&mut table, 5, 7)?;
+/// The room of a table that holds a number and is cleared, before and after it is shrunk.
+fn rooms_once_cleared(table: &mut Table<Entry>) -> Result<(usize, usize), TryReserveError>
+    requires { Tells (λ e. e.hash) table.old }
+{
+    put(table, 5, 7)?;
     table.clear();
     let kept = table.room();
     table.shrink()?;
     Ok((kept, table.room()))
+}
+
+/// The same of a table of one number.
+fn rooms_of_none(alloc: Global) -> Result<(usize, usize), TryReserveError> {
+    rooms_once_cleared(&mut Table::new(alloc, Entry::new(0, 0)))
 }
 
 #[test]

@@ -1,5 +1,5 @@
 //! A curve of misses that is worked by hand.
-use crate::uses::passes;
+use crate::few::passes;
 use hashlink_uses::curves::misses_of;
 use std::process::ExitCode;
 

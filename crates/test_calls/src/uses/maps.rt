@@ -1,7 +1,8 @@
 //! Calls of a map.
+use crate::few::{passes, passes_on};
 use crate::raw_insert::put_number;
-use crate::uses::passes;
 use hashlink::LinkedHashMap;
+use hashlink::linked_hash_map::IntoIter;
 use hashlink_uses::forms::has_value;
 use hashlink_uses::maps::cursors::put_after;
 use hashlink_uses::maps::entries::{count_on, put_new};
@@ -43,7 +44,7 @@ fn is_written(map: &mut Map) -> bool {
 
 #[test]
 fn a_value_is_written_in_place(rt: HostRuntime) -> ExitCode {
-    passes(is_written(&mut three(rt.alloc())))
+    passes_on(three(rt.alloc()), is_written)
 }
 
 /// Whether one entry is moved to the front and one to the back, each with its new value.
@@ -58,7 +59,7 @@ fn are_moved(map: &mut Map) -> bool {
 
 #[test]
 fn an_entry_is_moved_and_written(rt: HostRuntime) -> ExitCode {
-    passes(are_moved(&mut three(rt.alloc())))
+    passes_on(three(rt.alloc()), are_moved)
 }
 
 /// Whether a pair is inserted after a key that is present, and none after one that is absent.
@@ -70,7 +71,7 @@ fn is_put_after(map: &mut Map) -> bool {
 
 #[test]
 fn a_pair_is_put_after_a_key(rt: HostRuntime) -> ExitCode {
-    passes(is_put_after(&mut three(rt.alloc())))
+    passes_on(three(rt.alloc()), is_put_after)
 }
 
 /// Whether only a pair whose key is absent is inserted.
@@ -83,7 +84,7 @@ fn is_put_once(map: &mut Map) -> bool {
 
 #[test]
 fn a_pair_is_put_where_its_key_is_new(rt: HostRuntime) -> ExitCode {
-    passes(is_put_once(&mut three(rt.alloc())))
+    passes_on(three(rt.alloc()), is_put_once)
 }
 
 /// Counts a word whose count can still grow.
@@ -103,7 +104,7 @@ fn are_counted(map: &mut Map) -> bool {
 
 #[test]
 fn words_are_counted(rt: HostRuntime) -> ExitCode {
-    passes(are_counted(&mut three(rt.alloc())))
+    passes_on(three(rt.alloc()), are_counted)
 }
 
 /// Whether a raw entry takes a number whose key is absent, and no other.
@@ -115,7 +116,7 @@ fn takes_absent_number(map: &mut Map) -> bool {
 
 #[test]
 fn a_raw_entry_takes_an_absent_number(rt: HostRuntime) -> ExitCode {
-    passes(takes_absent_number(&mut three(rt.alloc())))
+    passes_on(three(rt.alloc()), takes_absent_number)
 }
 
 /// Whether raw entries write in place, and remove what they find by its hash.
@@ -132,24 +133,27 @@ fn serves_raw_entries(map: &mut Map) -> bool {
 
 #[test]
 fn raw_entries_write_and_remove(rt: HostRuntime) -> ExitCode {
-    passes(serves_raw_entries(&mut three(rt.alloc())))
+    passes_on(three(rt.alloc()), serves_raw_entries)
 }
 
 /// Whether what an iterator has left after its first pair is appended in turn. The key 3 is there already.
-fn is_appended(alloc: Global) -> bool {
-    let mut map = LinkedHashMap::new(alloc);
-    let mut rest = three(alloc).into_iter();
+fn takes_rest(map: &mut Map, rest: &mut IntoIter<u64, u64>) -> bool {
     (map.insert(3, 33) == Ok(None))
         & (rest.next() == Some((1, 10)))
-        & append_rest(&mut map, &mut rest).is_ok()
+        & append_rest(map, rest).is_ok()
         & (map.front() == Some((&2, &20)))
         & (map.back() == Some((&3, &30)))
         & (map.len() == 2)
 }
 
+/// Whether it is, of an iterator over the keys 1 to 3.
+fn is_appended(map: &mut Map) -> bool {
+    takes_rest(map, &mut three(map.allocator()).into_iter())
+}
+
 #[test]
 fn the_rest_of_a_map_is_appended(rt: HostRuntime) -> ExitCode {
-    passes(is_appended(rt.alloc()))
+    passes_on(LinkedHashMap::new(rt.alloc()), is_appended)
 }
 
 /// Whether a copy is equal to its map, and has the values 20 and not 21.

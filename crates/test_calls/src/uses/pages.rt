@@ -1,7 +1,7 @@
 //! A cache of pages before a disk.
 ghost use Rattle.std.specs.Prelude.{◌≡◌, slice_index};
 
-use crate::uses::passes;
+use crate::few::passes;
 use hashlink_uses::pages::{PageCache, PageError, Store};
 use std::alloc::{AllocError, Global};
 use std::process::ExitCode;
@@ -15,7 +15,7 @@ struct Disk {
 }
 
 /// Why a disk fails: there is no such page, or it cannot be written.
-#[derive(Debug, PartialEq, Eq, Drop)]
+#[derive(PartialEq, Drop)]
 enum DiskError {
     NoPage,
     Locked,
@@ -70,9 +70,8 @@ fn is_read_as_written(mut cache: PageCache<u32, Disk>) -> bool {
     is_written
         & (read == [Ok(30), Ok(21), Ok(22), Ok(13)])
         & (cache.read(4) == Err(DiskError::NoPage))
-        & cache
-            .close()
-            .is_ok_and(|disk| (disk.saves == 3) & (disk.pages.as_slice() == [30, 21, 22, 13].as_slice()))
+        & cache.close().is_ok_and(|disk| (disk.saves == 3)
+            & (disk.pages.as_slice() == [30, 21, 22, 13].as_slice()))
 }
 
 #[test]

@@ -1,5 +1,5 @@
 //! Calls of a set.
-use crate::uses::passes;
+use crate::few::{passes, passes_on};
 use hashlink::LinkedHashSet;
 use hashlink_uses::everyday::strike;
 use hashlink_uses::sets::{append, copy_of, empty_out, promote};
@@ -23,7 +23,7 @@ fn is_promoted(set: &mut Set) -> bool {
 
 #[test]
 fn a_word_is_promoted(rt: HostRuntime) -> ExitCode {
-    passes(is_promoted(&mut set_of(rt.alloc(), [1, 2, 3])))
+    passes_on(set_of(rt.alloc(), [1, 2, 3]), is_promoted)
 }
 
 /// Whether a word is removed once.
@@ -33,7 +33,7 @@ fn is_struck_once(set: &mut Set) -> bool {
 
 #[test]
 fn a_word_is_struck(rt: HostRuntime) -> ExitCode {
-    passes(is_struck_once(&mut set_of(rt.alloc(), [1, 2, 3])))
+    passes_on(set_of(rt.alloc(), [1, 2, 3]), is_struck_once)
 }
 
 /// Whether 4 and 1 are appended to 1, 2 and 3, of which 1 then stands last.
@@ -64,5 +64,5 @@ fn is_copied(set: &mut Set) -> bool {
 
 #[test]
 fn a_copy_outlives_its_set(rt: HostRuntime) -> ExitCode {
-    passes(is_copied(&mut set_of(rt.alloc(), [1, 2, 3])))
+    passes_on(set_of(rt.alloc(), [1, 2, 3]), is_copied)
 }

@@ -1,5 +1,5 @@
 //! Names, settings, lines, tasks, commands and retains.
-use crate::uses::passes;
+use crate::few::{passes, passes_on};
 use hashlink::linked_hash_map::TryInsertError;
 use hashlink::run::Reply;
 use hashlink::{LinkedHashMap, LinkedHashSet, LruCache};
@@ -16,6 +16,18 @@ use std::process::ExitCode;
 
 type Names = LruCache<String, Answer, RandomState>;
 
+/// Learns a name.
+fn name_learnt(
+    alloc: Global,
+    names: &mut Names,
+    name: &str,
+    answer: Answer,
+) -> Result<(), AllocError> {
+    let name = String::from_str(alloc, name)?;
+    learn(names, name, answer).map_err(|_| AllocError)?;
+    Ok(())
+}
+
 /// Learns three names, each with an address that holds until a time.
 fn names_learnt(alloc: Global, names: &mut Names) -> Result<(), AllocError> {
     for (name, address, expires) in [
@@ -23,8 +35,7 @@ fn names_learnt(alloc: Global, names: &mut Names) -> Result<(), AllocError> {
         ("mail.example", 0x0a00_0002, 120),
         ("www.example", 0x0a00_0003, 180),
     ] {
-        let answer = Answer { address, expires };
-        learn(names, String::from_str(alloc, name)?, answer).map_err(|_| AllocError)?;
+        name_learnt(alloc, names, name, Answer { address, expires })?;
     }
     Ok(())
 }
@@ -55,22 +66,29 @@ fn names_are_found_until_they_expire(rt: HostRuntime) -> ExitCode {
     passes(learnt & (at_100 == ([None, Some(0x0a00_0003), Some(0x0a00_0002)], 2, true)))
 }
 
+type Settings = LinkedHashMap<&'static str, &'static str>;
+
+/// Lays the settings of a user over others.
+fn lay_over(alloc: Global, settings: &mut Settings) -> Result<(), AllocError> {
+    let others: Settings = LinkedHashMap::from_iter(
+        alloc,
+        [("tabs", "4"), ("editor", "ed"), ("wrap", "yes")],
+    )?;
+    merge(settings, others).map_err(|_| AllocError)
+}
+
 /// The settings of a user laid over those that a program begins with.
-fn settings_merged(alloc: Global) -> Result<LinkedHashMap<&'static str, &'static str>, AllocError> {
+fn settings_merged(alloc: Global) -> Result<Settings, AllocError> {
     let mut settings = LinkedHashMap::from_iter(
         alloc,
         [("colour", "auto"), ("editor", "vi"), ("pager", "less")],
     )?;
-    let others: LinkedHashMap<&str, &str> = LinkedHashMap::from_iter(
-        alloc,
-        [("tabs", "4"), ("editor", "ed"), ("wrap", "yes")],
-    )?;
-    merge(&mut settings, others).map_err(|_| AllocError)?;
+    lay_over(alloc, &mut settings)?;
     Ok(settings)
 }
 
 /// Whether these are the settings, in this order.
-fn are_merged(settings: &LinkedHashMap<&'static str, &'static str>) -> bool {
+fn are_merged(settings: &Settings) -> bool {
     let wanted = [
         ("colour", "auto"),
         ("editor", "ed"),
@@ -98,13 +116,25 @@ fn a_setting_keeps_its_place_and_takes_the_other_value(rt: HostRuntime) -> ExitC
 /// What a shell was asked, line by line.
 const HISTORY: &str = "ls\ncd src\nls\nmake\nmake\ncd ..\n\nls\ncd src\n\nexit";
 
-/// Its lines where they appear first.
-fn lines_of_history(alloc: Global) -> Result<String, AllocError> {
-    let mut text = String::new(alloc);
-    for line in distinct_lines(alloc, HISTORY)? {
-        text.push_str(line)?;
-        text.push('\n')?;
+/// Adds a line to a text.
+fn add_line(text: &mut String, line: &str) -> Result<(), AllocError> {
+    text.push_str(line)?;
+    text.push('\n')
+}
+
+/// Adds each of the lines.
+fn add_lines(text: &mut String, lines: LinkedHashSet<&str>) -> Result<(), AllocError> {
+    for line in lines {
+        add_line(text, line)?;
     }
+    Ok(())
+}
+
+/// The lines of the history where they appear first.
+fn lines_of_history(alloc: Global) -> Result<String, AllocError> {
+    let lines = distinct_lines(alloc, HISTORY)?;
+    let mut text = String::new(alloc);
+    add_lines(&mut text, lines)?;
     Ok(text)
 }
 
@@ -131,7 +161,7 @@ fn have_their_turns(tasks: &mut RoundRobin<u32>) -> bool {
 
 #[test]
 fn each_task_has_its_turn(rt: HostRuntime) -> ExitCode {
-    passes(have_their_turns(&mut RoundRobin::new(rt.alloc())))
+    passes_on(RoundRobin::new(rt.alloc()), have_their_turns)
 }
 
 /// Whether a removal of the one key and an insert of another have the right replies.
@@ -152,28 +182,31 @@ fn an_insert_after_a_removal_is_answered(rt: HostRuntime) -> ExitCode {
 
 /// What a cache of two places has for a key that is inserted, for one that is present, and once a third key
 /// has evicted the least recently used one.
-fn values_used(alloc: Global) -> [Result<u32, (u32, u32)>; 5] {
-    let mut cache = LruCache::new(alloc, 2);
+fn values_used(cache: &mut LruCache<u32, u32>) -> [Result<u32, (u32, u32)>; 5] {
     [
-        value_or(&mut cache, 1u32, 10u32),
-        value_or(&mut cache, 2, 20),
-        value_or(&mut cache, 1, 11),
-        value_or(&mut cache, 3, 30),
-        value_or(&mut cache, 2, 21),
+        value_or(cache, 1, 10),
+        value_or(cache, 2, 20),
+        value_or(cache, 1, 11),
+        value_or(cache, 3, 30),
+        value_or(cache, 2, 21),
     ]
+}
+
+/// Whether these are the values.
+fn are_values_used(cache: &mut LruCache<u32, u32>) -> bool {
+    values_used(cache) == [Ok(10), Ok(20), Ok(10), Ok(30), Ok(21)]
 }
 
 #[test]
 fn a_value_is_put_in_where_the_key_is_absent(rt: HostRuntime) -> ExitCode {
-    passes(values_used(rt.alloc()) == [Ok(10), Ok(20), Ok(10), Ok(30), Ok(21)])
+    passes_on(LruCache::new(rt.alloc(), 2), are_values_used)
 }
 
 /// Whether a value that cannot be made is none, one that is made is kept, and none is made for it again.
-fn is_made_once(alloc: Global) -> bool {
-    let mut cache = LruCache::new(alloc, 1);
-    let failed = value_or_made(&mut cache, 1u32, || Err::<u32, u8>(7));
-    let made = value_or_made(&mut cache, 1, || Ok::<u32, u8>(10));
-    let kept = value_or_made(&mut cache, 1, || Err::<u32, u8>(8));
+fn is_made_once(cache: &mut LruCache<u32, u32>) -> bool {
+    let failed = value_or_made(cache, 1, || Err::<u32, u8>(7));
+    let made = value_or_made(cache, 1, || Ok::<u32, u8>(10));
+    let kept = value_or_made(cache, 1, || Err::<u32, u8>(8));
     matches!(failed, Err(TryInsertError::Make(1, 7)))
         && matches!(made, Ok(10))
         && matches!(kept, Ok(10))
@@ -181,33 +214,31 @@ fn is_made_once(alloc: Global) -> bool {
 
 #[test]
 fn a_value_is_made_once(rt: HostRuntime) -> ExitCode {
-    passes(is_made_once(rt.alloc()))
+    passes_on(LruCache::new(rt.alloc(), 1), is_made_once)
 }
 
-/// How many of three zeros among four values are taken where two may be, and how many entries are left.
-fn zeros_taken(alloc: Global) -> Option<(usize, usize)> {
-    let mut map = LinkedHashMap::new(alloc);
-    for (key, value) in [(1u8, 0u64), (2, 5), (3, 0), (4, 0)] {
-        map.insert(key, value).ok()?;
+/// Whether two of three zeros among four values are taken where two may be, and two entries are left.
+fn are_zeros_taken(map: &mut LinkedHashMap<u8, u64>) -> bool {
+    for (key, value) in [(1, 0), (2, 5), (3, 0), (4, 0)] {
+        let _old = map.insert(key, value);
     }
-    Some((take_zeros(&mut map, 2), map.len()))
+    (map.len() == 4) & (take_zeros(map, 2) == 2) & (map.len() == 2)
 }
 
 #[test]
-fn a_retain_counts_what_it_takes_of_a_map(rt: HostRuntime) {
-    assert_eq!(rt; zeros_taken(rt.alloc()), Some((2, 2)));
+fn a_retain_counts_what_it_takes_of_a_map(rt: HostRuntime) -> ExitCode {
+    passes_on(LinkedHashMap::new(rt.alloc()), are_zeros_taken)
 }
 
-/// How many of the even elements of 1 to 4 are taken where three may be, and how many elements are left.
-fn even_taken(alloc: Global) -> Option<(usize, usize)> {
-    let mut set = LinkedHashSet::new(alloc);
+/// Whether both of the even elements of 1 to 4 are taken where three may be, and two elements are left.
+fn are_even_taken(set: &mut LinkedHashSet<u64>) -> bool {
     for element in 1..5u64 {
-        set.insert(element).ok()?;
+        let _is_new = set.insert(element);
     }
-    Some((take_even(&mut set, 3), set.len()))
+    (set.len() == 4) & (take_even(set, 3) == 2) & (set.len() == 2)
 }
 
 #[test]
-fn a_retain_counts_what_it_takes_of_a_set(rt: HostRuntime) {
-    assert_eq!(rt; even_taken(rt.alloc()), Some((2, 2)));
+fn a_retain_counts_what_it_takes_of_a_set(rt: HostRuntime) -> ExitCode {
+    passes_on(LinkedHashSet::new(rt.alloc()), are_even_taken)
 }
