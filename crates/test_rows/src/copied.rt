@@ -1,7 +1,7 @@
 //! Maps and sets of what can be copied, which take items by reference.
 use crate::calls::{Went, extended_by_trait, say_went};
-use crate::items::{Answer, Home, Line, Name, Pair, Read, Stop, Word, push_rest};
-use crate::spoken::{Spoken, say_room, say_word};
+use crate::items::{Answer, Home, Line, Name, Pair, Read, Stop, Word, Words, push_rest};
+use crate::spoken::{Spoken, say_elements, say_pairs, say_room};
 use hashlink::linked_hash_map::ExtendError;
 use hashlink::{LinkedHashMap, LinkedHashSet};
 use std::hash::BuildHasher;
@@ -12,8 +12,12 @@ impl<S: BuildHasher + Copy + Default + Drop> Spoken for LinkedHashMap<Name, Name
         LinkedHashMap::with_hasher(home.alloc, S::default())
     }
 
-    fn call(&mut self, line: &mut Line<'_>) -> Result<(), Stop> {
-        let is_by_trait = line.named(&CALLS)?;
+    fn call(
+        &mut self,
+        _other: &LinkedHashMap<Name, Name, S>,
+        line: &mut Line<'_>,
+    ) -> Result<(), Stop> {
+        let is_by_trait = is_by_trait(&mut line.words)?;
         let pairs: Vec<Pair> = copied(line)?;
         let lent: Vec<(&Name, &Name)> = pairs.iter().map(lend_pair).collect(line.home.alloc)?;
         say_went(extend_map(self, is_by_trait, lent.into_iter()), line)
@@ -25,9 +29,7 @@ impl<S: BuildHasher + Copy + Default + Drop> Spoken for LinkedHashMap<Name, Name
 
     fn stand(&self, rt: &HostRuntime) {
         say_room(rt, self.len(), self.capacity());
-        for (key, value) in self.iter() {
-            say_word(rt, Word::pair((*key, *value)));
-        }
+        say_pairs(rt, self.iter());
     }
 }
 
@@ -36,8 +38,8 @@ impl<S: BuildHasher + Copy + Default + Drop> Spoken for LinkedHashSet<Name, S> {
         LinkedHashSet::with_hasher(home.alloc, S::default())
     }
 
-    fn call(&mut self, line: &mut Line<'_>) -> Result<(), Stop> {
-        let is_by_trait = line.named(&CALLS)?;
+    fn call(&mut self, _other: &LinkedHashSet<Name, S>, line: &mut Line<'_>) -> Result<(), Stop> {
+        let is_by_trait = is_by_trait(&mut line.words)?;
         let elements: Vec<Name> = copied(line)?;
         let lent: Vec<&Name> = elements.iter().collect(line.home.alloc)?;
         say_went(extend_set(self, is_by_trait, lent.into_iter()), line)
@@ -49,9 +51,7 @@ impl<S: BuildHasher + Copy + Default + Drop> Spoken for LinkedHashSet<Name, S> {
 
     fn stand(&self, rt: &HostRuntime) {
         say_room(rt, self.len(), self.capacity());
-        for element in self.iter() {
-            say_word(rt, Word::item(*element));
-        }
+        say_elements(rt, self.iter());
     }
 }
 
@@ -91,6 +91,11 @@ fn extend_set<S: BuildHasher>(
 
 /// The calls by their names, and whether they go by std's `Extend`.
 const CALLS: [(&str, bool); 2] = [("extend_ref", false), ("extend_by_trait", true)];
+
+/// Whether the call goes by std's `Extend`.
+fn is_by_trait(words: &mut Words<'_>) -> Result<bool, Stop> {
+    words.named(&CALLS)
+}
 
 /// What is named after the call.
 fn copied<T: Read + Drop>(line: &mut Line<'_>) -> Result<Vec<T>, Stop> {

@@ -1,7 +1,7 @@
 //! Lists of commands, in two runs, and lists of uses.
 use crate::items::{Answer, Answers, Name, Stop, Word, Words, are_written, number, push};
 use crate::row::cut;
-use crate::spoken::{Voice, say_room, say_word, say_words};
+use crate::spoken::{Voice, say_pairs, say_room, say_word, say_words};
 use crate::texts::refuse;
 use hashlink::run::{
     CacheCommand, Command, EntryStep, Pair, PairCommand, Reply, Uses, run, run_cache, run_pair,
@@ -48,9 +48,7 @@ impl<S: BuildHasher + Default> Listed for LinkedHashMap<u64, u64, S> {
 
     fn stand(&self, rt: &HostRuntime) {
         say_room(rt, self.len(), self.capacity());
-        for pair in self.iter() {
-            say_word(rt, word_of(pair));
-        }
+        say_pairs(rt, self.iter());
     }
 }
 
@@ -66,23 +64,13 @@ impl<S: BuildHasher + Default> Listed for LruCache<u64, u64, S> {
         seen: Seen,
         answers: &mut Answers,
     ) -> Result<bool, Stop> {
-        let mut commands = Vec::with_capacity(alloc, lines.len())?;
-        for line in lines {
-            let command = cache_command_of(alloc, cut(line).0)?;
-            push(&mut commands, command)?;
-        }
-        let replies = match seen {
-            Seen::Even => run_cache(self, commands, &is_even),
-            Seen::Always => run_cache(self, commands, &is_any),
-        };
-        say_all(replies, answers)
+        let commands = cache_commands_of(alloc, lines)?;
+        say_all(replies_of_cache(self, commands, seen), answers)
     }
 
     fn stand(&self, rt: &HostRuntime) {
         say_room(rt, self.len(), self.capacity());
-        for pair in self.iter() {
-            say_word(rt, word_of(pair));
-        }
+        say_pairs(rt, self.iter());
     }
 }
 
@@ -119,13 +107,50 @@ fn replies_of<S: BuildHasher>(
     }
 }
 
+/// Runs the commands on a cache.
+fn replies_of_cache<S: BuildHasher>(
+    cache: &mut LruCache<u64, u64, S>,
+    commands: Vec<CacheCommand<u64, u64>>,
+    seen: Seen,
+) -> Result<Vec<Reply<u64, u64>>, AllocError> {
+    match seen {
+        Seen::Even => run_cache(cache, commands, &is_even),
+        Seen::Always => run_cache(cache, commands, &is_any),
+    }
+}
+
 /// The commands to a map that the lines say.
 fn commands_of(alloc: Global, lines: &[&str]) -> Result<Vec<Command<u64, u64>>, Stop> {
     let mut commands = Vec::with_capacity(alloc, lines.len())?;
     for line in lines {
-        push(&mut commands, command_of(alloc, cut(line).0)?)?;
+        push_command(&mut commands, alloc, line)?;
     }
     Ok(commands)
+}
+
+fn push_command(
+    commands: &mut Vec<Command<u64, u64>>,
+    alloc: Global,
+    line: &str,
+) -> Result<(), Stop> {
+    push(commands, command_of(alloc, cut(line).0)?)
+}
+
+/// The commands to a cache that the lines say.
+fn cache_commands_of(alloc: Global, lines: &[&str]) -> Result<Vec<CacheCommand<u64, u64>>, Stop> {
+    let mut commands = Vec::with_capacity(alloc, lines.len())?;
+    for line in lines {
+        push_cache_command(&mut commands, alloc, line)?;
+    }
+    Ok(commands)
+}
+
+fn push_cache_command(
+    commands: &mut Vec<CacheCommand<u64, u64>>,
+    alloc: Global,
+    line: &str,
+) -> Result<(), Stop> {
+    push(commands, cache_command_of(alloc, cut(line).0)?)
 }
 
 /// The command to a map that a line says.
@@ -233,17 +258,27 @@ fn is_run_right<C: Listed>(
     voice: Voice<'_>,
 ) -> Result<bool, Stop> {
     answers.words.clear();
-    if container.run(alloc, lines, seen, answers)? {
+    let is_run = container.run(alloc, lines, seen, answers)?;
+    say_run(is_run, answers, voice);
+    say_stand(container, voice);
+    Ok(answers.tally.refused > 0 || are_replies_written(lines, answers.words.as_slice()))
+}
+
+/// Says the replies of a run, or that there was no memory for it.
+fn say_run(is_run: bool, answers: &mut Answers, voice: Voice<'_>) {
+    if is_run {
         let _ = answers.count_refused();
         say_words(voice, answers.words.as_slice());
     } else {
         refuse(answers, voice);
     }
+}
+
+fn say_stand<C: Listed>(container: &C, voice: Voice<'_>) {
     if let Some(rt) = voice {
         container.stand(rt);
         let _ = println!(rt; "");
     }
-    Ok(answers.tally.refused > 0 || are_replies_written(lines, answers.words.as_slice()))
 }
 
 /// Whether the replies to the lines are those that are written.
@@ -352,9 +387,7 @@ fn say_found(cache: &LruCache<Name, u64>, found: &[Option<u64>], voice: Voice<'_
         }
         let _ = println!(rt; "");
         say_room(rt, cache.len(), cache.capacity());
-        for (key, value) in cache.iter() {
-            say_word(rt, Word::pair((*key, Name::of(*value))));
-        }
+        say_pairs(rt, cache.iter());
         let _ = println!(rt; "");
     }
 }

@@ -52,6 +52,13 @@ const HASHERS: [(&str, Hashing); 3] = [
     ("odd_or_even", Hashing::OddOrEven),
 ];
 
+impl Hashing {
+    /// The hasher that the next word names, if it is one of these.
+    fn known(words: &mut Words<'_>) -> Option<Hashing> {
+        words.known(&HASHERS)
+    }
+}
+
 /// What is run under the default hasher alone.
 #[derive(Clone, Copy)]
 enum Alone {
@@ -65,6 +72,13 @@ const ALONE: [(&str, Alone); 3] = [
     ("uses", Alone::Uses),
     ("text", Alone::Text),
 ];
+
+impl Alone {
+    /// What the next word names, if it is one of these.
+    fn known(words: &mut Words<'_>) -> Option<Alone> {
+        words.known(&ALONE)
+    }
+}
 
 /// What the lines of a row call.
 #[derive(Clone, Copy)]
@@ -90,12 +104,19 @@ const CALLED: [(&str, Called); 8] = [
     ("copied_set", Called::CopiedSet),
 ];
 
+impl Called {
+    /// What the next word names.
+    fn read(words: &mut Words<'_>) -> Result<Called, Stop> {
+        words.named(&CALLED)
+    }
+}
+
 fn run<'f>(row: Row<'f>, line: &mut Line<'f>, voice: Voice<'_>) -> Result<Option<Wrong<'f>>, Stop> {
     line.words = Words::new(row.mode);
-    if let Some(hashing) = line.words.known(&HASHERS) {
+    if let Some(hashing) = Hashing::known(&mut line.words) {
         return under_one(row, hashing, line, voice);
     }
-    match line.words.known(&ALONE) {
+    match Alone::known(&mut line.words) {
         Some(kind) => whole(is_right_alone(row, kind, line, voice)),
         None => each(row, line, voice),
     }
@@ -157,7 +178,7 @@ fn under<'f, S: BuildHasher + Copy + Default + Drop>(
     voice: Voice<'_>,
 ) -> Result<Option<Wrong<'f>>, Stop> {
     head(row, hasher, voice);
-    match line.named(&CALLED)? {
+    match Called::read(&mut line.words)? {
         Called::Map => speak::<Map<S>>(row, line, voice),
         Called::Set => speak::<Set<S>>(row, line, voice),
         Called::Cache => speak::<Cache<S>>(row, line, voice),
@@ -246,14 +267,27 @@ impl<C: Spoken> Speech<C> {
                 called => called?,
             }
             self.say(&line.answers, voice);
-            if !self.is_written(wanted, &mut line.answers) {
-                return Ok(Some(Wrong::Line(number, text)));
-            }
-            if line.home.living() != self.count_items() {
-                return Ok(Some(Wrong::Living(number, text)));
+            if let Some(wrong) = self.judge((number, text), wanted, line) {
+                return Ok(Some(wrong));
             }
         }
         Ok(None)
+    }
+
+    /// What is wrong with what came and what lives then.
+    fn judge<'f>(
+        &mut self,
+        (number, text): (usize, &'f str),
+        wanted: Option<&str>,
+        line: &mut Line<'_>,
+    ) -> Option<Wrong<'f>> {
+        if !self.is_written(wanted, &mut line.answers) {
+            return Some(Wrong::Line(number, text));
+        }
+        if line.home.living() != self.count_items() {
+            return Some(Wrong::Living(number, text));
+        }
+        None
     }
 
     fn count_items(&self) -> usize {
@@ -272,18 +306,15 @@ impl<C: Spoken> Speech<C> {
         }
     }
 
-    /// Makes a call of the first container, after `other` of the second, and after `both` of the two.
+    /// Makes a call of the first container, and after `other` of the second.
     fn call_one(&mut self, line: &mut Line<'_>) -> Result<(), Stop> {
         if line.words.has("other") {
-            return self.second.call(line);
-        }
-        if line.words.has("both") {
-            return self.first.both(&self.second, line);
+            return self.second.call(&self.first, line);
         }
         if line.words.has("cost") {
             return say_cost(line);
         }
-        self.first.call(line)
+        self.first.call(&self.second, line)
     }
 
     /// Says what came, and what then stands in each container.

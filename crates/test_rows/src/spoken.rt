@@ -3,9 +3,9 @@ use crate::calls::{
     Cache, Map, Set, Weighted, call_cache, call_map, call_set, call_sets, call_weighted, compare,
     weighed,
 };
-use crate::items::{Home, Line, Stop, Word, shown};
+use crate::items::{Home, Line, Named, Stop, Word};
 use hashlink::weighted::WeightedCache;
-use hashlink::{LinkedHashMap, LinkedHashSet, LruCache};
+use hashlink::{LinkedHashMap, LinkedHashSet, LruCache, linked_hash_map, linked_hash_set};
 use std::hash::BuildHasher;
 
 /// Where it is said what comes and what stands: nowhere, unless the program is asked to.
@@ -30,18 +30,25 @@ pub fn say_room(rt: &HostRuntime, len: usize, capacity: usize) {
     let _ = print!(rt; "+ {len} {capacity}");
 }
 
+pub fn say_pairs<K: Named, V: Named>(rt: &HostRuntime, pairs: linked_hash_map::Iter<'_, K, V>) {
+    for (key, value) in pairs {
+        say_word(rt, Word::pair((key.name(), value.name())));
+    }
+}
+
+pub fn say_elements<T: Named>(rt: &HostRuntime, elements: linked_hash_set::Iter<'_, T>) {
+    for element in elements {
+        say_word(rt, Word::item(element.name()));
+    }
+}
+
 /// A container that is called by the lines of a row.
 pub trait Spoken: Sized {
     /// An empty one, of this capacity or budget if it has one.
     fn make(home: Home<'_>, capacity: usize) -> Self;
 
-    /// Makes the call that the words say.
-    fn call(&mut self, line: &mut Line<'_>) -> Result<(), Stop>;
-
-    /// Makes the call of two containers that the words say, if there are such calls.
-    fn both(&mut self, _other: &Self, _line: &mut Line<'_>) -> Result<(), Stop> {
-        Err(Stop::Unread)
-    }
+    /// Makes the call that the words say, after `both` one of the two, if there are such calls.
+    fn call(&mut self, other: &Self, line: &mut Line<'_>) -> Result<(), Stop>;
 
     /// How many items it holds.
     fn count_items(&self) -> usize;
@@ -55,12 +62,11 @@ impl<S: BuildHasher + Copy + Default + Drop> Spoken for Map<S> {
         LinkedHashMap::with_hasher(home.alloc, S::default())
     }
 
-    fn call(&mut self, line: &mut Line<'_>) -> Result<(), Stop> {
+    fn call(&mut self, other: &Map<S>, line: &mut Line<'_>) -> Result<(), Stop> {
+        if line.words.has("both") {
+            return compare(self, other, line);
+        }
         call_map(self, line)
-    }
-
-    fn both(&mut self, other: &Map<S>, line: &mut Line<'_>) -> Result<(), Stop> {
-        compare(self, other, line)
     }
 
     fn count_items(&self) -> usize {
@@ -69,9 +75,7 @@ impl<S: BuildHasher + Copy + Default + Drop> Spoken for Map<S> {
 
     fn stand(&self, rt: &HostRuntime) {
         say_room(rt, self.len(), self.capacity());
-        for pair in self.iter() {
-            say_word(rt, shown(pair));
-        }
+        say_pairs(rt, self.iter());
     }
 }
 
@@ -80,12 +84,11 @@ impl<S: BuildHasher + Copy + Default + Drop> Spoken for Set<S> {
         LinkedHashSet::with_hasher(home.alloc, S::default())
     }
 
-    fn call(&mut self, line: &mut Line<'_>) -> Result<(), Stop> {
+    fn call(&mut self, other: &Set<S>, line: &mut Line<'_>) -> Result<(), Stop> {
+        if line.words.has("both") {
+            return call_sets(self, other, line);
+        }
         call_set(self, line)
-    }
-
-    fn both(&mut self, other: &Set<S>, line: &mut Line<'_>) -> Result<(), Stop> {
-        call_sets(self, other, line)
     }
 
     fn count_items(&self) -> usize {
@@ -94,9 +97,7 @@ impl<S: BuildHasher + Copy + Default + Drop> Spoken for Set<S> {
 
     fn stand(&self, rt: &HostRuntime) {
         say_room(rt, self.len(), self.capacity());
-        for element in self.iter() {
-            say_word(rt, Word::item(element.name()));
-        }
+        say_elements(rt, self.iter());
     }
 }
 
@@ -105,7 +106,7 @@ impl<S: BuildHasher + Copy + Default + Drop> Spoken for Cache<S> {
         LruCache::with_hasher(home.alloc, capacity, S::default())
     }
 
-    fn call(&mut self, line: &mut Line<'_>) -> Result<(), Stop> {
+    fn call(&mut self, _other: &Cache<S>, line: &mut Line<'_>) -> Result<(), Stop> {
         call_cache(self, line)
     }
 
@@ -115,9 +116,7 @@ impl<S: BuildHasher + Copy + Default + Drop> Spoken for Cache<S> {
 
     fn stand(&self, rt: &HostRuntime) {
         say_room(rt, self.len(), self.capacity());
-        for pair in self.iter() {
-            say_word(rt, shown(pair));
-        }
+        say_pairs(rt, self.iter());
     }
 }
 
@@ -126,7 +125,7 @@ impl<S: BuildHasher + Default> Spoken for Weighted<S> {
         WeightedCache::with_hasher(home.alloc, capacity as u64, S::default())
     }
 
-    fn call(&mut self, line: &mut Line<'_>) -> Result<(), Stop> {
+    fn call(&mut self, _other: &Weighted<S>, line: &mut Line<'_>) -> Result<(), Stop> {
         call_weighted(self, line)
     }
 

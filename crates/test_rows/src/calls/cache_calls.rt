@@ -2,8 +2,8 @@
 use crate::calls::cache_many::call_many;
 use crate::calls::entries::not_made;
 use crate::items::{
-    Answer, Item, Line, Stop, Word, given, given_item, lent, lent_item, made, no_memory, put,
-    write, write_item,
+    Answer, Item, Line, Stop, Word, Words, given, given_item, lent, lent_item, made, no_memory,
+    put, write, write_item,
 };
 use hashlink_lru::LruCache;
 use std::hash::BuildHasher;
@@ -17,10 +17,8 @@ enum CacheCall {
     Read(ReadCall),
     /// Nothing.
     End(EndCall),
-    /// A key.
+    /// A key, and after a call that lends the value for writing what is then written to it.
     Key(KeyCall),
-    /// A key, and what is then written to the value.
-    Lend(LendCall),
     /// A pair.
     Pair(PairCall),
     /// A key, what is made where it is absent, and what is then written to the value.
@@ -47,8 +45,8 @@ const CALLS: [(&str, CacheCall); 22] = [
     ("evicted_by", CacheCall::Key(KeyCall::EvictedBy)),
     ("remove", CacheCall::Key(KeyCall::Remove)),
     ("remove_entry", CacheCall::Key(KeyCall::RemoveEntry)),
-    ("get_mut", CacheCall::Lend(LendCall::GetMut)),
-    ("peek_mut", CacheCall::Lend(LendCall::PeekMut)),
+    ("get_mut", CacheCall::Key(KeyCall::GetMut)),
+    ("peek_mut", CacheCall::Key(KeyCall::PeekMut)),
     ("insert", CacheCall::Pair(PairCall::Insert)),
     ("push", CacheCall::Pair(PairCall::Push)),
     ("get_or_insert_with", CacheCall::GetOrInsertWith),
@@ -56,19 +54,25 @@ const CALLS: [(&str, CacheCall); 22] = [
     ("set_capacity", CacheCall::SetCapacity),
 ];
 
+impl CacheCall {
+    /// The call that the next word names, if it is one of these.
+    fn known(words: &mut Words<'_>) -> Option<CacheCall> {
+        words.known(&CALLS)
+    }
+}
+
 /// Makes the call that a line says.
 pub fn call_cache<S: BuildHasher + Copy + Default + Drop>(
     cache: &mut Cache<S>,
     line: &mut Line<'_>,
 ) -> Result<(), Stop> {
-    let Some(call) = line.words.known(&CALLS) else {
+    let Some(call) = CacheCall::known(&mut line.words) else {
         return call_many(cache, line);
     };
     match call {
         CacheCall::Read(call) => line.say(read(cache, call)),
         CacheCall::End(call) => line.say(call_at_end(cache, call)),
         CacheCall::Key(call) => look_up(cache, call, line),
-        CacheCall::Lend(call) => lend(cache, call, line),
         CacheCall::Pair(call) => put_pair(cache, call, line),
         CacheCall::GetOrInsertWith => get_or_insert(cache, line),
         CacheCall::GetOrTryInsertWith => get_or_try_insert(cache, line),
@@ -108,15 +112,20 @@ enum EndCall {
 
 fn call_at_end<S: BuildHasher + Copy + Drop>(cache: &mut Cache<S>, call: EndCall) -> Word {
     match call {
-        EndCall::MakeRoom => cache.make_room(),
-        EndCall::Clear => cache.clear(),
-        EndCall::RemoveLru => return given(cache.remove_lru()),
+        EndCall::MakeRoom => {
+            cache.make_room();
+            Word::Done
+        }
+        EndCall::RemoveLru => given(cache.remove_lru()),
+        EndCall::Clear => {
+            cache.clear();
+            Word::Done
+        }
         EndCall::Clone => {
             let clone = cache.clone();
-            return made(cache, clone);
+            made(cache, clone)
         }
     }
-    Word::Done
 }
 
 #[derive(Clone, Copy)]
@@ -127,6 +136,8 @@ enum KeyCall {
     EvictedBy,
     Remove,
     RemoveEntry,
+    GetMut,
+    PeekMut,
 }
 
 fn look_up<S: BuildHasher>(
@@ -134,32 +145,16 @@ fn look_up<S: BuildHasher>(
     call: KeyCall,
     line: &mut Line<'_>,
 ) -> Result<(), Stop> {
-    let key = &line.item()?;
-    line.say(match call {
-        KeyCall::Get => lent_item(cache.get(key)),
-        KeyCall::Peek => lent_item(cache.peek(key)),
-        KeyCall::ContainsKey => Word::Is(cache.contains_key(key)),
-        KeyCall::EvictedBy => lent(cache.evicted_by(key)),
-        KeyCall::Remove => given_item(cache.remove(key)),
-        KeyCall::RemoveEntry => given(cache.remove_entry(key)),
-    })
-}
-
-#[derive(Clone, Copy)]
-enum LendCall {
-    GetMut,
-    PeekMut,
-}
-
-fn lend<S: BuildHasher>(
-    cache: &mut Cache<S>,
-    call: LendCall,
-    line: &mut Line<'_>,
-) -> Result<(), Stop> {
     let (key, new) = line.lent_item()?;
     line.say(match call {
-        LendCall::GetMut => write(cache.get_mut(&key), new),
-        LendCall::PeekMut => write(cache.peek_mut(&key), new),
+        KeyCall::Get => lent_item(cache.get(&key)),
+        KeyCall::Peek => lent_item(cache.peek(&key)),
+        KeyCall::ContainsKey => Word::Is(cache.contains_key(&key)),
+        KeyCall::EvictedBy => lent(cache.evicted_by(&key)),
+        KeyCall::Remove => given_item(cache.remove(&key)),
+        KeyCall::RemoveEntry => given(cache.remove_entry(&key)),
+        KeyCall::GetMut => write(cache.get_mut(&key), new),
+        KeyCall::PeekMut => write(cache.peek_mut(&key), new),
     })
 }
 

@@ -6,7 +6,7 @@ use crate::calls::map_calls::call_map;
 use crate::calls::raw_entries::{call_found, put_found};
 use crate::calls::walks::Walked;
 use crate::items::{
-    EntryCall, Item, KEEPS, Keep, Line, RawCall, RawGive, Stop, Word, is_even, is_raised, lent,
+    EntryCall, Item, Keep, Line, RawCall, RawGive, Stop, Word, Words, is_even, is_raised, lent,
     rest_of, walk_and_clone, walk_whole,
 };
 use hashlink_lru::LruCache;
@@ -52,12 +52,19 @@ const CALLS: [(&str, ManyCall); 16] = [
     ("raw_read", ManyCall::Entry(EntryWord::RawRead)),
 ];
 
+impl ManyCall {
+    /// The call that the next word names.
+    fn read(words: &mut Words<'_>) -> Result<ManyCall, Stop> {
+        words.named(&CALLS)
+    }
+}
+
 /// Makes the call that a line says, if it is one of these.
 pub fn call_many<S: BuildHasher + Copy + Default + Drop>(
     cache: &mut Cache<S>,
     line: &mut Line<'_>,
 ) -> Result<(), Stop> {
-    match line.named(&CALLS)? {
+    match ManyCall::read(&mut line.words)? {
         ManyCall::Pairs(call) => put_all(cache, call, line),
         ManyCall::Retain(is_lent) => retain(cache, is_lent, line),
         ManyCall::Walk(call) => walk_cache(cache, call, line),
@@ -107,7 +114,7 @@ fn retain<S: BuildHasher>(
     is_lent: bool,
     line: &mut Line<'_>,
 ) -> Result<(), Stop> {
-    let keep = line.named(&KEEPS)?;
+    let keep = Keep::read(&mut line.words)?;
     line.say(keep_some(cache, is_lent, keep))
 }
 

@@ -1,9 +1,8 @@
-//! Comparisons of two maps.
-use crate::calls::map_calls::Map;
-use crate::items::{Line, Stop, Word};
+//! Comparisons of two containers.
+use crate::items::{Line, Stop, Word, Words};
 use hashlink_map::DefaultHashBuilder;
 use std::cmp::Ordering;
-use std::hash::BuildHasher;
+use std::hash::{BuildHasher, Hash};
 
 #[derive(Clone, Copy)]
 enum Comparison {
@@ -20,40 +19,44 @@ const COMPARISONS: [(&str, Comparison); 4] = [
     ("hash", Comparison::Hash),
 ];
 
-/// Compares two maps by `eq`, `cmp` or `partial_cmp`, each way round, or says whether they feed a hasher the
-/// same.
-pub fn compare<S: BuildHasher>(
-    map: &Map<S>,
-    other: &Map<S>,
-    line: &mut Line<'_>,
-) -> Result<(), Stop> {
-    match line.named(&COMPARISONS)? {
-        Comparison::Eq => line.say(equal(map, other)),
-        Comparison::Less => line.say(less(map, other)),
-        Comparison::Cmp => line.say_all(&ordered(map, other)),
-        Comparison::Hash => line.say(Word::Is(hash_of(map) == hash_of(other))),
+impl Comparison {
+    /// The comparison that the next word names.
+    fn read(words: &mut Words<'_>) -> Result<Comparison, Stop> {
+        words.named(&COMPARISONS)
     }
 }
 
-fn equal<S: BuildHasher>(map: &Map<S>, other: &Map<S>) -> Word {
-    let is_equal = map == other;
-    if (other == map) != is_equal || (map != other) == is_equal {
+/// Compares two containers by `eq`, `cmp` or `partial_cmp`, each way round, or says whether they feed a hasher
+/// the same.
+pub fn compare<C: Ord + Hash>(one: &C, other: &C, line: &mut Line<'_>) -> Result<(), Stop> {
+    match Comparison::read(&mut line.words)? {
+        Comparison::Eq => line.say(equal(one, other)),
+        Comparison::Less => line.say(less(one, other)),
+        Comparison::Cmp => line.say_all(&ordered(one, other)),
+        Comparison::Hash => line.say(hashed_alike(one, other)),
+    }
+}
+
+/// Whether the two are equal, if that is so each way round.
+pub fn equal<C: PartialEq>(one: &C, other: &C) -> Word {
+    let is_equal = one == other;
+    if (other == one) != is_equal || (one != other) == is_equal {
         return Word::Wrong;
     }
     Word::Is(is_equal)
 }
 
-fn less<S: BuildHasher>(map: &Map<S>, other: &Map<S>) -> Word {
-    let is_less = map < other;
-    if (map >= other) == is_less {
+fn less<C: PartialOrd>(one: &C, other: &C) -> Word {
+    let is_less = one < other;
+    if (one >= other) == is_less {
         return Word::Wrong;
     }
     Word::Is(is_less)
 }
 
-fn ordered<S: BuildHasher>(map: &Map<S>, other: &Map<S>) -> [Word; 3] {
-    let order = map.cmp(other);
-    if other.cmp(map) != order.reverse() || map.partial_cmp(other) != Some(order) {
+fn ordered<C: Ord>(one: &C, other: &C) -> [Word; 3] {
+    let order = one.cmp(other);
+    if other.cmp(one) != order.reverse() || one.partial_cmp(other) != Some(order) {
         return [Word::Wrong; 3];
     }
     [
@@ -63,7 +66,7 @@ fn ordered<S: BuildHasher>(map: &Map<S>, other: &Map<S>) -> [Word; 3] {
     ]
 }
 
-/// What a map feeds a hasher, as one number.
-fn hash_of<S: BuildHasher>(map: &Map<S>) -> u64 {
-    DefaultHashBuilder.hash_one(map)
+/// Whether the two feed a hasher the same.
+pub fn hashed_alike<C: Hash>(one: &C, other: &C) -> Word {
+    Word::Is(DefaultHashBuilder.hash_one(one) == DefaultHashBuilder.hash_one(other))
 }

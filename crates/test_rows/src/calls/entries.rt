@@ -2,15 +2,13 @@
 use crate::calls::map_calls::Map;
 use crate::calls::map_cursors::take_all_steps;
 use crate::items::{
-    Answer, Ask, End, EndedCall, EntryCall, Give, Item, Lend, Line, Make, Name, Put, PutVacant,
-    Stay, Stop, Vacant, Word, no_memory, set, shown, taken, taken_pair, write_item,
+    Answer, Ask, EndedCall, EntryCall, Give, Item, Line, Make, Name, Put, PutVacant, Stop, There,
+    Vacant, Word, no_memory, set, shown, taken, taken_pair, write_item,
 };
-use hashlink_map::{Entry, OccupiedEntry, TryInsertError};
+use hashlink_map::{Entry, TryInsertError};
 use std::hash::BuildHasher;
 
 type InHand<'m, S> = Entry<'m, Item, Item, S>;
-
-type Occupied<'m, S> = OccupiedEntry<'m, Item, Item, S>;
 
 /// Makes the call of the entry of a map's key that the words say.
 pub fn call_entry_of<S: BuildHasher>(map: &mut Map<S>, line: &mut Line<'_>) -> Result<(), Stop> {
@@ -34,7 +32,9 @@ pub fn call_entry<S: BuildHasher>(
 fn answer_at<S: BuildHasher>(entry: InHand<'_, S>, call: EndedCall) -> Answer {
     match call {
         EndedCall::Ask(call, new) => Answer::Word(ask_at(entry, call, new)),
-        EndedCall::Give(call, value, new) => give_at(entry, call, value, new),
+        EndedCall::Give(Give::Make(make), value, new) => make_at(entry, make, value, new),
+        EndedCall::Give(Give::Put(put), value, _) => Answer::Word(put_at(entry, put, value)),
+        EndedCall::Give(Give::PutVacant(put), value, new) => put_vacant(entry, put, value, new),
         EndedCall::TryMake(made, new) => try_make_at(entry, made, new),
     }
 }
@@ -42,47 +42,30 @@ fn answer_at<S: BuildHasher>(entry: InHand<'_, S>, call: EndedCall) -> Answer {
 fn ask_at<S: BuildHasher>(entry: InHand<'_, S>, call: Ask, new: Option<Name>) -> Word {
     match call {
         Ask::Key => Word::item(entry.key().name()),
-        Ask::Stay(stay) => stay_at(entry, stay),
-        Ask::End(end) => end_at(entry, end),
         Ask::Modify => modify(entry, new),
-        Ask::Lend(lend) => lend_at(entry, lend, new),
+        Ask::There(call) => ask_there(entry, call, new),
         Ask::Vacant(call) => ask_vacant(entry, call),
     }
 }
 
-fn stay_at<S: BuildHasher>(entry: InHand<'_, S>, stay: Stay) -> Word {
+fn ask_there<S: BuildHasher>(entry: InHand<'_, S>, call: There, new: Option<Name>) -> Word {
     match entry {
-        Entry::Occupied(mut entry) => stay_in(&mut entry, stay),
-        Entry::Vacant(_vacant) => Word::Nothing,
-    }
-}
-
-fn stay_in<S: BuildHasher>(entry: &mut Occupied<'_, S>, stay: Stay) -> Word {
-    match stay {
-        Stay::Get => return shown((entry.key(), entry.get())),
-        Stay::ToFront => entry.to_front(),
-        Stay::ToBack => entry.to_back(),
-    }
-    Word::item(entry.get().name())
-}
-
-fn end_at<S: BuildHasher>(entry: InHand<'_, S>, end: End) -> Word {
-    match entry {
-        Entry::Occupied(entry) => match end {
-            End::ReplaceKey => taken(entry.replace_key()),
-            End::IntoKey => taken(entry.into_key()),
-            End::Remove => taken(entry.remove()),
-            End::RemoveEntry => taken_pair(entry.remove_entry()),
-        },
-        Entry::Vacant(_vacant) => Word::Nothing,
-    }
-}
-
-fn lend_at<S: BuildHasher>(entry: InHand<'_, S>, lend: Lend, new: Option<Name>) -> Word {
-    match entry {
-        Entry::Occupied(mut entry) => match lend {
-            Lend::GetMut => write_item(entry.get_mut(), new),
-            Lend::IntoMut => write_item(entry.into_mut(), new),
+        Entry::Occupied(mut entry) => match call {
+            There::Get => shown((entry.key(), entry.get())),
+            There::ToFront => {
+                entry.to_front();
+                Word::item(entry.get().name())
+            }
+            There::ToBack => {
+                entry.to_back();
+                Word::item(entry.get().name())
+            }
+            There::ReplaceKey => taken(entry.replace_key()),
+            There::IntoKey => taken(entry.into_key()),
+            There::Remove => taken(entry.remove()),
+            There::RemoveEntry => taken_pair(entry.remove_entry()),
+            There::GetMut => write_item(entry.get_mut(), new),
+            There::IntoMut => write_item(entry.into_mut(), new),
         },
         Entry::Vacant(_vacant) => Word::Nothing,
     }
@@ -106,40 +89,17 @@ fn ask_vacant<S: BuildHasher>(entry: InHand<'_, S>, call: Vacant) -> Word {
     }
 }
 
-fn give_at<S: BuildHasher>(
-    entry: InHand<'_, S>,
-    call: Give,
-    value: Item,
-    new: Option<Name>,
-) -> Answer {
-    match call {
-        Give::Make(make) => make_at(entry, make, value, new),
-        Give::Put(put) => Answer::Word(put_at(entry, put, value)),
-        Give::PutVacant(put) => put_vacant(entry, put, value, new),
-    }
-}
-
 fn make_at<S: BuildHasher>(
     entry: InHand<'_, S>,
     make: Make,
     value: Item,
     new: Option<Name>,
 ) -> Answer {
-    match make {
-        Make::OrInsert => or_insert(entry, value, new),
-        Make::OrInsertWith => or_insert_with(entry, value, new),
-    }
-}
-
-fn or_insert<S: BuildHasher>(entry: InHand<'_, S>, value: Item, new: Option<Name>) -> Answer {
-    match entry.or_insert(value) {
-        Ok(lent) => Answer::Word(write_item(lent, new)),
-        Err(pair) => no_memory(pair),
-    }
-}
-
-fn or_insert_with<S: BuildHasher>(entry: InHand<'_, S>, value: Item, new: Option<Name>) -> Answer {
-    match entry.or_insert_with(|| value) {
+    let lent = match make {
+        Make::OrInsert => entry.or_insert(value),
+        Make::OrInsertWith => entry.or_insert_with(|| value),
+    };
+    match lent {
         Ok(lent) => Answer::Word(write_item(lent, new)),
         Err(pair) => no_memory(pair),
     }
@@ -184,8 +144,8 @@ fn put_vacant<S: BuildHasher>(
 ) -> Answer {
     match put {
         PutVacant::Insert => insert(entry, value, new),
-        PutVacant::InsertEntry => insert_entry(entry, value),
-        PutVacant::Take => insert_and_remove(entry, value),
+        PutVacant::InsertEntry => insert_entry(entry, value, false),
+        PutVacant::Take => insert_entry(entry, value, true),
     }
 }
 
@@ -199,21 +159,15 @@ fn insert<S: BuildHasher>(entry: InHand<'_, S>, value: Item, new: Option<Name>) 
     }
 }
 
-fn insert_entry<S: BuildHasher>(entry: InHand<'_, S>, value: Item) -> Answer {
+fn insert_entry<S: BuildHasher>(entry: InHand<'_, S>, value: Item, is_taken: bool) -> Answer {
     match entry {
         Entry::Occupied(_occupied) => Answer::Word(Word::Nothing),
         Entry::Vacant(entry) => match entry.insert_entry(value) {
-            Ok(entry) => Answer::Word(shown((entry.key(), entry.get()))),
-            Err(pair) => no_memory(pair),
-        },
-    }
-}
-
-fn insert_and_remove<S: BuildHasher>(entry: InHand<'_, S>, value: Item) -> Answer {
-    match entry {
-        Entry::Occupied(_occupied) => Answer::Word(Word::Nothing),
-        Entry::Vacant(entry) => match entry.insert_entry(value) {
-            Ok(entry) => Answer::Word(taken_pair(entry.remove_entry())),
+            Ok(entry) => Answer::Word(if is_taken {
+                taken_pair(entry.remove_entry())
+            } else {
+                shown((entry.key(), entry.get()))
+            }),
             Err(pair) => no_memory(pair),
         },
     }

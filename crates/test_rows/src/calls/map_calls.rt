@@ -1,8 +1,8 @@
 //! Lines that speak to a map, and need one entry of it at most. The others are in `map_many`.
 use crate::calls::map_many::call_many;
 use crate::items::{
-    Answer, Asked, Item, Line, Name, Stop, Word, given, given_item, has_room, lent, lent_item,
-    made, no_memory, put, room, write, write_item,
+    Answer, Asked, Item, Line, Name, Stop, Word, Words, given, given_item, has_room, lent,
+    lent_item, made, no_memory, put, room, write, write_item,
 };
 use hashlink_map::LinkedHashMap;
 use std::alloc::{AllocError, Global};
@@ -17,10 +17,8 @@ enum MapCall {
     Read(ReadCall),
     /// Nothing.
     End(EndCall),
-    /// A key.
+    /// A key, and after a call that lends the value for writing what is then written to it.
     Key(KeyCall),
-    /// A key, and what is then written to the value.
-    Lend(LendCall),
     /// What is then written to the value.
     LendBack,
     /// A key, what is made where it is absent, and what is then written to the value.
@@ -47,10 +45,10 @@ const CALLS: [(&str, MapCall); 30] = [
     ("index", MapCall::Key(KeyCall::Index)),
     ("remove", MapCall::Key(KeyCall::Remove)),
     ("remove_entry", MapCall::Key(KeyCall::RemoveEntry)),
-    ("get_mut", MapCall::Lend(LendCall::GetMut)),
-    ("to_front", MapCall::Lend(LendCall::ToFront)),
-    ("to_back", MapCall::Lend(LendCall::ToBack)),
-    ("index_mut", MapCall::Lend(LendCall::IndexMut)),
+    ("get_mut", MapCall::Key(KeyCall::GetMut)),
+    ("to_front", MapCall::Key(KeyCall::ToFront)),
+    ("to_back", MapCall::Key(KeyCall::ToBack)),
+    ("index_mut", MapCall::Key(KeyCall::IndexMut)),
     ("back_value_mut", MapCall::LendBack),
     ("get_or_insert_with", MapCall::GetOrInsertWith),
     ("insert", MapCall::Pair(PairCall::Insert)),
@@ -64,19 +62,25 @@ const CALLS: [(&str, MapCall); 30] = [
     ("with_capacity", MapCall::Size(SizeCall::WithCapacity)),
 ];
 
+impl MapCall {
+    /// The call that the next word names, if it is one of these.
+    fn known(words: &mut Words<'_>) -> Option<MapCall> {
+        words.known(&CALLS)
+    }
+}
+
 /// Makes the call that a line says.
 pub fn call_map<S: BuildHasher + Copy + Default + Drop>(
     map: &mut Map<S>,
     line: &mut Line<'_>,
 ) -> Result<(), Stop> {
-    let Some(call) = line.words.known(&CALLS) else {
+    let Some(call) = MapCall::known(&mut line.words) else {
         return call_many(map, line);
     };
     match call {
         MapCall::Read(call) => line.say(read(map, call)),
         MapCall::End(call) => line.say(call_at_end(map, call)),
         MapCall::Key(call) => look_up(map, call, line),
-        MapCall::Lend(call) => lend(map, call, line),
         MapCall::LendBack => {
             let new = line.words.optional();
             line.say(write(map.back_value_mut(), new))
@@ -140,6 +144,10 @@ enum KeyCall {
     Index,
     Remove,
     RemoveEntry,
+    GetMut,
+    ToFront,
+    ToBack,
+    IndexMut,
 }
 
 fn look_up<S: BuildHasher>(
@@ -147,14 +155,18 @@ fn look_up<S: BuildHasher>(
     call: KeyCall,
     line: &mut Line<'_>,
 ) -> Result<(), Stop> {
-    let key = &line.item()?;
+    let (key, new) = line.lent_item()?;
     line.say(match call {
-        KeyCall::Get => lent_item(map.get(key)),
-        KeyCall::ContainsKey => Word::Is(map.contains_key(key)),
-        KeyCall::GetKeyValue => lent(map.get_key_value(key)),
-        KeyCall::Index => index(map, key),
-        KeyCall::Remove => given_item(map.remove(key)),
-        KeyCall::RemoveEntry => given(map.remove_entry(key)),
+        KeyCall::Get => lent_item(map.get(&key)),
+        KeyCall::ContainsKey => Word::Is(map.contains_key(&key)),
+        KeyCall::GetKeyValue => lent(map.get_key_value(&key)),
+        KeyCall::Index => index(map, &key),
+        KeyCall::Remove => given_item(map.remove(&key)),
+        KeyCall::RemoveEntry => given(map.remove_entry(&key)),
+        KeyCall::GetMut => write(map.get_mut(&key), new),
+        KeyCall::ToFront => write(map.to_front(&key), new),
+        KeyCall::ToBack => write(map.to_back(&key), new),
+        KeyCall::IndexMut => index_mut(map, &key, new),
     })
 }
 
@@ -163,24 +175,6 @@ fn index<S: BuildHasher>(map: &Map<S>, key: &Item) -> Word {
         return Word::item(map[key].name());
     }
     Word::Nothing
-}
-
-#[derive(Clone, Copy)]
-enum LendCall {
-    GetMut,
-    ToFront,
-    ToBack,
-    IndexMut,
-}
-
-fn lend<S: BuildHasher>(map: &mut Map<S>, call: LendCall, line: &mut Line<'_>) -> Result<(), Stop> {
-    let (key, new) = line.lent_item()?;
-    line.say(match call {
-        LendCall::GetMut => write(map.get_mut(&key), new),
-        LendCall::ToFront => write(map.to_front(&key), new),
-        LendCall::ToBack => write(map.to_back(&key), new),
-        LendCall::IndexMut => index_mut(map, &key, new),
-    })
 }
 
 fn index_mut<S: BuildHasher>(map: &mut Map<S>, key: &Item, new: Option<Name>) -> Word {

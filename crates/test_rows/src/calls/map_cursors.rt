@@ -2,7 +2,7 @@
 use crate::calls::map_calls::Map;
 use crate::calls::map_many::AtEnd;
 use crate::items::{
-    Answer, Item, Line, Name, Stop, Word, lent, put, shown, taken_pair, write, write_pair,
+    Answer, Item, Line, Name, Stop, Word, Words, lent, put, shown, taken_pair, write, write_pair,
 };
 use hashlink_map::CursorMut;
 use std::hash::BuildHasher;
@@ -79,11 +79,25 @@ const STEPS: [(&str, Named); 12] = [
     ("take_into_entry", Named::Last(Last::TakeIntoEntry)),
 ];
 
+impl Named {
+    /// The step that the next word names.
+    fn read(words: &mut Words<'_>) -> Result<Named, Stop> {
+        words.named(&STEPS)
+    }
+}
+
 const ENDS: [(&str, AtEnd); 2] = [("front", AtEnd::Front), ("back", AtEnd::Back)];
+
+impl AtEnd {
+    /// The end that the next word names.
+    fn read(words: &mut Words<'_>) -> Result<AtEnd, Stop> {
+        words.named(&ENDS)
+    }
+}
 
 /// Steps of a cursor that starts at an end.
 pub fn call_cursor<S: BuildHasher>(map: &mut Map<S>, line: &mut Line<'_>) -> Result<(), Stop> {
-    let end = line.named(&ENDS)?;
+    let end = AtEnd::read(&mut line.words)?;
     let mut cursor = cursor_at(map, end);
     match take_steps(&mut cursor, line)? {
         None => Ok(()),
@@ -139,7 +153,7 @@ fn next_step(line: &mut Line<'_>) -> Result<Coming, Stop> {
     if line.words.rest.is_empty() {
         return Ok(Coming::Nothing);
     }
-    Ok(Coming::Step(match line.named(&STEPS)? {
+    Ok(Coming::Step(match Named::read(&mut line.words)? {
         Named::Next => CursorStep::Next,
         Named::Prev => CursorStep::Prev,
         Named::At => CursorStep::At,
@@ -154,13 +168,18 @@ fn next_step(line: &mut Line<'_>) -> Result<Coming, Stop> {
 
 fn take_step<S: BuildHasher>(cursor: &mut Cursor<'_, S>, step: CursorStep) -> Answer {
     match step {
-        CursorStep::Next => cursor.move_next(),
-        CursorStep::Prev => cursor.move_prev(),
-        CursorStep::At => return Answer::Around(around(cursor)),
-        CursorStep::Put(place, key, value) => return put_at(cursor, place, key, value),
-        CursorStep::Write(place, new) => return Answer::Word(write_at(cursor, place, new)),
+        CursorStep::Next => {
+            cursor.move_next();
+            Answer::Silent
+        }
+        CursorStep::Prev => {
+            cursor.move_prev();
+            Answer::Silent
+        }
+        CursorStep::At => Answer::Around(around(cursor)),
+        CursorStep::Put(place, key, value) => put_at(cursor, place, key, value),
+        CursorStep::Write(place, new) => Answer::Word(write_at(cursor, place, new)),
     }
-    Answer::Silent
 }
 
 /// The entries before the cursor, at it and after it.

@@ -6,7 +6,7 @@ use crate::calls::map_cursors::call_cursor;
 use crate::calls::raw_entries::{call_end, call_raw, read_raw};
 use crate::calls::walks::Walked;
 use crate::items::{
-    Answer, Item, KEEPS, Keep, Line, Retain, Stop, Word, lent, made, read_keep, rest_of,
+    Answer, Item, Keep, Line, Retain, Stop, Word, Words, lent, made, read_keep, rest_of,
     walk_and_clone, walk_or_forget, walk_whole,
 };
 use hashlink_map::LinkedHashMap;
@@ -82,12 +82,19 @@ const CALLS: [(&str, ManyCall); 25] = [
     ("back_entry", ManyCall::Entry(EntryWord::At(AtEnd::Back))),
 ];
 
+impl ManyCall {
+    /// The call that the next word names.
+    fn read(words: &mut Words<'_>) -> Result<ManyCall, Stop> {
+        words.named(&CALLS)
+    }
+}
+
 /// Makes the call that a line says, if it is one of these.
 pub fn call_many<S: BuildHasher + Copy + Default + Drop>(
     map: &mut Map<S>,
     line: &mut Line<'_>,
 ) -> Result<(), Stop> {
-    match line.named(&CALLS)? {
+    match ManyCall::read(&mut line.words)? {
         ManyCall::Pairs(call) => put_all(map, call, line),
         ManyCall::Retain(call) => retain(map, call, line),
         ManyCall::Walk(call) => walk_map(map, call, line),
@@ -157,7 +164,7 @@ fn extend_kept<S: BuildHasher>(
 }
 
 fn retain<S: BuildHasher>(map: &mut Map<S>, call: Retain, line: &mut Line<'_>) -> Result<(), Stop> {
-    let keep = read_keep(&KEEPS, map.len(), line)?;
+    let keep = read_keep(map.len(), line)?;
     keep_some(map, call, keep, &mut line.answers.words);
     line.say(Word::Done)
 }

@@ -3,8 +3,8 @@ use crate::calls::map_calls::Map;
 use crate::calls::map_cursors::take_all_steps;
 use crate::calls::map_many::AtEnd;
 use crate::items::{
-    Answer, Item, Line, Make, Name, RawAsk, RawCall, RawEnd, RawGive, RawLend, RawPut, RawStay,
-    Stop, Word, lent, no_memory, set, shown, taken, taken_pair, write_item, write_pair,
+    Answer, Item, Line, Make, Name, RawAsk, RawCall, RawGive, RawPut, RawThere, Stop, Word, Words,
+    lent, no_memory, set, shown, taken, taken_pair, write_item, write_pair,
 };
 use hashlink_map::{RawEntryBuilderMut, RawEntryMut, RawOccupiedEntryMut};
 use std::hash::BuildHasher;
@@ -35,9 +35,16 @@ const WAYS: [(&str, Way); 6] = [
     ("of_test", Way::OfTest),
 ];
 
+impl Way {
+    /// The way that the next word names.
+    fn read(words: &mut Words<'_>) -> Result<Way, Stop> {
+        words.named(&WAYS)
+    }
+}
+
 /// Reads the pair of a key in the way that the words say.
 pub fn read_raw<S: BuildHasher>(map: &Map<S>, line: &mut Line<'_>) -> Result<(), Stop> {
-    let way = line.named(&WAYS)?;
+    let way = Way::read(&mut line.words)?;
     let key = line.item()?;
     line.say(read_at(map, way, &key))
 }
@@ -88,7 +95,7 @@ fn raw_of_test<'m, S: BuildHasher>(map: &'m mut Map<S>, way: Way, key: &Item) ->
 /// Makes the call of a raw entry of a map that the words say: the way, the key and the call. One that puts an
 /// absent key has another name than one that needs an entry.
 pub fn call_raw<S: BuildHasher + Copy>(map: &mut Map<S>, line: &mut Line<'_>) -> Result<(), Stop> {
-    let way = line.named(&WAYS)?;
+    let way = Way::read(&mut line.words)?;
     let (key, call) = RawCall::of_key(line)?;
     match call {
         RawCall::ReplaceKey => line.say(replace_key(map, key)),
@@ -127,48 +134,31 @@ pub fn call_found<S: BuildHasher>(
 
 fn ask_at<S: BuildHasher>(entry: Raw<'_, S>, call: RawAsk, new: Option<Name>) -> Word {
     match call {
-        RawAsk::Stay(stay) => stay_at(entry, stay),
-        RawAsk::End(end) => end_at(entry, end),
         RawAsk::Modify => modify(entry, new),
-        RawAsk::Lend(lend) => lend_at(entry, lend, new),
+        RawAsk::There(call) => ask_there(entry, call, new),
     }
 }
 
-fn stay_at<S: BuildHasher>(entry: Raw<'_, S>, stay: RawStay) -> Word {
+fn ask_there<S: BuildHasher>(entry: Raw<'_, S>, call: RawThere, new: Option<Name>) -> Word {
     match entry {
-        RawEntryMut::Occupied(mut entry) => stay_in(&mut entry, stay),
-        RawEntryMut::Vacant(_vacant) => Word::Nothing,
-    }
-}
-
-fn stay_in<S: BuildHasher>(entry: &mut Occupied<'_, S>, stay: RawStay) -> Word {
-    match stay {
-        RawStay::Get => return shown((entry.key(), entry.get())),
-        RawStay::GetKeyValue => {}
-        RawStay::ToFront => entry.to_front(),
-        RawStay::ToBack => entry.to_back(),
-    }
-    shown(entry.get_key_value())
-}
-
-fn end_at<S: BuildHasher>(entry: Raw<'_, S>, end: RawEnd) -> Word {
-    match entry {
-        RawEntryMut::Occupied(entry) => match end {
-            RawEnd::IntoKey => Word::item(entry.into_key().name()),
-            RawEnd::Remove => taken(entry.remove()),
-            RawEnd::RemoveEntry => taken_pair(entry.remove_entry()),
-        },
-        RawEntryMut::Vacant(_vacant) => Word::Nothing,
-    }
-}
-
-fn lend_at<S: BuildHasher>(entry: Raw<'_, S>, lend: RawLend, new: Option<Name>) -> Word {
-    match entry {
-        RawEntryMut::Occupied(mut entry) => match lend {
-            RawLend::GetMut => write_item(entry.get_mut(), new),
-            RawLend::GetKeyValueMut => write_item(entry.get_key_value_mut().1, new),
-            RawLend::IntoMut => write_item(entry.into_mut(), new),
-            RawLend::IntoKeyValue => write_item(entry.into_key_value().1, new),
+        RawEntryMut::Occupied(mut entry) => match call {
+            RawThere::Get => shown((entry.key(), entry.get())),
+            RawThere::GetKeyValue => shown(entry.get_key_value()),
+            RawThere::ToFront => {
+                entry.to_front();
+                shown(entry.get_key_value())
+            }
+            RawThere::ToBack => {
+                entry.to_back();
+                shown(entry.get_key_value())
+            }
+            RawThere::IntoKey => Word::item(entry.into_key().name()),
+            RawThere::Remove => taken(entry.remove()),
+            RawThere::RemoveEntry => taken_pair(entry.remove_entry()),
+            RawThere::GetMut => write_item(entry.get_mut(), new),
+            RawThere::GetKeyValueMut => write_item(entry.get_key_value_mut().1, new),
+            RawThere::IntoMut => write_item(entry.into_mut(), new),
+            RawThere::IntoKeyValue => write_item(entry.into_key_value().1, new),
         },
         RawEntryMut::Vacant(_vacant) => Word::Nothing,
     }

@@ -1,7 +1,8 @@
 //! Lines that speak to a set, and need one element of it at most. The others are in `set_many`.
 use crate::calls::set_many::call_many;
 use crate::items::{
-    Answer, Asked, Item, Line, Stop, Word, given_item, has_room, lent_item, made, room, taken,
+    Answer, Asked, Item, Line, Stop, Word, Words, given_item, has_room, lent_item, made, room,
+    taken,
 };
 use hashlink_set::LinkedHashSet;
 use std::alloc::{AllocError, Global};
@@ -51,12 +52,19 @@ const CALLS: [(&str, SetCall); 24] = [
     ("with_capacity", SetCall::Size(SizeCall::WithCapacity)),
 ];
 
+impl SetCall {
+    /// The call that the next word names, if it is one of these.
+    fn known(words: &mut Words<'_>) -> Option<SetCall> {
+        words.known(&CALLS)
+    }
+}
+
 /// Makes the call that a line says.
 pub fn call_set<S: BuildHasher + Copy + Default + Drop>(
     set: &mut Set<S>,
     line: &mut Line<'_>,
 ) -> Result<(), Stop> {
-    let Some(call) = line.words.known(&CALLS) else {
+    let Some(call) = SetCall::known(&mut line.words) else {
         return call_many(set, line);
     };
     match call {

@@ -5,7 +5,7 @@ use crate::calls::extended::{Kept, Went, extended_by_trait, say_went};
 use crate::calls::set_calls::{Set, lent_or_back};
 use crate::calls::walks::Walked;
 use crate::items::{
-    Answer, Item, Keep, Line, Stop, Word, is_other, made, read_keep, rest_of, taken,
+    Answer, Item, Keep, Line, Stop, Word, Words, is_other, made, read_keep_of, rest_of, taken,
     walk_and_clone, walk_or_forget, walk_whole,
 };
 use hashlink_set::{ExtendError, LinkedHashSet};
@@ -51,12 +51,19 @@ const CALLS: [(&str, ManyCall); 12] = [
     ("into_iter", ManyCall::Walk(WalkCall::IntoIter)),
 ];
 
+impl ManyCall {
+    /// The call that the next word names.
+    fn read(words: &mut Words<'_>) -> Result<ManyCall, Stop> {
+        words.named(&CALLS)
+    }
+}
+
 /// Makes the call that a line says, if it is one of these.
 pub fn call_many<S: BuildHasher + Copy + Default + Drop>(
     set: &mut Set<S>,
     line: &mut Line<'_>,
 ) -> Result<(), Stop> {
-    match line.named(&CALLS)? {
+    match ManyCall::read(&mut line.words)? {
         ManyCall::GetOrInsertWith => put_made(set, line),
         ManyCall::Elements(call) => put_all(set, call, line),
         ManyCall::Retain(is_ordered) => retain(set, is_ordered, line),
@@ -144,9 +151,14 @@ fn retain<S: BuildHasher>(
     is_ordered: bool,
     line: &mut Line<'_>,
 ) -> Result<(), Stop> {
-    let keep = read_keep(&KEEPS, set.len(), line)?;
+    let keep = read_keep(set.len(), line)?;
     keep_some(set, is_ordered, keep, &mut line.answers.words);
     line.say(Word::Done)
+}
+
+/// The test that the next word names, of so many elements, for whose words there is then room.
+fn read_keep(len: usize, line: &mut Line<'_>) -> Result<Keep, Stop> {
+    read_keep_of(&KEEPS, len, line)
 }
 
 fn keep_some<S: BuildHasher>(set: &mut Set<S>, is_ordered: bool, keep: Keep, met: &mut Vec<Word>) {

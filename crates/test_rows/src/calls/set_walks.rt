@@ -6,10 +6,11 @@ use std::hash::BuildHasher;
 
 impl Walk for Walked<Iter<'_, Item>> {
     fn step(&mut self, step: Step) -> Word {
-        if step.is_back {
-            return lent_item(self.0.next_back());
-        }
-        lent_item(self.0.next())
+        lent_item(if step.is_back {
+            self.0.next_back()
+        } else {
+            self.0.next()
+        })
     }
 
     fn left(&self) -> (usize, usize, Option<usize>) {
@@ -19,10 +20,11 @@ impl Walk for Walked<Iter<'_, Item>> {
 
 impl<S: BuildHasher + Drop> Walk for Walked<IntoIter<Item, S>> {
     fn step(&mut self, step: Step) -> Word {
-        if step.is_back {
-            return given_item(self.0.next_back());
-        }
-        given_item(self.0.next())
+        given_item(if step.is_back {
+            self.0.next_back()
+        } else {
+            self.0.next()
+        })
     }
 
     fn left(&self) -> (usize, usize, Option<usize>) {
@@ -32,10 +34,11 @@ impl<S: BuildHasher + Drop> Walk for Walked<IntoIter<Item, S>> {
 
 impl<S: BuildHasher> Walk for Walked<Drain<'_, Item, S>> {
     fn step(&mut self, step: Step) -> Word {
-        if step.is_back {
-            return given_item(self.0.next_back());
-        }
-        given_item(self.0.next())
+        given_item(if step.is_back {
+            self.0.next_back()
+        } else {
+            self.0.next()
+        })
     }
 
     fn left(&self) -> (usize, usize, Option<usize>) {

@@ -1,8 +1,8 @@
 //! Lines that speak to two sets.
 use crate::calls::alike::say_steps;
+use crate::calls::compared::{equal, hashed_alike};
 use crate::calls::set_calls::Set;
-use crate::items::{Line, Stop, Word, made};
-use hashlink_set::DefaultHashBuilder;
+use crate::items::{Line, Stop, Word, Words, made};
 use std::hash::BuildHasher;
 
 /// A call of two sets.
@@ -32,6 +32,13 @@ const CALLS: [(&str, SetsCall); 13] = [
     ("-", SetsCall::Operate(Operator::Sub)),
 ];
 
+impl SetsCall {
+    /// The call that the next word names.
+    fn read(words: &mut Words<'_>) -> Result<SetsCall, Stop> {
+        words.named(&CALLS)
+    }
+}
+
 /// Makes the call of two sets that the words say. The row goes on with what an operator makes as its first
 /// set.
 pub fn call_sets<S: BuildHasher + Copy + Default + Drop>(
@@ -39,7 +46,7 @@ pub fn call_sets<S: BuildHasher + Copy + Default + Drop>(
     other: &Set<S>,
     line: &mut Line<'_>,
 ) -> Result<(), Stop> {
-    match line.named(&CALLS)? {
+    match SetsCall::read(&mut line.words)? {
         SetsCall::Ask(call) => line.say(ask_of_two(set, other, call)),
         SetsCall::Iterate(call) => iterate(set, other, call, line),
         SetsCall::Operate(operator) => line.say(operate(set, other, operator)),
@@ -58,24 +65,11 @@ enum AskOfTwo {
 fn ask_of_two<S: BuildHasher>(set: &Set<S>, other: &Set<S>, call: AskOfTwo) -> Word {
     match call {
         AskOfTwo::Eq => equal(set, other),
-        AskOfTwo::Hash => Word::Is(hash_of(set) == hash_of(other)),
+        AskOfTwo::Hash => hashed_alike(set, other),
         AskOfTwo::IsDisjoint => Word::Is(set.is_disjoint(other)),
         AskOfTwo::IsSubset => Word::Is(set.is_subset(other)),
         AskOfTwo::IsSuperset => Word::Is(set.is_superset(other)),
     }
-}
-
-fn equal<S: BuildHasher>(set: &Set<S>, other: &Set<S>) -> Word {
-    let is_equal = set == other;
-    if (other == set) != is_equal || (set != other) == is_equal {
-        return Word::Wrong;
-    }
-    Word::Is(is_equal)
-}
-
-/// What a set feeds a hasher, as one number.
-fn hash_of<S: BuildHasher>(set: &Set<S>) -> u64 {
-    DefaultHashBuilder.hash_one(set)
 }
 
 #[derive(Clone, Copy)]

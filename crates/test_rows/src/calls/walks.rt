@@ -9,10 +9,11 @@ pub struct Walked<I>(pub I);
 
 impl Walk for Walked<Iter<'_, Item, Item>> {
     fn step(&mut self, step: Step) -> Word {
-        if step.is_back {
-            return lent(self.0.next_back());
-        }
-        lent(self.0.next())
+        lent(if step.is_back {
+            self.0.next_back()
+        } else {
+            self.0.next()
+        })
     }
 
     fn left(&self) -> (usize, usize, Option<usize>) {
@@ -22,10 +23,11 @@ impl Walk for Walked<Iter<'_, Item, Item>> {
 
 impl Walk for Walked<Keys<'_, Item, Item>> {
     fn step(&mut self, step: Step) -> Word {
-        if step.is_back {
-            return lent_item(self.0.next_back());
-        }
-        lent_item(self.0.next())
+        lent_item(if step.is_back {
+            self.0.next_back()
+        } else {
+            self.0.next()
+        })
     }
 
     fn left(&self) -> (usize, usize, Option<usize>) {
@@ -35,10 +37,11 @@ impl Walk for Walked<Keys<'_, Item, Item>> {
 
 impl Walk for Walked<Values<'_, Item, Item>> {
     fn step(&mut self, step: Step) -> Word {
-        if step.is_back {
-            return lent_item(self.0.next_back());
-        }
-        lent_item(self.0.next())
+        lent_item(if step.is_back {
+            self.0.next_back()
+        } else {
+            self.0.next()
+        })
     }
 
     fn left(&self) -> (usize, usize, Option<usize>) {
@@ -49,15 +52,12 @@ impl Walk for Walked<Values<'_, Item, Item>> {
 impl<S: BuildHasher> Walk for Walked<IterMut<'_, Item, Item, S>> {
     fn step(&mut self, step: Step) -> Word {
         if step.is_peek {
-            return lent(self.0.peek());
+            lent(self.0.peek())
+        } else if step.is_value {
+            step_by_value(&mut self.0, step)
+        } else {
+            step_by_pair(&mut self.0, step)
         }
-        if step.is_value {
-            return step_by_value(&mut self.0, step);
-        }
-        if step.is_back {
-            return write_pair(self.0.next_back(), step.written);
-        }
-        write_pair(self.0.next(), step.written)
     }
 
     fn left(&self) -> (usize, usize, Option<usize>) {
@@ -67,18 +67,31 @@ impl<S: BuildHasher> Walk for Walked<IterMut<'_, Item, Item, S>> {
 }
 
 fn step_by_value<S: BuildHasher>(pairs: &mut IterMut<'_, Item, Item, S>, step: Step) -> Word {
-    if step.is_back {
-        return write(pairs.next_value_back(), step.written);
-    }
-    write(pairs.next_value(), step.written)
+    let value = if step.is_back {
+        pairs.next_value_back()
+    } else {
+        pairs.next_value()
+    };
+    write(value, step.written)
+}
+
+fn step_by_pair<S: BuildHasher>(pairs: &mut IterMut<'_, Item, Item, S>, step: Step) -> Word {
+    let pair = if step.is_back {
+        pairs.next_back()
+    } else {
+        pairs.next()
+    };
+    write_pair(pair, step.written)
 }
 
 impl<S: BuildHasher> Walk for Walked<ValuesMut<'_, Item, Item, S>> {
     fn step(&mut self, step: Step) -> Word {
-        if step.is_back {
-            return write(self.0.next_back(), step.written);
-        }
-        write(self.0.next(), step.written)
+        let value = if step.is_back {
+            self.0.next_back()
+        } else {
+            self.0.next()
+        };
+        write(value, step.written)
     }
 
     fn left(&self) -> (usize, usize, Option<usize>) {
@@ -89,10 +102,11 @@ impl<S: BuildHasher> Walk for Walked<ValuesMut<'_, Item, Item, S>> {
 
 impl<S: BuildHasher + Drop> Walk for Walked<IntoIter<Item, Item, S>> {
     fn step(&mut self, step: Step) -> Word {
-        if step.is_back {
-            return given(self.0.next_back());
-        }
-        given(self.0.next())
+        given(if step.is_back {
+            self.0.next_back()
+        } else {
+            self.0.next()
+        })
     }
 
     fn left(&self) -> (usize, usize, Option<usize>) {
@@ -102,10 +116,11 @@ impl<S: BuildHasher + Drop> Walk for Walked<IntoIter<Item, Item, S>> {
 
 impl<S: BuildHasher> Walk for Walked<Drain<'_, Item, Item, S>> {
     fn step(&mut self, step: Step) -> Word {
-        if step.is_back {
-            return given(self.0.next_back());
-        }
-        given(self.0.next())
+        given(if step.is_back {
+            self.0.next_back()
+        } else {
+            self.0.next()
+        })
     }
 
     fn left(&self) -> (usize, usize, Option<usize>) {

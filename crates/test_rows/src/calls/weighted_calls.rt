@@ -1,8 +1,8 @@
 //! Lines that speak to a cache with a budget.
 use crate::calls::walks::Walked;
 use crate::items::{
-    Answer, Item, Line, Step, Stop, Walk, Word, given_item, hinted, lent_item, no_memory, shown,
-    taken_pair, walk_and_clone,
+    Answer, Item, Line, Step, Stop, Walk, Word, Words, given_item, hinted, lent_item, no_memory,
+    shown, taken_pair, walk_and_clone,
 };
 use hashlink_weighted::{WeightError, WeightedCache, WeightedIter};
 use std::hash::BuildHasher;
@@ -52,14 +52,21 @@ const CALLS: [(&str, WeightedCall); 10] = [
     ("iter", WeightedCall::Iter),
 ];
 
+impl WeightedCall {
+    /// The call that the next word names.
+    fn read(words: &mut Words<'_>) -> Result<WeightedCall, Stop> {
+        words.named(&CALLS)
+    }
+}
+
 /// Makes the call that a line says. The number of a value is its weight.
 pub fn call_weighted<S: BuildHasher>(
     cache: &mut Weighted<S>,
     line: &mut Line<'_>,
 ) -> Result<(), Stop> {
-    match line.named(&CALLS)? {
+    match WeightedCall::read(&mut line.words)? {
         WeightedCall::Read(call) => line.say(read(cache, call)),
-        WeightedCall::Key(call) => call_key(cache, call, line),
+        WeightedCall::Key(call) => look_up(cache, call, line),
         WeightedCall::Insert => put_pair(cache, line),
         WeightedCall::InsertEvicting => put_evicting(cache, line),
         WeightedCall::Iter => walk_and_clone(Walked(cache.iter()), line),
@@ -75,21 +82,17 @@ fn read<S: BuildHasher>(cache: &Weighted<S>, call: ReadCall) -> Word {
     }
 }
 
-fn call_key<S: BuildHasher>(
+fn look_up<S: BuildHasher>(
     cache: &mut Weighted<S>,
     call: KeyCall,
     line: &mut Line<'_>,
 ) -> Result<(), Stop> {
-    let key = line.item()?;
-    line.say(look_up(cache, call, &key))
-}
-
-fn look_up<S: BuildHasher>(cache: &mut Weighted<S>, call: KeyCall, key: &Item) -> Word {
-    match call {
+    let key = &line.item()?;
+    line.say(match call {
         KeyCall::Get => lent_item(cache.get(key)),
         KeyCall::Peek => lent_item(cache.peek(key)),
         KeyCall::Remove => given_item(cache.remove(key)),
-    }
+    })
 }
 
 fn put_pair<S: BuildHasher>(cache: &mut Weighted<S>, line: &mut Line<'_>) -> Result<(), Stop> {
@@ -104,8 +107,8 @@ fn insert<S: BuildHasher>(cache: &mut Weighted<S>, key: Item, value: Item) -> An
 
 /// Puts a pair, with room for what is said of each pair that it may evict.
 fn put_evicting<S: BuildHasher>(cache: &mut Weighted<S>, line: &mut Line<'_>) -> Result<(), Stop> {
-    let (key, value) = line.pair()?;
     line.answers.words.reserve(cache.len())?;
+    let (key, value) = line.pair()?;
     let answer = insert_evicting(cache, key, value, &mut line.answers.words);
     line.give(answer)
 }
@@ -155,10 +158,11 @@ fn lent_weighed(entry: Option<(&Item, &Item, u64)>) -> Word {
 
 impl Walk for Walked<WeightedIter<'_, Item, Item>> {
     fn step(&mut self, step: Step) -> Word {
-        if step.is_back {
-            return lent_weighed(self.0.next_back());
-        }
-        lent_weighed(self.0.next())
+        lent_weighed(if step.is_back {
+            self.0.next_back()
+        } else {
+            self.0.next()
+        })
     }
 
     fn left(&self) -> (usize, usize, Option<usize>) {

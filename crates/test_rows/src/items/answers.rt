@@ -31,6 +31,23 @@ impl Name {
     }
 }
 
+/// What is written as an item is.
+pub trait Named {
+    fn name(&self) -> Name;
+}
+
+impl Named for Name {
+    fn name(&self) -> Name {
+        *self
+    }
+}
+
+impl Named for u64 {
+    fn name(&self) -> Name {
+        Name::of(*self)
+    }
+}
+
 /// A key and its value.
 pub type Pair = (Name, Name);
 

@@ -3,26 +3,16 @@ use crate::items::Item;
 use crate::items::answers::{Name, Stop};
 use crate::items::line::Line;
 
-/// A call that leaves the entry.
+/// A call of an entry that is there, which takes no item. What is lent is written where a name follows.
 #[derive(Clone, Copy)]
-pub enum Stay {
+pub enum There {
     Get,
     ToFront,
     ToBack,
-}
-
-/// A call that ends the entry.
-#[derive(Clone, Copy)]
-pub enum End {
     ReplaceKey,
     IntoKey,
     Remove,
     RemoveEntry,
-}
-
-/// A call that lends the value.
-#[derive(Clone, Copy)]
-pub enum Lend {
     GetMut,
     IntoMut,
 }
@@ -64,10 +54,8 @@ pub enum PutVacant {
 pub enum Ask {
     /// The key that is in hand.
     Key,
-    Stay(Stay),
-    End(End),
     Modify,
-    Lend(Lend),
+    There(There),
     Vacant(Vacant),
 }
 
@@ -106,17 +94,17 @@ enum Named {
 }
 
 const CALLS: [(&str, Named); 19] = [
-    ("get", Named::Ask(Ask::Stay(Stay::Get))),
-    ("to_front", Named::Ask(Ask::Stay(Stay::ToFront))),
-    ("to_back", Named::Ask(Ask::Stay(Stay::ToBack))),
+    ("get", Named::Ask(Ask::There(There::Get))),
+    ("to_front", Named::Ask(Ask::There(There::ToFront))),
+    ("to_back", Named::Ask(Ask::There(There::ToBack))),
     ("key", Named::Ask(Ask::Key)),
-    ("replace_key", Named::Ask(Ask::End(End::ReplaceKey))),
-    ("into_key", Named::Ask(Ask::End(End::IntoKey))),
-    ("remove", Named::Ask(Ask::End(End::Remove))),
-    ("remove_entry", Named::Ask(Ask::End(End::RemoveEntry))),
+    ("replace_key", Named::Ask(Ask::There(There::ReplaceKey))),
+    ("into_key", Named::Ask(Ask::There(There::IntoKey))),
+    ("remove", Named::Ask(Ask::There(There::Remove))),
+    ("remove_entry", Named::Ask(Ask::There(There::RemoveEntry))),
     ("and_modify", Named::Ask(Ask::Modify)),
-    ("get_mut", Named::Ask(Ask::Lend(Lend::GetMut))),
-    ("into_mut", Named::Ask(Ask::Lend(Lend::IntoMut))),
+    ("get_mut", Named::Ask(Ask::There(There::GetMut))),
+    ("into_mut", Named::Ask(Ask::There(There::IntoMut))),
     ("or_insert", Named::Give(Give::Make(Make::OrInsert))),
     (
         "or_insert_with",

@@ -4,7 +4,7 @@ ghost use Rattle.std.proofs.Common.{rules};
 ghost use Rattle.std.specs.Cmp.Rules.{comparing, hashing};
 ghost use Rattle.std.specs.Hash as fed;
 
-use crate::items::answers::{Name, Pair, Stop};
+use crate::items::answers::{Name, Named, Pair, Stop};
 use crate::items::counts::Counts;
 use std::alloc::{AllocError, Global};
 use std::hash::{Hash, Hasher};
@@ -70,6 +70,12 @@ impl Item {
             group: self.group,
             number: *self.number,
         }
+    }
+}
+
+impl Named for Item {
+    fn name(&self) -> Name {
+        Item::name(self)
     }
 }
 

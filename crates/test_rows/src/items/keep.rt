@@ -2,6 +2,7 @@
 use crate::items::Item;
 use crate::items::answers::{Stop, Word};
 use crate::items::line::Line;
+use crate::items::words::Words;
 
 /// The call of a retain.
 #[derive(Clone, Copy)]
@@ -25,7 +26,7 @@ pub enum Keep {
     WithoutOdd,
 }
 
-pub const KEEPS: [(&str, Keep); 4] = [
+const KEEPS: [(&str, Keep); 4] = [
     ("even", Keep::Even),
     ("odd", Keep::Odd),
     ("others", Keep::Others),
@@ -33,6 +34,11 @@ pub const KEEPS: [(&str, Keep); 4] = [
 ];
 
 impl Keep {
+    /// The test that the next word names.
+    pub fn read(words: &mut Words<'_>) -> Result<Keep, Stop> {
+        words.named(&KEEPS)
+    }
+
     /// How many words it may say of so many entries.
     pub fn room(self, len: usize) -> usize {
         match self {
@@ -69,9 +75,14 @@ pub fn is_other(key: &Item, met: &mut Vec<Word>) -> bool {
     key.group % 2 == 0
 }
 
-/// The test that the next word says, of so many entries, for whose words there is then room.
-pub fn read_keep(table: &[(&str, Keep)], len: usize, line: &mut Line<'_>) -> Result<Keep, Stop> {
-    let keep = line.named(table)?;
+/// The test that the next word names, of so many entries, for whose words there is then room.
+pub fn read_keep(len: usize, line: &mut Line<'_>) -> Result<Keep, Stop> {
+    read_keep_of(&KEEPS, len, line)
+}
+
+/// The same, of the tests of a table.
+pub fn read_keep_of(table: &[(&str, Keep)], len: usize, line: &mut Line<'_>) -> Result<Keep, Stop> {
+    let keep = line.words.named(table)?;
     line.answers.words.reserve(keep.room(len))?;
     Ok(keep)
 }

@@ -4,26 +4,16 @@ use crate::items::answers::{Name, Stop};
 use crate::items::entry_call::Make;
 use crate::items::line::Line;
 
-/// A call that leaves the entry.
+/// A call of an entry that is there, which takes no item. What is lent is written where a name follows.
 #[derive(Clone, Copy)]
-pub enum RawStay {
+pub enum RawThere {
     Get,
     GetKeyValue,
     ToFront,
     ToBack,
-}
-
-/// A call that ends the entry.
-#[derive(Clone, Copy)]
-pub enum RawEnd {
     IntoKey,
     Remove,
     RemoveEntry,
-}
-
-/// A call that lends the value.
-#[derive(Clone, Copy)]
-pub enum RawLend {
     GetMut,
     GetKeyValueMut,
     IntoMut,
@@ -41,10 +31,8 @@ pub enum RawPut {
 /// A call that takes no item. What is lent is written where a name follows.
 #[derive(Clone, Copy)]
 pub enum RawAsk {
-    Stay(RawStay),
-    End(RawEnd),
     Modify,
-    Lend(RawLend),
+    There(RawThere),
 }
 
 /// A call that takes a value. What is lent is written where a name follows.
@@ -79,26 +67,29 @@ enum Named {
 }
 
 const CALLS: [(&str, Named); 23] = [
-    ("get", Named::Ask(RawAsk::Stay(RawStay::Get))),
+    ("get", Named::Ask(RawAsk::There(RawThere::Get))),
     (
         "get_key_value",
-        Named::Ask(RawAsk::Stay(RawStay::GetKeyValue)),
+        Named::Ask(RawAsk::There(RawThere::GetKeyValue)),
     ),
-    ("to_front", Named::Ask(RawAsk::Stay(RawStay::ToFront))),
-    ("to_back", Named::Ask(RawAsk::Stay(RawStay::ToBack))),
-    ("into_key", Named::Ask(RawAsk::End(RawEnd::IntoKey))),
-    ("remove", Named::Ask(RawAsk::End(RawEnd::Remove))),
-    ("remove_entry", Named::Ask(RawAsk::End(RawEnd::RemoveEntry))),
+    ("to_front", Named::Ask(RawAsk::There(RawThere::ToFront))),
+    ("to_back", Named::Ask(RawAsk::There(RawThere::ToBack))),
+    ("into_key", Named::Ask(RawAsk::There(RawThere::IntoKey))),
+    ("remove", Named::Ask(RawAsk::There(RawThere::Remove))),
+    (
+        "remove_entry",
+        Named::Ask(RawAsk::There(RawThere::RemoveEntry)),
+    ),
     ("and_modify", Named::Ask(RawAsk::Modify)),
-    ("get_mut", Named::Ask(RawAsk::Lend(RawLend::GetMut))),
+    ("get_mut", Named::Ask(RawAsk::There(RawThere::GetMut))),
     (
         "get_key_value_mut",
-        Named::Ask(RawAsk::Lend(RawLend::GetKeyValueMut)),
+        Named::Ask(RawAsk::There(RawThere::GetKeyValueMut)),
     ),
-    ("into_mut", Named::Ask(RawAsk::Lend(RawLend::IntoMut))),
+    ("into_mut", Named::Ask(RawAsk::There(RawThere::IntoMut))),
     (
         "into_key_value",
-        Named::Ask(RawAsk::Lend(RawLend::IntoKeyValue)),
+        Named::Ask(RawAsk::There(RawThere::IntoKeyValue)),
     ),
     ("or_insert", Named::Give(RawGive::Make(Make::OrInsert))),
     (

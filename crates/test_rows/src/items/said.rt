@@ -79,7 +79,7 @@ pub fn write_pair(pair: Option<(&Item, &mut Item)>, new: Option<Name>) -> Word {
     write_value(pair.0, pair.1, new)
 }
 
-pub fn write_value(key: &Item, value: &mut Item, new: Option<Name>) -> Word {
+fn write_value(key: &Item, value: &mut Item, new: Option<Name>) -> Word {
     let old = shown((key, value));
     set(value, new);
     old

@@ -23,13 +23,27 @@ pub fn hinted(left: usize, (least, most): (usize, Option<usize>)) -> (usize, usi
 /// step is taken so often.
 pub fn take_steps<W: Walk>(walk: &mut W, line: &mut Line<'_>) -> Result<(), Stop> {
     for _ in 0..64 {
-        match line.words.next() {
-            None | Some("clone") => return Ok(()),
-            Some("times") => repeat(walk, line)?,
-            Some(word) => say_step(walk, word, line)?,
-        }
+        let Some(word) = next_step(&mut line.words) else {
+            return Ok(());
+        };
+        say_steps(walk, word, line)?;
     }
     Err(Stop::Unread)
+}
+
+/// The word of the next step, if one comes before the end or a word `clone`.
+fn next_step<'l>(words: &mut Words<'l>) -> Option<&'l str> {
+    match words.next() {
+        Some("clone") => None,
+        word => word,
+    }
+}
+
+fn say_steps<W: Walk>(walk: &mut W, word: &str, line: &mut Line<'_>) -> Result<(), Stop> {
+    if word == "times" {
+        return repeat(walk, line);
+    }
+    say_step(walk, word, line)
 }
 
 /// Takes as many steps as the next word says, each by the word after it.
