@@ -26,8 +26,8 @@ impl Comparison {
     }
 }
 
-/// Compares two containers by `eq`, `cmp` or `partial_cmp`, each way round, or says whether they feed a hasher
-/// the same.
+/// Compares two containers by `eq`, `cmp` or `partial_cmp`, each way round, or says whether they feed a
+/// hasher the same.
 pub fn compare<C: Ord + Hash>(one: &C, other: &C, line: &mut Line<'_>) -> Result<(), Stop> {
     match Comparison::read(&mut line.words)? {
         Comparison::Eq => line.say(equal(one, other)),
