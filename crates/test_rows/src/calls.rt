@@ -20,7 +20,7 @@ mod weighted_calls;
 
 pub use cache_calls::{Cache, call_cache};
 pub use compared::compare;
-pub use extended::{Went, extended_by_trait, say_went};
+pub use extended::{extended_by_trait, say_kept};
 pub use map_calls::{Map, call_map};
 pub use set_calls::{Set, call_set};
 pub use two_sets::call_sets;

@@ -1,5 +1,5 @@
 //! Maps and sets of what can be copied, which take items by reference.
-use crate::calls::{Went, extended_by_trait, say_went};
+use crate::calls::{extended_by_trait, say_kept};
 use crate::items::{Answer, Home, Line, Name, Pair, Read, Stop, Word, Words, push_rest};
 use crate::spoken::{Spoken, say_elements, say_pairs, say_room};
 use hashlink::linked_hash_map::ExtendError;
@@ -7,7 +7,7 @@ use hashlink::{LinkedHashMap, LinkedHashSet};
 use std::hash::BuildHasher;
 use std::vec::IntoIter;
 
-impl<S: BuildHasher + Copy + Default + Drop> Spoken for LinkedHashMap<Name, Name, S> {
+impl<S: BuildHasher + Default> Spoken for LinkedHashMap<Name, Name, S> {
     fn make(home: Home<'_>, _capacity: usize) -> LinkedHashMap<Name, Name, S> {
         LinkedHashMap::with_hasher(home.alloc, S::default())
     }
@@ -20,7 +20,7 @@ impl<S: BuildHasher + Copy + Default + Drop> Spoken for LinkedHashMap<Name, Name
         let is_by_trait = is_by_trait(&mut line.words)?;
         let pairs: Vec<Pair> = copied(line)?;
         let lent: Vec<(&Name, &Name)> = pairs.iter().map(lend_pair).collect(line.home.alloc)?;
-        say_went(extend_map(self, is_by_trait, lent.into_iter()), line)
+        extend_map(self, is_by_trait, &mut lent.into_iter(), line)
     }
 
     fn count_items(&self) -> usize {
@@ -33,7 +33,7 @@ impl<S: BuildHasher + Copy + Default + Drop> Spoken for LinkedHashMap<Name, Name
     }
 }
 
-impl<S: BuildHasher + Copy + Default + Drop> Spoken for LinkedHashSet<Name, S> {
+impl<S: BuildHasher + Default> Spoken for LinkedHashSet<Name, S> {
     fn make(home: Home<'_>, _capacity: usize) -> LinkedHashSet<Name, S> {
         LinkedHashSet::with_hasher(home.alloc, S::default())
     }
@@ -42,7 +42,7 @@ impl<S: BuildHasher + Copy + Default + Drop> Spoken for LinkedHashSet<Name, S> {
         let is_by_trait = is_by_trait(&mut line.words)?;
         let elements: Vec<Name> = copied(line)?;
         let lent: Vec<&Name> = elements.iter().collect(line.home.alloc)?;
-        say_went(extend_set(self, is_by_trait, lent.into_iter()), line)
+        extend_set(self, is_by_trait, &mut lent.into_iter(), line)
     }
 
     fn count_items(&self) -> usize {
@@ -58,35 +58,35 @@ impl<S: BuildHasher + Copy + Default + Drop> Spoken for LinkedHashSet<Name, S> {
 fn extend_map<'p, S: BuildHasher>(
     map: &mut LinkedHashMap<Name, Name, S>,
     is_by_trait: bool,
-    pairs: IntoIter<(&'p Name, &'p Name)>,
-) -> Went {
-    let mut pairs = pairs;
+    pairs: &mut IntoIter<(&'p Name, &'p Name)>,
+    line: &mut Line<'_>,
+) -> Result<(), Stop> {
     let answer = if is_by_trait {
-        extended_by_trait(map, &mut pairs)
+        extended_by_trait(map, pairs)
     } else {
-        match map.extend_ref(&mut pairs) {
+        match map.extend_ref(&mut *pairs) {
             Ok(()) => Answer::Word(Word::Done),
             Err(ExtendError { taken, pair }) => Answer::BackAfter(Word::pair(pair), taken),
         }
     };
-    (answer, Some(pairs.len()))
+    say_kept(answer, pairs.len(), line)
 }
 
 fn extend_set<S: BuildHasher>(
     set: &mut LinkedHashSet<Name, S>,
     is_by_trait: bool,
-    elements: IntoIter<&Name>,
-) -> Went {
-    let mut elements = elements;
+    elements: &mut IntoIter<&Name>,
+    line: &mut Line<'_>,
+) -> Result<(), Stop> {
     let answer = if is_by_trait {
-        extended_by_trait(set, &mut elements)
+        extended_by_trait(set, elements)
     } else {
-        match set.extend_ref(&mut elements) {
+        match set.extend_ref(&mut *elements) {
             Ok(()) => Answer::Word(Word::Done),
             Err(ExtendError { taken, pair }) => Answer::BackAfter(Word::item(pair.0), taken),
         }
     };
-    (answer, Some(elements.len()))
+    say_kept(answer, elements.len(), line)
 }
 
 /// The calls by their names, and whether they go by std's `Extend`.

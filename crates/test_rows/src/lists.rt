@@ -288,7 +288,9 @@ fn are_replies_written(lines: &[&str], replies: &[Word]) -> bool {
         let (call, wanted) = cut(line);
         let next = place.saturating_add(count_replies(call));
         let came = replies.get(place..next).unwrap_or(&[]);
-        if !wanted.is_none_or(|wanted| are_written(came, wanted)) {
+        if let Some(wanted) = wanted
+            && !are_written(came, wanted)
+        {
             return false;
         }
         place = next;
@@ -319,13 +321,15 @@ pub fn run_lines_of_pair(
     let commands = commands_of_pair(alloc, lines)?;
     let (small, large) = (capacities.0.min(capacities.1), capacities.1);
     match run_pair(alloc, small, large, &commands) {
-        Ok(pair) => {
-            say_found(&pair.small, &pair.small_replies, voice);
-            say_found(&pair.large, &pair.large_replies, voice);
-        }
+        Ok(pair) => say_found_by_both(&pair, voice),
         Err(AllocError) => refuse(answers, voice),
     }
     Ok(true)
+}
+
+fn say_found_by_both(pair: &Pair<Name, u64>, voice: Voice<'_>) {
+    say_found(&pair.small, &pair.small_replies, voice);
+    say_found(&pair.large, &pair.large_replies, voice);
 }
 
 /// What the lines say to two caches.
@@ -359,13 +363,18 @@ pub fn run_lines_of_uses(
     answers: &mut Answers,
     voice: Voice<'_>,
 ) -> Result<bool, Stop> {
-    let commands = commands_of_pair(alloc, lines)?;
-    let pairs: Vec<(Name, u64)> = commands.iter().filter_map(used).collect(alloc)?;
+    let pairs = uses_of(alloc, lines)?;
     match run_uses(alloc, capacity, &pairs) {
         Ok(uses) => say_found(&uses.cache, &uses.replies, voice),
         Err(AllocError) => refuse(answers, voice),
     }
     Ok(true)
+}
+
+/// The pairs that the lines use.
+fn uses_of(alloc: Global, lines: &str) -> Result<Vec<(Name, u64)>, Stop> {
+    let commands = commands_of_pair(alloc, lines)?;
+    Ok(commands.iter().filter_map(used).collect(alloc)?)
 }
 
 fn used(command: &PairCommand<Name, u64>) -> Option<(Name, u64)> {
@@ -382,7 +391,10 @@ fn say_found(cache: &LruCache<Name, u64>, found: &[Option<u64>], voice: Voice<'_
         for value in found {
             say_word(
                 rt,
-                value.map_or(Word::Nothing, |value| Word::Item(value, 0)),
+                match *value {
+                    Some(value) => Word::Item(value, 0),
+                    None => Word::Nothing,
+                },
             );
         }
         let _ = println!(rt; "");

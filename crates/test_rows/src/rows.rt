@@ -220,16 +220,7 @@ fn speak<'f, C: Spoken + Drop>(
         is_sure: true,
     };
     let _ = home.cost();
-    let mut number = row.first;
-    for text in row.lines.split('\n') {
-        if !text.starts_with('#') {
-            if let Some(wrong) = speech.wrong(number, text, line, voice)? {
-                return Ok(Some(wrong));
-            }
-        }
-        number = number.saturating_add(1);
-    }
-    Ok(None)
+    speech.wrong(row, line, voice)
 }
 
 /// Says how many hashes and how many comparisons there were since this was last said.
@@ -248,19 +239,38 @@ struct Speech<C> {
 }
 
 impl<C: Spoken> Speech<C> {
-    /// What is wrong with the line of this number, if anything is.
+    /// What is wrong with the lines of the row, if anything is.
     fn wrong<'f>(
+        &mut self,
+        row: Row<'f>,
+        line: &mut Line<'f>,
+        voice: Voice<'_>,
+    ) -> Result<Option<Wrong<'f>>, Stop> {
+        let mut number = row.first;
+        for text in row.lines.split('\n') {
+            if let Some(wrong) = self.wrong_line(number, text, line, voice)? {
+                return Ok(Some(wrong));
+            }
+            number = number.saturating_add(1);
+        }
+        Ok(None)
+    }
+
+    /// What is wrong with the line of this number, if anything is. One that begins with `#` calls nothing.
+    fn wrong_line<'f>(
         &mut self,
         number: usize,
         text: &'f str,
         line: &mut Line<'f>,
         voice: Voice<'_>,
     ) -> Result<Option<Wrong<'f>>, Stop> {
+        if text.starts_with('#') {
+            return Ok(None);
+        }
         let (call, wanted) = cut(text);
         let (words, last) = words_of(call);
         for n in words.n..last.saturating_add(1) {
-            line.words = words;
-            line.words.n = n;
+            line.words = Words { n, ..words };
             line.answers.words.clear();
             match self.call(line) {
                 Err(Stop::Unread) => return Ok(Some(Wrong::Unread(number, text))),

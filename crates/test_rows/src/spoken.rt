@@ -134,8 +134,8 @@ impl<S: BuildHasher + Default> Spoken for Weighted<S> {
     }
 
     fn stand(&self, rt: &HostRuntime) {
-        let (len, budget, total) = (self.len(), self.budget(), self.total());
-        let _ = print!(rt; "+ {len} {budget} {total}");
+        say_room(rt, self.len(), self.budget() as usize);
+        say_word(rt, Word::Item(self.total(), 0));
         for entry in self.iter() {
             say_word(rt, weighed(entry));
         }

@@ -2,7 +2,7 @@
 use crate::items::{Answers, Stop, push};
 use crate::spoken::Voice;
 use hashlink::run::run_text;
-use std::alloc::Global;
+use std::alloc::{AllocError, Global};
 use std::str::from_utf8;
 
 /// Returns whether the answer of `run_text`, if no allocation for it failed, is the one that is written after
@@ -13,27 +13,42 @@ pub fn is_text_right(
     answers: &mut Answers,
     voice: Voice<'_>,
 ) -> Result<bool, Stop> {
-    let (text, written) = match lines.split_once("\n=\n") {
+    let (text, written) = cut_text(lines);
+    let bytes = bytes_of(alloc, text)?;
+    match run_text(alloc, bytes.as_slice()) {
+        Ok(answer) => Ok(is_answer_right(answer.as_slice(), written, voice)),
+        Err(AllocError) => {
+            refuse(answers, voice);
+            Ok(true)
+        }
+    }
+}
+
+/// The text of the lines, and the answer that is written after it, if one is.
+fn cut_text(lines: &str) -> (&str, Option<&str>) {
+    match lines.split_once("\n=\n") {
         Some((text, written)) => (text, Some(written)),
         None => match lines.strip_suffix("\n=") {
             Some(text) => (text, Some("")),
             None => (lines, None),
         },
-    };
-    let bytes = bytes_of(alloc, text)?;
-    let Ok(answer) = run_text(alloc, bytes.as_slice()) else {
-        refuse(answers, voice);
-        return Ok(true);
-    };
-    let Ok(answer) = from_utf8(answer.as_slice()) else {
-        return Ok(false);
+    }
+}
+
+/// Says the lines of an answer, and returns whether it is the one that is written, if one is.
+fn is_answer_right(answer: &[u8], written: Option<&str>, voice: Voice<'_>) -> bool {
+    let Ok(answer) = from_utf8(answer) else {
+        return false;
     };
     if !answer.is_empty() && !answer.ends_with('\n') {
-        return Ok(false);
+        return false;
     }
     let answer = answer.strip_suffix('\n').unwrap_or(answer);
     say_lines(answer, voice);
-    Ok(written.is_none_or(|written| answer == written || answer.contains("memory")))
+    match written {
+        Some(written) => answer == written || answer.contains("memory"),
+        None => true,
+    }
 }
 
 /// Counts and says that an allocation for the whole of a run failed.

@@ -4,7 +4,7 @@ use crate::items::{Item, Line, Name, Stop, Word, lent_item};
 /// Says the bounds of how many are left and what comes, in turn, for so many steps, or where no number of
 /// steps is given until nothing comes. Then nothing more may come, and a clone that is made after the first
 /// step has to say the same.
-pub fn say_steps<'s, I: Iterator<Item = &'s Item> + Clone + Drop>(
+pub fn say_steps<'s, I: Iterator<Item = &'s Item> + Clone>(
     mut first: I,
     steps: Option<Name>,
     line: &mut Line<'_>,
@@ -12,7 +12,7 @@ pub fn say_steps<'s, I: Iterator<Item = &'s Item> + Clone + Drop>(
     requires { (s : I) → I.can_next s }
 {
     let Some(steps) = steps else {
-        return say_all(first, line);
+        return say_all(&mut first, line);
     };
     for _ in 0..steps.group {
         say_step(&mut first, line)?;
@@ -20,17 +20,17 @@ pub fn say_steps<'s, I: Iterator<Item = &'s Item> + Clone + Drop>(
     Ok(())
 }
 
-fn say_all<'s, I: Iterator<Item = &'s Item> + Clone + Drop>(
-    mut first: I,
+fn say_all<'s, I: Iterator<Item = &'s Item> + Clone>(
+    first: &mut I,
     line: &mut Line<'_>,
 ) -> Result<(), Stop>
     requires { (s : I) → I.can_next s }
 {
-    if say_step(&mut first, line)? == Word::Nothing {
-        return say_end(&mut first, line);
+    if say_step(first, line)? == Word::Nothing {
+        return say_end(first, line);
     }
     let mut clone = first.clone()?;
-    say_alike(&mut first, &mut clone, line)
+    say_alike(first, &mut clone, line)
 }
 
 fn say_alike<'s, I: Iterator<Item = &'s Item>>(

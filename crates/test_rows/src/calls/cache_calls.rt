@@ -66,20 +66,18 @@ pub fn call_cache<S: BuildHasher + Copy + Default + Drop>(
     cache: &mut Cache<S>,
     line: &mut Line<'_>,
 ) -> Result<(), Stop> {
-    let Some(call) = CacheCall::known(&mut line.words) else {
-        return call_many(cache, line);
-    };
-    match call {
-        CacheCall::Read(call) => line.say(read(cache, call)),
-        CacheCall::End(call) => line.say(call_at_end(cache, call)),
-        CacheCall::Key(call) => look_up(cache, call, line),
-        CacheCall::Pair(call) => put_pair(cache, call, line),
-        CacheCall::GetOrInsertWith => get_or_insert(cache, line),
-        CacheCall::GetOrTryInsertWith => get_or_try_insert(cache, line),
-        CacheCall::SetCapacity => {
+    match CacheCall::known(&mut line.words) {
+        Some(CacheCall::Read(call)) => line.say(read(cache, call)),
+        Some(CacheCall::End(call)) => line.say(call_at_end(cache, call)),
+        Some(CacheCall::Key(call)) => look_up(cache, call, line),
+        Some(CacheCall::Pair(call)) => put_pair(cache, call, line),
+        Some(CacheCall::GetOrInsertWith) => get_or_insert(cache, line),
+        Some(CacheCall::GetOrTryInsertWith) => get_or_try_insert(cache, line),
+        Some(CacheCall::SetCapacity) => {
             cache.set_capacity(line.words.size());
             line.say(Word::Done)
         }
+        None => call_many(cache, line),
     }
 }
 

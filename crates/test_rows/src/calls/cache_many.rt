@@ -1,10 +1,9 @@
 //! Lines that speak to a cache about many pairs, or by its map, an iterator or an entry.
 use crate::calls::cache_calls::Cache;
 use crate::calls::entries::call_entry;
-use crate::calls::extended::{Kept, Went, extended, extended_by_trait, say_went};
+use crate::calls::extended::{Kept, extended, extended_by_trait, say_kept};
 use crate::calls::map_calls::call_map;
 use crate::calls::raw_entries::{call_found, put_found};
-use crate::calls::walks::Walked;
 use crate::items::{
     EntryCall, Item, Keep, Line, RawCall, RawGive, Stop, Word, Words, is_even, is_raised, lent,
     rest_of, walk_and_clone, walk_whole,
@@ -85,28 +84,24 @@ fn put_all<S: BuildHasher>(
     line: &mut Line<'_>,
 ) -> Result<(), Stop> {
     let pairs = rest_of(line)?;
-    say_went(extend(cache, call, pairs), line)
-}
-
-fn extend<S: BuildHasher>(cache: &mut Cache<S>, call: PairsCall, pairs: Vec<(Item, Item)>) -> Went {
     match call {
-        PairsCall::Extend => (extended(cache.extend(pairs)), None),
-        PairsCall::Kept(call) => extend_kept(cache, call, pairs.into_iter()),
+        PairsCall::Extend => line.give(extended(cache.extend(pairs))),
+        PairsCall::Kept(call) => extend_kept(cache, call, &mut pairs.into_iter(), line),
     }
 }
 
 fn extend_kept<S: BuildHasher>(
     cache: &mut Cache<S>,
     call: Kept,
-    pairs: IntoIter<(Item, Item)>,
-) -> Went {
-    let mut pairs = pairs;
+    pairs: &mut IntoIter<(Item, Item)>,
+    line: &mut Line<'_>,
+) -> Result<(), Stop> {
     let answer = match call {
-        Kept::Whole => extended(cache.extend(&mut pairs)),
-        Kept::From => extended(cache.extend_from(&mut pairs)),
-        Kept::ByTrait => extended_by_trait(cache, &mut pairs),
+        Kept::Whole => extended(cache.extend(&mut *pairs)),
+        Kept::From => extended(cache.extend_from(&mut *pairs)),
+        Kept::ByTrait => extended_by_trait(cache, pairs),
     };
-    (answer, Some(pairs.len()))
+    say_kept(answer, pairs.len(), line)
 }
 
 fn retain<S: BuildHasher>(
@@ -145,12 +140,12 @@ fn walk_cache<S: BuildHasher + Copy + Drop>(
     line: &mut Line<'_>,
 ) -> Result<(), Stop> {
     match call {
-        WalkCall::Iter => walk_and_clone(Walked(cache.iter()), line),
-        WalkCall::Keys => walk_and_clone(Walked(cache.keys()), line),
-        WalkCall::Values => walk_and_clone(Walked(cache.values()), line),
-        WalkCall::IterMut => walk_whole(Walked(cache.iter_mut()), line),
-        WalkCall::Drain => walk_whole(Walked(cache.drain()), line),
-        WalkCall::IntoIter => walk_whole(Walked(take(cache, line.home.alloc).into_iter()), line),
+        WalkCall::Iter => walk_and_clone(cache.iter(), line),
+        WalkCall::Keys => walk_and_clone(cache.keys(), line),
+        WalkCall::Values => walk_and_clone(cache.values(), line),
+        WalkCall::IterMut => walk_whole(cache.iter_mut(), line),
+        WalkCall::Drain => walk_whole(cache.drain(), line),
+        WalkCall::IntoIter => walk_whole(take(cache, line.home.alloc).into_iter(), line),
     }
 }
 

@@ -38,13 +38,8 @@ pub fn extended_by_trait<T: Drop, C: Extend<T>>(
     }
 }
 
-/// How an extension went, and how many items it did not read if its iterator was kept.
-pub type Went = (Answer, Option<usize>);
-
-pub fn say_went((answer, left): Went, line: &mut Line<'_>) -> Result<(), Stop> {
+/// Says how an extension went, and how many items its iterator, which was kept, has left.
+pub fn say_kept(answer: Answer, left: usize, line: &mut Line<'_>) -> Result<(), Stop> {
     line.give(answer)?;
-    match left {
-        Some(left) => line.say(Word::count(left)),
-        None => Ok(()),
-    }
+    line.say(Word::count(left))
 }

@@ -74,20 +74,18 @@ pub fn call_map<S: BuildHasher + Copy + Default + Drop>(
     map: &mut Map<S>,
     line: &mut Line<'_>,
 ) -> Result<(), Stop> {
-    let Some(call) = MapCall::known(&mut line.words) else {
-        return call_many(map, line);
-    };
-    match call {
-        MapCall::Read(call) => line.say(read(map, call)),
-        MapCall::End(call) => line.say(call_at_end(map, call)),
-        MapCall::Key(call) => look_up(map, call, line),
-        MapCall::LendBack => {
+    match MapCall::known(&mut line.words) {
+        Some(MapCall::Read(call)) => line.say(read(map, call)),
+        Some(MapCall::End(call)) => line.say(call_at_end(map, call)),
+        Some(MapCall::Key(call)) => look_up(map, call, line),
+        Some(MapCall::LendBack) => {
             let new = line.words.optional();
             line.say(write(map.back_value_mut(), new))
         }
-        MapCall::GetOrInsertWith => get_or_insert(map, line),
-        MapCall::Pair(call) => put_pair(map, call, line),
-        MapCall::Size(call) => ask_room(map, call, line),
+        Some(MapCall::GetOrInsertWith) => get_or_insert(map, line),
+        Some(MapCall::Pair(call)) => put_pair(map, call, line),
+        Some(MapCall::Size(call)) => ask_room(map, call, line),
+        None => call_many(map, line),
     }
 }
 
@@ -206,11 +204,11 @@ fn put_pair<S: BuildHasher>(
     line: &mut Line<'_>,
 ) -> Result<(), Stop> {
     let (key, value) = line.pair()?;
-    line.give(match call {
-        PairCall::Insert => put(map.insert(key, value)),
-        PairCall::InsertFront => put(map.insert_front(key, value)),
-        PairCall::Replace => put(map.replace(key, value)),
-    })
+    line.give(put(match call {
+        PairCall::Insert => map.insert(key, value),
+        PairCall::InsertFront => map.insert_front(key, value),
+        PairCall::Replace => map.replace(key, value),
+    }))
 }
 
 #[derive(Clone, Copy)]

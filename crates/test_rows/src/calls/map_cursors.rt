@@ -99,21 +99,23 @@ impl AtEnd {
 pub fn call_cursor<S: BuildHasher>(map: &mut Map<S>, line: &mut Line<'_>) -> Result<(), Stop> {
     let end = AtEnd::read(&mut line.words)?;
     let mut cursor = cursor_at(map, end);
-    match take_steps(&mut cursor, line)? {
-        None => Ok(()),
-        Some(Last::Entry) => match cursor.current_entry() {
-            Ok(entry) => line.say(shown(entry.get_key_value())),
-            Err(cursor) => line.say_all(&around(&cursor)),
+    let Some(last) = take_steps(&mut cursor, line)? else {
+        return Ok(());
+    };
+    line.give(match last {
+        Last::Entry => match cursor.current_entry() {
+            Ok(entry) => Answer::Word(shown(entry.get_key_value())),
+            Err(cursor) => Answer::Around(around(&cursor)),
         },
-        Some(Last::TakeEntry) => match cursor.current_entry() {
-            Ok(entry) => line.say(taken_pair(entry.remove_entry())),
-            Err(_guard) => line.say(Word::Nothing),
+        Last::TakeEntry => match cursor.current_entry() {
+            Ok(entry) => Answer::Word(taken_pair(entry.remove_entry())),
+            Err(_guard) => Answer::Word(Word::Nothing),
         },
-        Some(Last::TakeIntoEntry) => match cursor.into_entry() {
-            Some(entry) => line.say(taken_pair(entry.remove_entry())),
-            None => line.say(Word::Nothing),
+        Last::TakeIntoEntry => match cursor.into_entry() {
+            Some(entry) => Answer::Word(taken_pair(entry.remove_entry())),
+            None => Answer::Word(Word::Nothing),
         },
-    }
+    })
 }
 
 fn cursor_at<'m, S: BuildHasher>(map: &'m mut Map<S>, end: AtEnd) -> Cursor<'m, S> {
@@ -197,10 +199,10 @@ fn put_at<S: BuildHasher>(
     key: Item,
     value: Item,
 ) -> Answer {
-    match place {
-        PutAt::Before => put(cursor.insert_before(key, value)),
-        PutAt::After => put(cursor.insert_after(key, value)),
-    }
+    put(match place {
+        PutAt::Before => cursor.insert_before(key, value),
+        PutAt::After => cursor.insert_after(key, value),
+    })
 }
 
 fn write_at<S: BuildHasher>(cursor: &mut Cursor<'_, S>, place: WriteAt, new: Name) -> Word {

@@ -1,13 +1,12 @@
 //! Lines that speak to a map about many pairs, or by an iterator, a cursor or an entry.
 use crate::calls::entries::{call_cursor_of, call_entry_of};
-use crate::calls::extended::{Kept, Went, extended, extended_by_trait, say_went};
+use crate::calls::extended::{Kept, extended, extended_by_trait, say_kept};
 use crate::calls::map_calls::Map;
 use crate::calls::map_cursors::call_cursor;
 use crate::calls::raw_entries::{call_end, call_raw, read_raw};
-use crate::calls::walks::Walked;
 use crate::items::{
-    Answer, Item, Keep, Line, Retain, Stop, Word, Words, lent, made, read_keep, rest_of,
-    walk_and_clone, walk_or_forget, walk_whole,
+    Item, Keep, Line, Retain, Stop, Word, Words, made, read_keep, rest_of, shown, walk_and_clone,
+    walk_or_forget, walk_whole,
 };
 use hashlink_map::LinkedHashMap;
 use std::alloc::Global;
@@ -130,37 +129,28 @@ fn put_all<S: BuildHasher + Copy + Default + Drop>(
     line: &mut Line<'_>,
 ) -> Result<(), Stop> {
     let pairs = rest_of(line)?;
-    say_went(extend(map, call, pairs, line.home.alloc), line)
-}
-
-fn extend<S: BuildHasher + Copy + Default + Drop>(
-    map: &mut Map<S>,
-    call: PairsCall,
-    pairs: Vec<(Item, Item)>,
-    alloc: Global,
-) -> Went {
     match call {
-        PairsCall::Extend => (extended(map.extend(pairs)), None),
-        PairsCall::Kept(call) => extend_kept(map, call, pairs.into_iter()),
-        PairsCall::FromIter => {
-            let made = made(map, LinkedHashMap::from_iter(alloc, pairs));
-            (Answer::Word(made), None)
-        }
+        PairsCall::Extend => line.give(extended(map.extend(pairs))),
+        PairsCall::Kept(call) => extend_kept(map, call, &mut pairs.into_iter(), line),
+        PairsCall::FromIter => line.say(made(
+            map,
+            LinkedHashMap::from_iter(line.home.alloc, pairs),
+        )),
     }
 }
 
 fn extend_kept<S: BuildHasher>(
     map: &mut Map<S>,
     call: Kept,
-    pairs: IntoIter<(Item, Item)>,
-) -> Went {
-    let mut pairs = pairs;
+    pairs: &mut IntoIter<(Item, Item)>,
+    line: &mut Line<'_>,
+) -> Result<(), Stop> {
     let answer = match call {
-        Kept::Whole => extended(map.extend(&mut pairs)),
-        Kept::From => extended(map.extend_from(&mut pairs)),
-        Kept::ByTrait => extended_by_trait(map, &mut pairs),
+        Kept::Whole => extended(map.extend(&mut *pairs)),
+        Kept::From => extended(map.extend_from(&mut *pairs)),
+        Kept::ByTrait => extended_by_trait(map, pairs),
     };
-    (answer, Some(pairs.len()))
+    say_kept(answer, pairs.len(), line)
 }
 
 fn retain<S: BuildHasher>(map: &mut Map<S>, call: Retain, line: &mut Line<'_>) -> Result<(), Stop> {
@@ -200,13 +190,13 @@ fn walk_map<S: BuildHasher + Copy + Default + Drop>(
     line: &mut Line<'_>,
 ) -> Result<(), Stop> {
     match call {
-        WalkCall::Iter => walk_and_clone(Walked(map.iter()), line),
-        WalkCall::Keys => walk_and_clone(Walked(map.keys()), line),
-        WalkCall::Values => walk_and_clone(Walked(map.values()), line),
-        WalkCall::IterMut => walk_whole(Walked(map.iter_mut()), line),
-        WalkCall::ValuesMut => walk_whole(Walked(map.values_mut()), line),
-        WalkCall::Drain(is_forgotten) => walk_or_forget(Walked(map.drain()), is_forgotten, line),
-        WalkCall::IntoIter => walk_whole(Walked(take(map, line.home.alloc).into_iter()), line),
+        WalkCall::Iter => walk_and_clone(map.iter(), line),
+        WalkCall::Keys => walk_and_clone(map.keys(), line),
+        WalkCall::Values => walk_and_clone(map.values(), line),
+        WalkCall::IterMut => walk_whole(map.iter_mut(), line),
+        WalkCall::ValuesMut => walk_whole(map.values_mut(), line),
+        WalkCall::Drain(is_forgotten) => walk_or_forget(map.drain(), is_forgotten, line),
+        WalkCall::IntoIter => walk_whole(take(map, line.home.alloc).into_iter(), line),
         WalkCall::From => walk_from(map, line),
         WalkCall::Collect => line.say(collect(map, line.home.alloc)),
     }
@@ -216,7 +206,7 @@ fn walk_map<S: BuildHasher + Copy + Default + Drop>(
 fn walk_from<S: BuildHasher>(map: &Map<S>, line: &mut Line<'_>) -> Result<(), Stop> {
     let key = line.item()?;
     for pair in map.iter_from(&key) {
-        line.say(lent(Some(pair)))?;
+        line.say(shown(pair))?;
     }
     line.say(Word::Nothing)
 }

@@ -84,11 +84,10 @@ fn raw_of_hash<'m, S: BuildHasher>(map: &'m mut Map<S>, way: Way, key: &Item) ->
 
 fn raw_of_test<'m, S: BuildHasher>(map: &'m mut Map<S>, way: Way, key: &Item) -> Raw<'m, S> {
     let hash = map.hasher().hash_one(key);
+    let is_equal = |stored: &Item| *stored == *key;
     match way {
-        Way::Test => map
-            .raw_entry_mut()
-            .from_hash(hash, |stored| *stored == *key),
-        _ => map.raw_entry_from_hash(hash, |stored| *stored == *key),
+        Way::Test => map.raw_entry_mut().from_hash(hash, is_equal),
+        _ => map.raw_entry_from_hash(hash, is_equal),
     }
 }
 
@@ -113,8 +112,8 @@ fn give_at<S: BuildHasher + Copy>(
 ) -> Answer {
     match call {
         RawGive::Make(make) => put_found(map.raw_entry_mut(), make, key, value, new),
-        RawGive::Put(put) => put_absent(map, put, key, value),
-        RawGive::PutEntry(put) => put_entry(map, put, key, value),
+        RawGive::Put(put) => put_absent(map, put, false, key, value),
+        RawGive::PutEntry(put) => put_absent(map, put, true, key, value),
     }
 }
 
@@ -225,10 +224,11 @@ fn entry_at_end<'m, S: BuildHasher>(map: &'m mut Map<S>, end: AtEnd) -> Option<O
     }
 }
 
-/// Makes a call that puts a pair whose key is absent, and lends the pair.
+/// Makes a call that puts a pair whose key is absent, and lends the pair or makes it an entry.
 fn put_absent<S: BuildHasher + Copy>(
     map: &mut Map<S>,
     put: RawPut,
+    is_entry: bool,
     key: Item,
     value: Item,
 ) -> Answer {
@@ -237,40 +237,25 @@ fn put_absent<S: BuildHasher + Copy>(
     let RawEntryMut::Vacant(entry) = map.raw_entry_hashed_nocheck(hash, &key) else {
         return Answer::Word(Word::Nothing);
     };
+    let hasher = |stored: &Item| builder.hash_one(stored);
+    if is_entry {
+        let new = match put {
+            RawPut::Insert => entry.insert_entry(key, value),
+            RawPut::InsertHashed => entry.insert_entry_hashed_nocheck(hash, key, value),
+            RawPut::InsertWithHasher => entry.insert_entry_with_hasher(hash, key, value, hasher),
+        };
+        return match new {
+            Ok(entry) => Answer::Word(shown((entry.key(), entry.get()))),
+            Err(pair) => no_memory(pair),
+        };
+    }
     let lent = match put {
         RawPut::Insert => entry.insert(key, value),
         RawPut::InsertHashed => entry.insert_hashed_nocheck(hash, key, value),
-        RawPut::InsertWithHasher => {
-            entry.insert_with_hasher(hash, key, value, |stored| builder.hash_one(stored))
-        }
+        RawPut::InsertWithHasher => entry.insert_with_hasher(hash, key, value, hasher),
     };
     match lent {
         Ok(pair) => Answer::Word(write_pair(Some(pair), None)),
-        Err(pair) => no_memory(pair),
-    }
-}
-
-/// Makes a call that puts a pair whose key is absent, and makes it an entry.
-fn put_entry<S: BuildHasher + Copy>(
-    map: &mut Map<S>,
-    put: RawPut,
-    key: Item,
-    value: Item,
-) -> Answer {
-    let builder = *map.hasher();
-    let hash = builder.hash_one(&key);
-    let RawEntryMut::Vacant(entry) = map.raw_entry_hashed_nocheck(hash, &key) else {
-        return Answer::Word(Word::Nothing);
-    };
-    let new = match put {
-        RawPut::Insert => entry.insert_entry(key, value),
-        RawPut::InsertHashed => entry.insert_entry_hashed_nocheck(hash, key, value),
-        RawPut::InsertWithHasher => {
-            entry.insert_entry_with_hasher(hash, key, value, |stored| builder.hash_one(stored))
-        }
-    };
-    match new {
-        Ok(entry) => Answer::Word(shown((entry.key(), entry.get()))),
         Err(pair) => no_memory(pair),
     }
 }

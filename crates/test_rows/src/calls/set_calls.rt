@@ -64,15 +64,13 @@ pub fn call_set<S: BuildHasher + Copy + Default + Drop>(
     set: &mut Set<S>,
     line: &mut Line<'_>,
 ) -> Result<(), Stop> {
-    let Some(call) = SetCall::known(&mut line.words) else {
-        return call_many(set, line);
-    };
-    match call {
-        SetCall::Read(call) => line.say(read(set, call)),
-        SetCall::End(call) => line.say(call_at_end(set, call)),
-        SetCall::Element(call) => look_up(set, call, line),
-        SetCall::Put(call) => put(set, call, line),
-        SetCall::Size(call) => ask_room(set, call, line),
+    match SetCall::known(&mut line.words) {
+        Some(SetCall::Read(call)) => line.say(read(set, call)),
+        Some(SetCall::End(call)) => line.say(call_at_end(set, call)),
+        Some(SetCall::Element(call)) => look_up(set, call, line),
+        Some(SetCall::Put(call)) => put(set, call, line),
+        Some(SetCall::Size(call)) => ask_room(set, call, line),
+        None => call_many(set, line),
     }
 }
 

@@ -1,9 +1,8 @@
 //! Lines that speak to a set about many elements, by an iterator, or about an element that it makes.
 ghost use Rattle.std.specs.Prelude.{◌≡◌};
 
-use crate::calls::extended::{Kept, Went, extended_by_trait, say_went};
+use crate::calls::extended::{Kept, extended_by_trait, say_kept};
 use crate::calls::set_calls::{Set, lent_or_back};
-use crate::calls::walks::Walked;
 use crate::items::{
     Answer, Item, Keep, Line, Stop, Word, Words, is_other, made, read_keep_of, rest_of, taken,
     walk_and_clone, walk_or_forget, walk_whole,
@@ -107,33 +106,28 @@ fn put_all<S: BuildHasher + Copy + Default + Drop>(
     line: &mut Line<'_>,
 ) -> Result<(), Stop> {
     let elements = rest_of(line)?;
-    say_went(extend(set, call, elements, line.home.alloc), line)
-}
-
-fn extend<S: BuildHasher + Copy + Default + Drop>(
-    set: &mut Set<S>,
-    call: ElementsCall,
-    elements: Vec<Item>,
-    alloc: Global,
-) -> Went {
     match call {
-        ElementsCall::Extend => (extended(set.extend(elements)), None),
-        ElementsCall::Kept(call) => extend_kept(set, call, elements.into_iter()),
-        ElementsCall::FromIter => {
-            let made = made(set, LinkedHashSet::from_iter(alloc, elements));
-            (Answer::Word(made), None)
-        }
+        ElementsCall::Extend => line.give(extended(set.extend(elements))),
+        ElementsCall::Kept(call) => extend_kept(set, call, &mut elements.into_iter(), line),
+        ElementsCall::FromIter => line.say(made(
+            set,
+            LinkedHashSet::from_iter(line.home.alloc, elements),
+        )),
     }
 }
 
-fn extend_kept<S: BuildHasher>(set: &mut Set<S>, call: Kept, elements: IntoIter<Item>) -> Went {
-    let mut elements = elements;
+fn extend_kept<S: BuildHasher>(
+    set: &mut Set<S>,
+    call: Kept,
+    elements: &mut IntoIter<Item>,
+    line: &mut Line<'_>,
+) -> Result<(), Stop> {
     let answer = match call {
-        Kept::Whole => extended(set.extend(&mut elements)),
-        Kept::From => extended(set.extend_from(&mut elements)),
-        Kept::ByTrait => extended_by_trait(set, &mut elements),
+        Kept::Whole => extended(set.extend(&mut *elements)),
+        Kept::From => extended(set.extend_from(&mut *elements)),
+        Kept::ByTrait => extended_by_trait(set, elements),
     };
-    (answer, Some(elements.len()))
+    say_kept(answer, elements.len(), line)
 }
 
 fn extended(answer: Result<(), ExtendError<Item, ()>>) -> Answer {
@@ -192,9 +186,9 @@ fn walk_set<S: BuildHasher + Copy + Drop>(
     line: &mut Line<'_>,
 ) -> Result<(), Stop> {
     match call {
-        WalkCall::Iter => walk_and_clone(Walked(set.iter()), line),
-        WalkCall::Drain(is_forgotten) => { walk_or_forget(Walked(set.drain()), is_forgotten, line) }
-        WalkCall::IntoIter => walk_whole(Walked(take(set, line.home.alloc).into_iter()), line),
+        WalkCall::Iter => walk_and_clone(set.iter(), line),
+        WalkCall::Drain(is_forgotten) => { walk_or_forget(set.drain(), is_forgotten, line) }
+        WalkCall::IntoIter => walk_whole(take(set, line.home.alloc).into_iter(), line),
     }
 }
 

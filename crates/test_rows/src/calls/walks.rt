@@ -3,65 +3,61 @@ use crate::items::{Item, Step, Walk, Word, given, hinted, lent, lent_item, write
 use hashlink_map::{Drain, IntoIter, Iter, IterMut, Keys, Values, ValuesMut};
 use std::hash::BuildHasher;
 
-/// An iterator that takes steps.
-#[derive(Clone, Drop)]
-pub struct Walked<I>(pub I);
-
-impl Walk for Walked<Iter<'_, Item, Item>> {
+impl Walk for Iter<'_, Item, Item> {
     fn step(&mut self, step: Step) -> Word {
         lent(if step.is_back {
-            self.0.next_back()
+            self.next_back()
         } else {
-            self.0.next()
+            self.next()
         })
     }
 
     fn left(&self) -> (usize, usize, Option<usize>) {
-        hinted(self.0.len(), self.0.size_hint())
+        hinted(self.len(), self.size_hint())
     }
 }
 
-impl Walk for Walked<Keys<'_, Item, Item>> {
+impl Walk for Keys<'_, Item, Item> {
     fn step(&mut self, step: Step) -> Word {
         lent_item(if step.is_back {
-            self.0.next_back()
+            self.next_back()
         } else {
-            self.0.next()
+            self.next()
         })
     }
 
     fn left(&self) -> (usize, usize, Option<usize>) {
-        hinted(self.0.len(), self.0.size_hint())
+        hinted(self.len(), self.size_hint())
     }
 }
 
-impl Walk for Walked<Values<'_, Item, Item>> {
+impl Walk for Values<'_, Item, Item> {
     fn step(&mut self, step: Step) -> Word {
         lent_item(if step.is_back {
-            self.0.next_back()
+            self.next_back()
         } else {
-            self.0.next()
+            self.next()
         })
     }
 
     fn left(&self) -> (usize, usize, Option<usize>) {
-        hinted(self.0.len(), self.0.size_hint())
+        hinted(self.len(), self.size_hint())
     }
 }
 
-impl<S: BuildHasher> Walk for Walked<IterMut<'_, Item, Item, S>> {
+impl<S: BuildHasher> Walk for IterMut<'_, Item, Item, S> {
     fn step(&mut self, step: Step) -> Word {
         if step.is_peek {
-            lent(self.0.peek())
+            lent(self.peek())
         } else if step.is_value {
-            step_by_value(&mut self.0, step)
+            step_by_value(self, step)
         } else {
-            step_by_pair(&mut self.0, step)
+            step_by_pair(self, step)
         }
     }
 
     fn left(&self) -> (usize, usize, Option<usize>) {
-        let left = self.0.len();
+        let left = self.len();
         (left, left, Some(left))
     }
 }
@@ -84,47 +80,47 @@ fn step_by_pair<S: BuildHasher>(pairs: &mut IterMut<'_, Item, Item, S>, step: St
     write_pair(pair, step.written)
 }
 
-impl<S: BuildHasher> Walk for Walked<ValuesMut<'_, Item, Item, S>> {
+impl<S: BuildHasher> Walk for ValuesMut<'_, Item, Item, S> {
     fn step(&mut self, step: Step) -> Word {
         let value = if step.is_back {
-            self.0.next_back()
+            self.next_back()
         } else {
-            self.0.next()
+            self.next()
         };
         write(value, step.written)
     }
 
     fn left(&self) -> (usize, usize, Option<usize>) {
-        let left = self.0.len();
+        let left = self.len();
         (left, left, Some(left))
     }
 }
 
-impl<S: BuildHasher + Drop> Walk for Walked<IntoIter<Item, Item, S>> {
+impl<S: BuildHasher + Drop> Walk for IntoIter<Item, Item, S> {
     fn step(&mut self, step: Step) -> Word {
         given(if step.is_back {
-            self.0.next_back()
+            self.next_back()
         } else {
-            self.0.next()
+            self.next()
         })
     }
 
     fn left(&self) -> (usize, usize, Option<usize>) {
-        hinted(self.0.len(), self.0.size_hint())
+        hinted(self.len(), self.size_hint())
     }
 }
 
-impl<S: BuildHasher> Walk for Walked<Drain<'_, Item, Item, S>> {
+impl<S: BuildHasher> Walk for Drain<'_, Item, Item, S> {
     fn step(&mut self, step: Step) -> Word {
         given(if step.is_back {
-            self.0.next_back()
+            self.next_back()
         } else {
-            self.0.next()
+            self.next()
         })
     }
 
     fn left(&self) -> (usize, usize, Option<usize>) {
-        let (least, most) = self.0.size_hint();
+        let (least, most) = self.size_hint();
         (least, least, most)
     }
 }

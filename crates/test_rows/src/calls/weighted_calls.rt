@@ -1,5 +1,4 @@
 //! Lines that speak to a cache with a budget.
-use crate::calls::walks::Walked;
 use crate::items::{
     Answer, Item, Line, Step, Stop, Walk, Word, Words, given_item, hinted, lent_item, no_memory,
     shown, taken_pair, walk_and_clone,
@@ -69,7 +68,7 @@ pub fn call_weighted<S: BuildHasher>(
         WeightedCall::Key(call) => look_up(cache, call, line),
         WeightedCall::Insert => put_pair(cache, line),
         WeightedCall::InsertEvicting => put_evicting(cache, line),
-        WeightedCall::Iter => walk_and_clone(Walked(cache.iter()), line),
+        WeightedCall::Iter => walk_and_clone(cache.iter(), line),
     }
 }
 
@@ -156,16 +155,16 @@ fn lent_weighed(entry: Option<(&Item, &Item, u64)>) -> Word {
     }
 }
 
-impl Walk for Walked<WeightedIter<'_, Item, Item>> {
+impl Walk for WeightedIter<'_, Item, Item> {
     fn step(&mut self, step: Step) -> Word {
         lent_weighed(if step.is_back {
-            self.0.next_back()
+            self.next_back()
         } else {
-            self.0.next()
+            self.next()
         })
     }
 
     fn left(&self) -> (usize, usize, Option<usize>) {
-        hinted(self.0.len(), self.0.size_hint())
+        hinted(self.len(), self.size_hint())
     }
 }
