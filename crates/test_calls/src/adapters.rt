@@ -1,5 +1,5 @@
 //! Loops and std's adapters.
-use crate::few::{Map, cache_of, map_of, passes, set_of};
+use crate::few::{Map, cache_of, is_pair, map_of, passes, set_of};
 use hashlink::linked_hash_map::{Iter, Keys, Values};
 use hashlink::{LinkedHashSet, LruCache};
 use std::process::ExitCode;
@@ -33,7 +33,7 @@ fn values_backwards(values: Values<'_, u32, u32>) -> u32 {
 
 /// Whether the first pair comes last from the back.
 fn ends_with_first(entries: Iter<'_, u32, u32>) -> bool {
-    entries.rev().last() == Some((&3, &30))
+    is_pair(entries.rev().last(), 3, 30)
 }
 
 /// Whether a map of four goes through a loop and std's adapters.
@@ -52,7 +52,7 @@ fn a_map_goes_through_loops_and_adapters(rt: HostRuntime) -> ExitCode {
 /// Whether a loop over a borrowed cache begins with the pair of ones, and goes over one more.
 fn begins_with_one(cache: &LruCache<u32, u32>) -> bool {
     let mut entries = cache.into_iter();
-    (entries.next() == Some((&1, &1))) & (entries.len() == 1)
+    is_pair(entries.next(), 1, 1) & (entries.len() == 1)
 }
 
 #[test]

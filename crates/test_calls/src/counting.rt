@@ -5,7 +5,7 @@ ghost use Rattle.std.specs.Cmp.Rules.{comparing, hashing};
 ghost use Rattle.std.specs.Hash as fed;
 ghost use Rattle.test_calls.specs.OwnNumber.{number_of};
 
-use crate::few::passes;
+use crate::few::{is_value, passes};
 use hashlink::LinkedHashMap;
 use std::alloc::{AllocError, Global};
 use std::cell::Cell;
@@ -89,49 +89,44 @@ fn number_with_count(number: u64, comparisons: &Rc<Cell<u64>>) -> Result<Counted
 /// A map of numbers, each under itself.
 type Numbers = LinkedHashMap<Counted, u64, OwnNumber>;
 
-/// Inserts the numbers from 1 to 500, and returns whether each was new.
-fn insert_each(map: &mut Numbers, comparisons: &Rc<Cell<u64>>) -> Result<bool, AllocError> {
+/// Whether a number is inserted and was new.
+fn inserts(map: &mut Numbers, number: u64, comparisons: &Rc<Cell<u64>>) -> bool {
+    match number_with_count(number, comparisons) {
+        Ok(key) => map.insert(key, number) == Ok(None),
+        Err(_) => false,
+    }
+}
+
+/// Whether it is found.
+fn gets(map: &Numbers, number: u64, comparisons: &Rc<Cell<u64>>) -> bool {
+    match number_with_count(number, comparisons) {
+        Ok(key) => is_value(map.get(&key), number),
+        Err(_) => false,
+    }
+}
+
+/// Whether a map takes the numbers from 1 to 500, and then finds each of them.
+fn takes_and_finds(map: &mut Numbers, comparisons: &Rc<Cell<u64>>) -> bool {
     let mut all = true;
     for number in 1..501u64 {
-        all &= map.insert(number_with_count(number, comparisons)?, number) == Ok(None);
+        all &= inserts(map, number, comparisons);
     }
-    Ok(all)
-}
-
-/// Looks each of them up, and returns whether it was found.
-fn get_each(map: &Numbers, comparisons: &Rc<Cell<u64>>) -> Result<bool, AllocError> {
-    let mut all = true;
     for number in 1..501u64 {
-        all &= map.get(&number_with_count(number, comparisons)?) == Some(&number);
+        all &= gets(map, number, comparisons);
     }
-    Ok(all)
+    all
 }
 
-/// Whether a map takes each of them, and then finds it.
-fn takes_and_finds(map: &mut Numbers, comparisons: &Rc<Cell<u64>>) -> Result<bool, AllocError> {
-    let all = insert_each(map, comparisons)?;
-    Ok(all & get_each(map, comparisons)?)
-}
-
-/// Whether an empty map does.
-fn serves_each(alloc: Global, comparisons: &Rc<Cell<u64>>) -> Result<bool, AllocError> {
-    takes_and_finds(
-        &mut LinkedHashMap::with_hasher(alloc, OwnNumber::default()),
-        comparisons,
-    )
-}
-
-/// Whether it does with at most 4,000 comparisons.
-fn compares_few(alloc: Global) -> Result<bool, AllocError> {
-    let comparisons = Rc::new(alloc, Cell::new(0u64))?;
-    let all = serves_each(alloc, &comparisons)?;
-    Ok(all & (comparisons.get() <= 4_000))
+/// Whether an empty map does with at most 4,000 comparisons.
+fn compares_few(alloc: Global, comparisons: &Rc<Cell<u64>>) -> bool {
+    let map = &mut LinkedHashMap::with_hasher(alloc, OwnNumber::default());
+    takes_and_finds(map, comparisons) & (comparisons.get() <= 4_000)
 }
 
 #[test]
 fn inserts_and_gets_of_500_keys_compare_at_most_4000_times(rt: HostRuntime) -> ExitCode {
-    passes(match compares_few(rt.alloc()) {
-        Ok(holds) => holds,
-        Err(AllocError) => false,
+    passes(match Rc::new(rt.alloc(), Cell::new(0u64)) {
+        Ok(comparisons) => compares_few(rt.alloc(), &comparisons),
+        Err(_) => false,
     })
 }

@@ -1,5 +1,5 @@
 //! The texts of `{:?}`, and of errors.
-use crate::few::{Map, cache_of, map_of, passes, set_of};
+use crate::few::{Map, cache_of, is_cloned, map_of, passes, set_of};
 use crate::keys::Numbered;
 use hashlink::linked_hash_map::{Entry, ExtendError, RawEntryMut};
 use hashlink::lru_cache::TryInsertError;
@@ -23,6 +23,17 @@ fn shows<T: fmt::Debug + Drop>(alloc: Global, value: T, text: &str) -> bool {
     shown.is_ok_and(|shown| shown.as_str() == text)
 }
 
+/// Whether this is shown of a value. It takes the value, so that a test has none to drop.
+fn shows_of<T: Drop, F: FnOnce(Global, &mut T) -> bool>(
+    alloc: Global,
+    mut value: T,
+    shows: F,
+) -> bool
+    requires { F.IsAlwaysCallable shows }
+{
+    shows(alloc, &mut value)
+}
+
 #[test]
 fn a_map_shows_its_entries(rt: HostRuntime) -> ExitCode {
     passes(
@@ -31,17 +42,16 @@ fn a_map_shows_its_entries(rt: HostRuntime) -> ExitCode {
     )
 }
 
-/// Whether a set of 1 and 2 and its iterator show the elements.
-fn elements_are_shown(alloc: Global, set: &LinkedHashSet<u32>) -> bool {
-    shows(alloc, set, "{1, 2}") & shows(alloc, set.iter(), "[1, 2]")
+/// Whether a set of 1 and 2 and its iterator show the elements, and an empty set shows none.
+fn elements_are_shown(alloc: Global, set: &LinkedHashSet<u32>, empty: &LinkedHashSet<u32>) -> bool {
+    shows(alloc, set, "{1, 2}") & shows(alloc, set.iter(), "[1, 2]") & shows(alloc, empty, "{}")
 }
 
 #[test]
 fn a_set_shows_its_elements(rt: HostRuntime) -> ExitCode {
-    passes(
-        elements_are_shown(rt.alloc(), &set_of(rt.alloc(), &[1, 2]))
-            & shows(rt.alloc(), set_of(rt.alloc(), &[]), "{}"),
-    )
+    let set = set_of(rt.alloc(), &[1, 2]);
+    let empty = set_of(rt.alloc(), &[]);
+    passes(shows_of_two(rt.alloc(), set, empty, elements_are_shown))
 }
 
 #[test]
@@ -65,12 +75,12 @@ fn weighted_pairs_are_shown(alloc: Global, cache: &mut WeightedCache<u32, u32>) 
 
 #[test]
 fn a_cache_with_a_budget_shows_what_was_used_last_first(rt: HostRuntime) -> ExitCode {
-    let cache = &mut WeightedCache::new(rt.alloc(), 2);
-    passes(weighted_pairs_are_shown(rt.alloc(), cache))
+    let cache = WeightedCache::new(rt.alloc(), 2);
+    passes(shows_of(rt.alloc(), cache, weighted_pairs_are_shown))
 }
 
 /// Whether the iterators over the map that read show what is left.
-fn readers_show_what_is_left(alloc: Global, map: &Map) -> bool {
+fn readers_show_what_is_left(alloc: Global, map: &mut Map) -> bool {
     let mut pairs = map.iter();
     let at_first = shows(alloc, &pairs, PAIRS);
     pairs.next_back();
@@ -82,7 +92,8 @@ fn readers_show_what_is_left(alloc: Global, map: &Map) -> bool {
 
 #[test]
 fn iterators_that_read_show_what_is_left(rt: HostRuntime) -> ExitCode {
-    passes(readers_show_what_is_left(rt.alloc(), &one_and_two(rt.alloc())))
+    let map = one_and_two(rt.alloc());
+    passes(shows_of(rt.alloc(), map, readers_show_what_is_left))
 }
 
 /// Whether the iterator over the map that writes values in pairs shows what is left.
@@ -113,9 +124,25 @@ fn writers_show_what_is_left(alloc: Global, map: &mut Map) -> bool {
 #[test]
 fn iterators_that_write_or_own_show_what_is_left(rt: HostRuntime) -> ExitCode {
     passes(
-        writers_show_what_is_left(rt.alloc(), &mut one_and_two(rt.alloc()))
-            & shows(rt.alloc(), one_and_two(rt.alloc()).into_iter(), PAIRS),
+        shows(rt.alloc(), one_and_two(rt.alloc()).into_iter(), PAIRS)
+            & shows_of(
+                rt.alloc(),
+                one_and_two(rt.alloc()),
+                writers_show_what_is_left,
+            ),
     )
+}
+
+/// The same of two values.
+fn shows_of_two<T: Drop, F: FnOnce(Global, &T, &T) -> bool>(
+    alloc: Global,
+    left: T,
+    right: T,
+    shows: F,
+) -> bool
+    requires { F.IsAlwaysCallable shows }
+{
+    shows(alloc, &left, &right)
 }
 
 /// Whether each iterator over two sets shows what is left.
@@ -132,11 +159,9 @@ fn lazy_ones_show_what_is_left(
 
 #[test]
 fn iterators_over_two_sets_show_what_is_left(rt: HostRuntime) -> ExitCode {
-    passes(lazy_ones_show_what_is_left(
-        rt.alloc(),
-        &set_of(rt.alloc(), &[1, 2]),
-        &set_of(rt.alloc(), &[2, 3]),
-    ))
+    let left = set_of(rt.alloc(), &[1, 2]);
+    let right = set_of(rt.alloc(), &[2, 3]);
+    passes(shows_of_two(rt.alloc(), left, right, lazy_ones_show_what_is_left))
 }
 
 /// Whether the iterators over the elements of either of two sets show two of them.
@@ -158,19 +183,14 @@ fn those_over_one_show_two(
     shows(alloc, left.intersection(left), "[1, 2]") & shows(alloc, left.difference(other), "[1, 2]")
 }
 
-/// Whether they do of two sets of one element each.
-fn one_of_each_is_shown(alloc: Global) -> bool {
-    those_over_both_show_two(alloc, &set_of(alloc, &[1]), &set_of(alloc, &[2]))
-}
-
-/// Whether they do of a set of two, of which the other has none.
-fn two_of_one_are_shown(alloc: Global) -> bool {
-    those_over_one_show_two(alloc, &set_of(alloc, &[1, 2]), &set_of(alloc, &[3]))
-}
-
 #[test]
 fn iterators_over_two_sets_show_two_that_are_left(rt: HostRuntime) -> ExitCode {
-    passes(one_of_each_is_shown(rt.alloc()) & two_of_one_are_shown(rt.alloc()))
+    let one = set_of(rt.alloc(), &[1]);
+    let two = set_of(rt.alloc(), &[2]);
+    let is_shown = shows_of_two(rt.alloc(), one, two, those_over_both_show_two);
+    let both = set_of(rt.alloc(), &[1, 2]);
+    let other = set_of(rt.alloc(), &[3]);
+    passes(is_shown & shows_of_two(rt.alloc(), both, other, those_over_one_show_two))
 }
 
 /// Whether an occupied entry shows itself.
@@ -217,7 +237,8 @@ fn each_is_shown(alloc: Global, map: &mut Map) -> bool {
 
 #[test]
 fn an_entry_that_was_matched_shows_itself(rt: HostRuntime) -> ExitCode {
-    passes(each_is_shown(rt.alloc(), &mut map_of(rt.alloc(), &[(1, 10)])))
+    let map = map_of(rt.alloc(), &[(1, 10)]);
+    passes(shows_of(rt.alloc(), map, each_is_shown))
 }
 
 /// The key of a group, of which a map keeps the first that it is given.
@@ -269,21 +290,14 @@ fn all_is_shown(alloc: Global, map: &mut NumberedMap) -> bool {
 
 #[test]
 fn an_entry_shows_the_stored_key_and_a_builder_its_name(rt: HostRuntime) -> ExitCode {
-    passes(all_is_shown(rt.alloc(), &mut LinkedHashMap::new(rt.alloc())))
+    let map = LinkedHashMap::new(rt.alloc());
+    passes(shows_of(rt.alloc(), map, all_is_shown))
 }
 
 /// Whether the error has this text.
 fn says<E: Error>(alloc: Global, error: &E, text: &str) -> bool {
     let said = error.to_string(alloc);
     said.is_ok_and(|said| said.as_str() == text)
-}
-
-/// Whether a clone of the value is equal to it.
-fn is_cloned<T: Clone + PartialEq + Drop>(value: &T) -> bool {
-    match value.clone() {
-        Ok(clone) => clone == *value,
-        Err(_) => false,
-    }
 }
 
 type Stopped = ExtendError<u32, u32>;

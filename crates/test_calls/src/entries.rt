@@ -1,5 +1,5 @@
 //! Entries: whether a closure is called, and the raw entry of a vacant one.
-use crate::few::{Map, map_of, passes_on};
+use crate::few::{Map, is_pair, is_value, map_of, passes_on};
 use hashlink::linked_hash_map::Entry;
 use std::process::ExitCode;
 
@@ -43,7 +43,7 @@ fn put_raw(map: &mut Map, key: u32, value: u32) -> bool {
 
 /// Whether a pair that is put so is found.
 fn is_put_raw(map: &mut Map) -> bool {
-    put_raw(map, 2, 20) & (map.get(&2) == Some(&20))
+    put_raw(map, 2, 20) & is_value(map.get(&2), 20)
 }
 
 #[test]
@@ -51,14 +51,19 @@ fn the_raw_entry_of_a_vacant_entry_takes_a_pair(rt: HostRuntime) -> ExitCode {
     passes_on(map_of(rt.alloc(), &[(1, 10)]), is_put_raw)
 }
 
-/// Counts each word by an entry whose value is 0 at first, and says whether the first was met twice.
-fn counts_from_nothing(map: &mut Map) -> bool {
-    for key in [1, 2, 1] {
-        if let Ok(count) = map.entry(key).or_default() {
-            *count = count.wrapping_add(1);
-        }
+/// Counts a word by an entry whose value is 0 at first.
+fn count(map: &mut Map, word: u32) {
+    if let Ok(count) = map.entry(word).or_default() {
+        *count = count.wrapping_add(1);
     }
-    (map.get(&1) == Some(&2)) & (map.back() == Some((&1, &2)))
+}
+
+/// Counts three words, and says whether the first was met twice.
+fn counts_from_nothing(map: &mut Map) -> bool {
+    for word in [1, 2, 1] {
+        count(map, word);
+    }
+    is_value(map.get(&1), 2) & is_pair(map.back(), 1, 2)
 }
 
 #[test]

@@ -1,5 +1,5 @@
 //! One large run of each container, and of a text.
-use crate::few::{Map, map_of, passes, passes_on, set_of};
+use crate::few::{Map, is_cloned, is_value, map_of, passes, passes_on, set_of};
 use hashlink::run::run_text;
 use hashlink::weighted::WeightedCache;
 use hashlink::{LinkedHashSet, LruCache};
@@ -19,7 +19,7 @@ fn fill(map: &mut Map, bound: u32) {
 /// Whether a map takes each pair, and has the first key and none past the last.
 fn takes_each_pair(map: &mut Map) -> bool {
     fill(map, MANY);
-    (map.len() == 1_100_000) & (map.get(&0) == Some(&0)) & !map.contains_key(&MANY)
+    (map.len() == 1_100_000) & is_value(map.get(&0), 0) & !map.contains_key(&MANY)
 }
 
 #[test]
@@ -28,17 +28,14 @@ fn a_large_map_takes_each_pair(rt: HostRuntime) -> ExitCode {
 }
 
 /// Whether the clone of a map of thousands is equal to it.
-fn is_cloned(map: &mut Map) -> bool {
+fn thousands_are_cloned(map: &mut Map) -> bool {
     fill(map, 5_000);
-    match map.clone() {
-        Ok(clone) => clone == *map,
-        Err(_) => false,
-    }
+    is_cloned(map)
 }
 
 #[test]
 fn a_map_of_thousands_is_cloned(rt: HostRuntime) -> ExitCode {
-    passes_on(map_of(rt.alloc(), &[]), is_cloned)
+    passes_on(map_of(rt.alloc(), &[]), thousands_are_cloned)
 }
 
 /// Whether a set takes each element.

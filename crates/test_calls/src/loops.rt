@@ -4,7 +4,7 @@ ghost use Rattle.hashlink.specs.Entries.{IsEntries};
 ghost use Rattle.hashlink.specs.Keyed.{entries_of};
 ghost use Rattle.hashlink.specs.Reading.{entries_from};
 
-use crate::few::{Map, map_of, passes};
+use crate::few::{Map, is_value, map_of, passes, passes_on};
 use hashlink::LinkedHashMap;
 use std::alloc::{AllocError, Global};
 use std::hash::{BuildHasher, Hash};
@@ -51,15 +51,17 @@ fn count_from<K: Eq + Hash, V, S: BuildHasher>(map: &LinkedHashMap<K, V, S>, key
 /// Whether both loops write, and two entries are counted from the second one on.
 fn writes_each(pairs: &mut Map) -> bool {
     set_each(pairs, 7);
-    let is_set = (pairs.get(&1) == Some(&7)) & (pairs.get(&2) == Some(&7));
+    let is_set = is_value(pairs.get(&1), 7) & is_value(pairs.get(&2), 7);
     copy_keys(pairs);
-    is_set & (pairs.get(&2) == Some(&2)) & (count_from(pairs, &2) == 2)
+    is_set & is_value(pairs.get(&2), 2) & (count_from(pairs, &2) == 2)
 }
 
 #[test]
 fn loops_write_each_value(rt: HostRuntime) -> ExitCode {
-    let mut pairs = map_of(rt.alloc(), &[(1, 10), (2, 20), (3, 30)]);
-    passes(writes_each(&mut pairs))
+    passes_on(
+        map_of(rt.alloc(), &[(1, 10), (2, 20), (3, 30)]),
+        writes_each,
+    )
 }
 
 /// Whether a map's own pairs are these.

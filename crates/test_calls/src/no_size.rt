@@ -1,5 +1,5 @@
 //! Keys and values without size. `large.rt` has caches whose values alone have none.
-use crate::few::{passes, passes_on};
+use crate::few::{holds_of, is_value, passes, passes_on};
 use hashlink::weighted::WeightedCache;
 use hashlink::{LinkedHashMap, LinkedHashSet, LruCache};
 use std::process::ExitCode;
@@ -46,7 +46,7 @@ fn a_set_of_elements_without_size_has_one(rt: HostRuntime) -> ExitCode {
 }
 
 /// Whether two inserts into a cache find nothing, and a read and a removal find none of them.
-fn keeps_nothing(mut cache: LruCache<(), u32>) -> bool {
+fn keeps_nothing(cache: &mut LruCache<(), u32>) -> bool {
     (cache.insert((), 1) == Ok(None))
         & (cache.insert((), 2) == Ok(None))
         & cache.get(&()).is_none()
@@ -54,19 +54,19 @@ fn keeps_nothing(mut cache: LruCache<(), u32>) -> bool {
 }
 
 /// Whether the second of two inserts replaces the first, and a read and a removal find it.
-fn keeps_the_last_value(mut cache: LruCache<(), u32>) -> bool {
+fn keeps_the_last_value(cache: &mut LruCache<(), u32>) -> bool {
     (cache.insert((), 1) == Ok(None))
         & (cache.insert((), 2) == Ok(Some(1)))
-        & (cache.get(&()) == Some(&2))
+        & is_value(cache.get(&()), 2)
         & (cache.remove_lru() == Some(((), 2)))
 }
 
 #[test]
 fn a_cache_of_keys_without_size_has_one_entry_at_most(rt: HostRuntime) -> ExitCode {
     passes(
-        keeps_nothing(LruCache::new(rt.alloc(), 0))
-            & keeps_the_last_value(LruCache::new(rt.alloc(), 1))
-            & keeps_the_last_value(LruCache::new_unbounded(rt.alloc())),
+        holds_of(LruCache::new(rt.alloc(), 0), keeps_nothing)
+            & holds_of(LruCache::new(rt.alloc(), 1), keeps_the_last_value)
+            & holds_of(LruCache::new_unbounded(rt.alloc()), keeps_the_last_value),
     )
 }
 

@@ -4,16 +4,30 @@ use hashlink::{LinkedHashMap, LinkedHashSet, LruCache, TryReserveError};
 use std::alloc::Global;
 use std::process::ExitCode;
 
-/// Whether a map with that room is empty and has it.
-fn map_with_room(alloc: Global, room: usize) -> Result<bool, TryReserveError> {
-    let map = LinkedHashMap::<u32, u32>::with_capacity(alloc, room)?;
-    Ok(map.is_empty() & (map.capacity() >= room))
+/// Whether a map is empty and has that room.
+fn has_room(map: &LinkedHashMap<u32, u32>, room: usize) -> bool {
+    map.is_empty() & (map.capacity() >= room)
 }
 
-/// The same of a set.
+/// Whether a map that is made with that room is and has it.
+fn map_with_room(alloc: Global, room: usize) -> Result<bool, TryReserveError> {
+    match LinkedHashMap::with_capacity(alloc, room) {
+        Ok(map) => Ok(has_room(&map, room)),
+        Err(error) => Err(error),
+    }
+}
+
+/// Whether a set is empty and has that room.
+fn set_has_room(set: &LinkedHashSet<u32>, room: usize) -> bool {
+    set.is_empty() & (set.capacity() >= room)
+}
+
+/// The same of a set that is made with it.
 fn set_with_room(alloc: Global, room: usize) -> Result<bool, TryReserveError> {
-    let set = LinkedHashSet::<u32>::with_capacity(alloc, room)?;
-    Ok(set.is_empty() & (set.capacity() >= room))
+    match LinkedHashSet::with_capacity(alloc, room) {
+        Ok(set) => Ok(set_has_room(&set, room)),
+        Err(error) => Err(error),
+    }
 }
 
 #[test]

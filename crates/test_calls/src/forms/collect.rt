@@ -1,5 +1,5 @@
 //! std's traits: what `collect` makes, what a derive clones, and `extend` by its trait.
-use crate::few::{Map, passes};
+use crate::few::{Map, is_value, passes};
 use hashlink::{LinkedHashMap, LinkedHashSet, LruCache};
 use std::alloc::{AllocError, Global};
 use std::process::ExitCode;
@@ -41,17 +41,19 @@ fn one_to_three(alloc: Global) -> Result<Index, AllocError> {
 /// Whether an index holds as many as it should, and 3 in each part.
 fn holds_three(index: &Index) -> bool {
     (index.values.len() == 3)
-        & (index.values.get(&3) == Some(&3))
+        & is_value(index.values.get(&3), 3)
         & (index.seen.len() == 3)
         & index.seen.contains(&3)
         & (index.recent.len() == 2)
-        & (index.recent.peek(&3) == Some(&3))
+        & is_value(index.recent.peek(&3), 3)
 }
 
-/// Whether a clone holds what it should.
-fn is_cloned(index: &Index) -> bool {
-    match index.clone() {
-        Ok(clone) => holds_three(&clone),
+/// Whether this holds of a clone of a value.
+fn holds_of_clone<T: Clone + Drop, F: FnOnce(&T) -> bool>(value: T, holds: F) -> bool
+    requires { F.IsAlwaysCallable holds }
+{
+    match value.clone() {
+        Ok(clone) => holds(&clone),
         Err(_) => false,
     }
 }
@@ -59,7 +61,7 @@ fn is_cloned(index: &Index) -> bool {
 #[test]
 fn what_holds_containers_is_cloned(rt: HostRuntime) -> ExitCode {
     passes(match one_to_three(rt.alloc()) {
-        Ok(index) => is_cloned(&index),
+        Ok(index) => holds_of_clone(index, holds_three),
         Err(_) => false,
     })
 }

@@ -1,5 +1,5 @@
 //! `?` where an allocation fails.
-use crate::few::{Map, map_of, passes, passes_on};
+use crate::few::{Map, holds_of, map_of, passes, passes_on};
 use hashlink::TryReserveError;
 use std::alloc::{AllocError, AllocFailed, Global};
 use std::error::Error;
@@ -76,7 +76,7 @@ fn has_text<E: Error>(alloc: Global, error: &E) -> bool {
 #[test]
 fn a_refusal_is_an_error(rt: HostRuntime) -> ExitCode {
     passes(
-        is_room_refused(&mut map_of(rt.alloc(), &[]))
-            & has_text(rt.alloc(), &TryReserveError::CapacityOverflow),
+        has_text(rt.alloc(), &TryReserveError::CapacityOverflow)
+            & holds_of(map_of(rt.alloc(), &[]), is_room_refused),
     )
 }

@@ -1,5 +1,5 @@
 //! What stands for a key in a lookup: a text for a `String`, a slice for a `Vec`, a `&K` for a `K`.
-use crate::few::{passes, passes_on};
+use crate::few::{is_value, passes_on, passes_with};
 use hashlink::weighted::WeightedCache;
 use hashlink::{LinkedHashMap, LinkedHashSet, LruCache};
 use std::alloc::Global;
@@ -17,7 +17,7 @@ type Texts = LinkedHashMap<String, u32>;
 
 /// Whether a text and a `String` find the value.
 fn finds_value(map: &Texts, key: &String) -> bool {
-    (map.get("one") == Some(&1)) & (map.get(key) == Some(&1)) & (map.get(key.as_str()) == Some(&1))
+    is_value(map.get("one"), 1) & is_value(map.get(key), 1) & is_value(map.get(key.as_str()), 1)
 }
 
 /// Whether a text finds the entry, and another does not.
@@ -43,39 +43,33 @@ fn finds_all(map: &mut Texts, key: &String) -> bool {
     finds_value(map, key) & finds_entry(map) & moves_entry(map) & removes_entry(map)
 }
 
-/// Whether they do in a map that takes the key.
-fn is_found(map: &mut Texts, key: String, again: &String) -> bool {
-    map.insert(key, 1).is_ok() & finds_all(map, again)
+/// Whether they do in a map that takes another such key.
+fn is_found(map: &mut Texts, key: String) -> bool {
+    map.insert(owned(map.allocator(), "one"), 1).is_ok() & finds_all(map, &key)
 }
 
 #[test]
 fn a_text_finds_its_entry(rt: HostRuntime) -> ExitCode {
-    let key = &owned(rt.alloc(), "one");
-    passes(is_found(
-        &mut LinkedHashMap::new(rt.alloc()),
-        owned(rt.alloc(), "one"),
-        key,
-    ))
+    let key = "one".to_string(rt.alloc());
+    passes_with(LinkedHashMap::new(rt.alloc()), key, is_found)
 }
 
 /// Whether bytes find the value that a map has under them, and no others do.
 fn is_found_by_bytes(map: &mut LinkedHashMap<Vec<u8>, u32>, key: Vec<u8>) -> bool {
     map.insert(key, 1).is_ok()
-        & (map.get(b"one".as_slice()) == Some(&1))
+        & is_value(map.get(b"one".as_slice()), 1)
         & map.get(b"on".as_slice()).is_none()
 }
 
 #[test]
 fn bytes_find_their_entry(rt: HostRuntime) -> ExitCode {
-    passes(match b"one".to_vec(rt.alloc()) {
-        Ok(key) => is_found_by_bytes(&mut LinkedHashMap::new(rt.alloc()), key),
-        Err(_) => false,
-    })
+    let key = b"one".to_vec(rt.alloc());
+    passes_with(LinkedHashMap::new(rt.alloc()), key, is_found_by_bytes)
 }
 
 /// Whether a text and a reference to it find the value in a map of borrowed texts.
 fn is_found_borrowed(map: &mut LinkedHashMap<&'static str, u32>) -> bool {
-    map.insert("one", 1).is_ok() & (map.get("one") == Some(&1)) & (map.get(&"one") == Some(&1))
+    map.insert("one", 1).is_ok() & is_value(map.get("one"), 1) & is_value(map.get(&"one"), 1)
 }
 
 #[test]
@@ -100,14 +94,14 @@ fn is_element_found(set: &mut LinkedHashSet<String>, element: String) -> bool {
 
 #[test]
 fn a_text_finds_its_element(rt: HostRuntime) -> ExitCode {
-    let element = owned(rt.alloc(), "one");
-    passes(is_element_found(&mut LinkedHashSet::new(rt.alloc()), element))
+    let element = "one".to_string(rt.alloc());
+    passes_with(LinkedHashSet::new(rt.alloc()), element, is_element_found)
 }
 
 /// Whether the calls of a text that read find its statement.
 fn reads_statement(cache: &mut LruCache<String, u32>) -> bool {
-    (cache.get("select 1") == Some(&1))
-        & (cache.peek("select 1") == Some(&1))
+    is_value(cache.get("select 1"), 1)
+        & is_value(cache.peek("select 1"), 1)
         & cache.contains_key("select 1")
 }
 
@@ -126,20 +120,20 @@ fn is_statement_found(cache: &mut LruCache<String, u32>, sql: String) -> bool {
 
 #[test]
 fn a_text_finds_its_statement(rt: HostRuntime) -> ExitCode {
-    let sql = owned(rt.alloc(), "select 1");
-    passes(is_statement_found(&mut LruCache::new(rt.alloc(), 2), sql))
+    let sql = "select 1".to_string(rt.alloc());
+    passes_with(LruCache::new(rt.alloc(), 2), sql, is_statement_found)
 }
 
 /// Whether a cache with a budget takes a value, and a text finds it.
 fn is_weighed(cache: &mut WeightedCache<String, u32>, key: String) -> bool {
     cache.insert(key, 1, 1).is_ok()
-        & (cache.get("one") == Some(&1))
-        & (cache.peek("one") == Some(&1))
+        & is_value(cache.get("one"), 1)
+        & is_value(cache.peek("one"), 1)
         & (cache.remove("one") == Some(1))
 }
 
 #[test]
 fn a_text_finds_what_has_a_weight(rt: HostRuntime) -> ExitCode {
-    let key = owned(rt.alloc(), "one");
-    passes(is_weighed(&mut WeightedCache::new(rt.alloc(), 2), key))
+    let key = "one".to_string(rt.alloc());
+    passes_with(WeightedCache::new(rt.alloc(), 2), key, is_weighed)
 }

@@ -1,5 +1,5 @@
 //! Loops, operators, and comparisons of containers.
-use crate::few::{Map, map_of, passes, set_of};
+use crate::few::{Map, holds_of_two, map_of, passes, set_of};
 use hashlink::LinkedHashSet;
 use std::process::ExitCode;
 
@@ -27,7 +27,9 @@ fn are_joined(a: &LinkedHashSet<u32>, b: &LinkedHashSet<u32>) -> bool {
 
 #[test]
 fn sets_are_joined_compared_and_walked(rt: HostRuntime) -> ExitCode {
-    passes(are_joined(&set_of(rt.alloc(), &[1, 2]), &set_of(rt.alloc(), &[2, 3])))
+    let left = set_of(rt.alloc(), &[1, 2]);
+    let right = set_of(rt.alloc(), &[2, 3]);
+    passes(holds_of_two(left, right, are_joined))
 }
 
 /// Whether a map is equal to itself and not less.

@@ -1,31 +1,35 @@
 //! The forms by habit.
-use crate::few::{passes, passes_on};
+use crate::few::{holds_of_two, passes, passes_on};
 use hashlink::{LinkedHashMap, LinkedHashSet, LruCache};
 use hashlink_uses::forms::{
     append, has_cached, has_element, has_value, insert_with_room, pop_each, shared,
 };
 use std::alloc::{AllocError, Global};
+use std::ops::Range;
 use std::process::ExitCode;
 
 type Map = LinkedHashMap<u64, u64>;
 
 /// Inserts a pair, and appends another and one that takes the first one's place.
-fn insert_and_append(alloc: Global, map: &mut Map) -> Result<(), AllocError> {
+fn insert_and_append(map: &mut Map) -> Result<(), AllocError> {
     insert_with_room(map, 1, 10)?;
-    append(map, LinkedHashMap::from_iter(alloc, [(2, 20), (1, 11)])?)
+    append(
+        map,
+        LinkedHashMap::from_iter(map.allocator(), [(2, 20), (1, 11)])?,
+    )
 }
 
 /// Whether a loop over a map finds the values that are there, which are gone once it is emptied.
-fn is_walked(alloc: Global, map: &mut Map) -> Result<bool, AllocError> {
-    insert_and_append(alloc, map)?;
+fn is_walked(map: &mut Map) -> bool {
+    let is_put = insert_and_append(map).is_ok();
     let is_found = has_value(map, &11) & !has_value(map, &10) & (map.len() == 2);
     pop_each(map);
-    Ok(is_found & map.is_empty())
+    is_put & is_found & map.is_empty()
 }
 
 #[test]
 fn a_loop_over_a_map_finds_its_values(rt: HostRuntime) -> ExitCode {
-    passes(is_walked(rt.alloc(), &mut LinkedHashMap::new(rt.alloc())) == Ok(true))
+    passes_on(LinkedHashMap::new(rt.alloc()), is_walked)
 }
 
 /// Whether a loop over a cache finds its value.
@@ -40,20 +44,30 @@ fn a_loop_over_a_cache_finds_its_values(rt: HostRuntime) -> ExitCode {
 
 type Set = LinkedHashSet<u64>;
 
-/// Whether two sets share 3 alone, as a loop over what they share finds.
-fn share_three(left: &Set, right: &Set) -> Result<bool, AllocError> {
-    let both = shared(left, right)?;
-    Ok((both.len() == 1) & has_element(&both, &3) & !has_element(&both, &2))
+/// Whether a set has 3 alone, as a loop over it finds.
+fn is_three(set: &Set) -> bool {
+    (set.len() == 1) & has_element(set, &3) & !has_element(set, &2)
 }
 
-/// Whether a loop over what two sets share finds it.
-fn is_shared(alloc: Global) -> Result<bool, AllocError> {
-    let left = LinkedHashSet::from_iter(alloc, 1u64..4)?;
-    let right = LinkedHashSet::from_iter(alloc, 3u64..6)?;
-    share_three(&left, &right)
+/// Whether two sets share 3 alone.
+fn share_three(left: &Set, right: &Set) -> bool {
+    match shared(left, right) {
+        Ok(both) => is_three(&both),
+        Err(_) => false,
+    }
+}
+
+/// A set of these numbers, or an empty one where there is no memory.
+fn set_of(alloc: Global, numbers: Range<u64>) -> Set {
+    match LinkedHashSet::from_iter(alloc, numbers) {
+        Ok(set) => set,
+        Err(_) => LinkedHashSet::new(alloc),
+    }
 }
 
 #[test]
 fn a_loop_over_a_set_finds_its_elements(rt: HostRuntime) -> ExitCode {
-    passes(is_shared(rt.alloc()) == Ok(true))
+    let left = set_of(rt.alloc(), 1..4);
+    let right = set_of(rt.alloc(), 3..6);
+    passes(holds_of_two(left, right, share_three))
 }

@@ -1,5 +1,5 @@
 //! Calls of a map.
-use crate::few::{passes, passes_on};
+use crate::few::{is_pair, is_value, passes, passes_on};
 use crate::raw_insert::put_number;
 use hashlink::LinkedHashMap;
 use hashlink::linked_hash_map::IntoIter;
@@ -38,7 +38,7 @@ fn first_keys(map: &Map) -> [Option<u64>; 4] {
 fn is_written(map: &mut Map) -> bool {
     write(map, &2, 21)
         & !write(map, &4, 40)
-        & (map.get(&2) == Some(&21))
+        & is_value(map.get(&2), 21)
         & (first_keys(map) == [Some(1), Some(2), Some(3), None])
 }
 
@@ -53,8 +53,8 @@ fn are_moved(map: &mut Map) -> bool {
         & write_to_back(map, &1, 11)
         & !write_to_front(map, &4, 40)
         & !write_to_back(map, &4, 40)
-        & (map.front() == Some((&2, &21)))
-        & (map.back() == Some((&1, &11)))
+        & is_pair(map.front(), 2, 21)
+        & is_pair(map.back(), 1, 11)
 }
 
 #[test]
@@ -78,8 +78,8 @@ fn a_pair_is_put_after_a_key(rt: HostRuntime) -> ExitCode {
 fn is_put_once(map: &mut Map) -> bool {
     (put_new(map, 4, 40) == Ok(true))
         & (put_new(map, 1, 11) == Ok(false))
-        & (map.back() == Some((&4, &40)))
-        & (map.front() == Some((&1, &10)))
+        & is_pair(map.back(), 4, 40)
+        & is_pair(map.front(), 1, 10)
 }
 
 #[test]
@@ -97,8 +97,8 @@ fn count(map: &mut Map, word: u64) -> bool {
 fn are_counted(map: &mut Map) -> bool {
     count(map, 4)
         & count(map, 1)
-        & (map.get(&4) == Some(&1))
-        & (map.get(&1) == Some(&11))
+        & is_value(map.get(&4), 1)
+        & is_value(map.get(&1), 11)
         & (first_keys(map) == [Some(2), Some(3), Some(4), Some(1)])
 }
 
@@ -111,7 +111,7 @@ fn words_are_counted(rt: HostRuntime) -> ExitCode {
 fn takes_absent_number(map: &mut Map) -> bool {
     (put_number(map, 4, 40) == Ok(true))
         & (put_number(map, 4, 41) == Ok(false))
-        & (map.back() == Some((&4, &40)))
+        & is_pair(map.back(), 4, 40)
 }
 
 #[test]
@@ -127,8 +127,8 @@ fn serves_raw_entries(map: &mut Map) -> bool {
         & !write_beside_key(map, &4, 40)
         & (take_by_hash(map, &2) == Some((2, 20)))
         & (take_by_hash(map, &2) == None)
-        & (map.front() == Some((&1, &11)))
-        & (map.back() == Some((&3, &31)))
+        & is_pair(map.front(), 1, 11)
+        & is_pair(map.back(), 3, 31)
 }
 
 #[test]
@@ -141,8 +141,8 @@ fn takes_rest(map: &mut Map, rest: &mut IntoIter<u64, u64>) -> bool {
     (map.insert(3, 33) == Ok(None))
         & (rest.next() == Some((1, 10)))
         & append_rest(map, rest).is_ok()
-        & (map.front() == Some((&2, &20)))
-        & (map.back() == Some((&3, &30)))
+        & is_pair(map.front(), 2, 20)
+        & is_pair(map.back(), 3, 30)
         & (map.len() == 2)
 }
 
@@ -157,9 +157,14 @@ fn the_rest_of_a_map_is_appended(rt: HostRuntime) -> ExitCode {
 }
 
 /// Whether a copy is equal to its map, and has the values 20 and not 21.
+fn is_copy(copy: &Map, map: &Map) -> bool {
+    (*copy == *map) & has_value(copy, &20) & !has_value(copy, &21)
+}
+
+/// Whether a map has such a copy.
 fn is_copied(map: &Map) -> bool {
     match copy_of(map) {
-        Ok(copy) => (copy == *map) & has_value(&copy, &20) & !has_value(&copy, &21),
+        Ok(copy) => is_copy(&copy, map),
         Err(_) => false,
     }
 }

@@ -1,5 +1,5 @@
 //! Calls of a set.
-use crate::few::{passes, passes_on};
+use crate::few::{is_value, passes, passes_on};
 use hashlink::LinkedHashSet;
 use hashlink_uses::everyday::strike;
 use hashlink_uses::sets::{append, copy_of, empty_out, promote};
@@ -18,7 +18,7 @@ fn set_of(alloc: Global, elements: [u64; 3]) -> Set {
 
 /// Whether only a word that is present is moved to the front.
 fn is_promoted(set: &mut Set) -> bool {
-    promote(set, &3) & !promote(set, &4) & (set.front() == Some(&3)) & (set.back() == Some(&2))
+    promote(set, &3) & !promote(set, &4) & is_value(set.front(), 3) & is_value(set.back(), 2)
 }
 
 #[test]
@@ -39,8 +39,8 @@ fn a_word_is_struck(rt: HostRuntime) -> ExitCode {
 /// Whether 4 and 1 are appended to 1, 2 and 3, of which 1 then stands last.
 fn is_appended(set: &mut Set, others: Set) -> bool {
     append(set, others).is_ok()
-        & (set.front() == Some(&2))
-        & (set.back() == Some(&1))
+        & is_value(set.front(), 2)
+        & is_value(set.back(), 1)
         & (set.len() == 4)
 }
 
@@ -50,14 +50,17 @@ fn the_words_of_a_set_are_appended(rt: HostRuntime) -> ExitCode {
     passes(is_appended(&mut set_of(rt.alloc(), [1, 2, 3]), others))
 }
 
-/// Whether a copy stays as it is when its set is emptied.
+/// Whether a copy is equal to its set, and stays as it is when the set is emptied.
+fn outlives(copy: &Set, set: &mut Set) -> bool {
+    let is_equal = *copy == *set;
+    empty_out(set);
+    is_equal & set.is_empty() & (copy.len() == 3)
+}
+
+/// Whether a copy outlives the set.
 fn is_copied(set: &mut Set) -> bool {
     match copy_of(set) {
-        Ok(copy) => {
-            let is_equal = copy == *set;
-            empty_out(set);
-            is_equal & set.is_empty() & (copy.len() == 3)
-        }
+        Ok(copy) => outlives(&copy, set),
         Err(_) => false,
     }
 }

@@ -1,5 +1,5 @@
 //! Names, settings, lines, tasks, commands and retains.
-use crate::few::{passes, passes_on};
+use crate::few::{is_pair, passes, passes_on};
 use hashlink::linked_hash_map::TryInsertError;
 use hashlink::run::Reply;
 use hashlink::{LinkedHashMap, LinkedHashSet, LruCache};
@@ -55,93 +55,104 @@ fn names_at_100(names: &mut Names) -> ([Option<u32>; 3], usize, bool) {
     (found, names.len(), is_www)
 }
 
+/// Whether the names are learnt, and found at that time as they should be.
+fn are_found(alloc: Global, names: &mut Names) -> bool {
+    names_learnt(alloc, names).is_ok()
+        & (names_at_100(names) == ([None, Some(0x0a00_0003), Some(0x0a00_0002)], 2, true))
+}
+
 #[test]
 fn names_are_found_until_they_expire(rt: HostRuntime) -> ExitCode {
-    let Ok(hasher) = RandomState::new(&rt) else {
-        return ExitCode::FAILURE;
-    };
-    let mut names = LruCache::with_hasher(rt.alloc(), 3, hasher);
-    let learnt = names_learnt(rt.alloc(), &mut names).is_ok();
-    let at_100 = names_at_100(&mut names);
-    passes(learnt & (at_100 == ([None, Some(0x0a00_0003), Some(0x0a00_0002)], 2, true)))
+    passes(match RandomState::new(&rt) {
+        Ok(hasher) => are_found(
+            rt.alloc(),
+            &mut LruCache::with_hasher(rt.alloc(), 3, hasher),
+        ),
+        Err(_) => false,
+    })
 }
 
 type Settings = LinkedHashMap<&'static str, &'static str>;
 
-/// Lays the settings of a user over others.
-fn lay_over(alloc: Global, settings: &mut Settings) -> Result<(), AllocError> {
-    let others: Settings = LinkedHashMap::from_iter(
-        alloc,
-        [("tabs", "4"), ("editor", "ed"), ("wrap", "yes")],
-    )?;
-    merge(settings, others).map_err(|_| AllocError)
+type Setting = (&'static str, &'static str);
+
+/// These settings.
+fn settings_of(alloc: Global, settings: &[Setting]) -> Result<Settings, AllocError> {
+    LinkedHashMap::from_iter(alloc, settings.iter().copied())
 }
 
-/// The settings of a user laid over those that a program begins with.
-fn settings_merged(alloc: Global) -> Result<Settings, AllocError> {
-    let mut settings = LinkedHashMap::from_iter(
-        alloc,
-        [("colour", "auto"), ("editor", "vi"), ("pager", "less")],
-    )?;
-    lay_over(alloc, &mut settings)?;
-    Ok(settings)
+/// Lays the settings of a user over others, and returns whether there was memory.
+fn lay_over(alloc: Global, settings: &mut Settings) -> bool {
+    match settings_of(alloc, &[("tabs", "4"), ("editor", "ed"), ("wrap", "yes")]) {
+        Ok(own) => merge(settings, own).is_ok(),
+        Err(_) => false,
+    }
 }
 
 /// Whether these are the settings, in this order.
-fn are_merged(settings: &Settings) -> bool {
-    let wanted = [
+fn are_these(settings: &Settings, wanted: &[Setting]) -> bool {
+    let mut left = settings.iter();
+    let mut all = true;
+    for (key, value) in wanted {
+        all &= is_pair(left.next(), *key, *value);
+    }
+    all & left.next().is_none()
+}
+
+/// Whether a user's settings are laid over those that a program begins with as they should be.
+fn is_laid_over(alloc: Global, settings: &mut Settings) -> bool {
+    let merged = &[
         ("colour", "auto"),
         ("editor", "ed"),
         ("pager", "less"),
         ("tabs", "4"),
         ("wrap", "yes"),
     ];
-    let mut left = settings.iter();
-    for (key, value) in wanted {
-        if left.next() != Some((&key, &value)) {
-            return false;
-        }
-    }
-    left.next().is_none()
+    lay_over(alloc, settings) & are_these(settings, merged)
 }
 
 #[test]
 fn a_setting_keeps_its_place_and_takes_the_other_value(rt: HostRuntime) -> ExitCode {
-    match settings_merged(rt.alloc()) {
-        Ok(settings) => passes(are_merged(&settings)),
-        Err(_) => ExitCode::FAILURE,
-    }
+    let begun_with = &[("colour", "auto"), ("editor", "vi"), ("pager", "less")];
+    passes(match settings_of(rt.alloc(), begun_with) {
+        Ok(mut settings) => is_laid_over(rt.alloc(), &mut settings),
+        Err(_) => false,
+    })
 }
 
 /// What a shell was asked, line by line.
 const HISTORY: &str = "ls\ncd src\nls\nmake\nmake\ncd ..\n\nls\ncd src\n\nexit";
 
-/// Adds a line to a text.
-fn add_line(text: &mut String, line: &str) -> Result<(), AllocError> {
-    text.push_str(line)?;
-    text.push('\n')
+/// Adds a line to a text, and returns whether there was memory.
+fn add_line(text: &mut String, line: &str) -> bool {
+    text.push_str(line).is_ok() & text.push('\n').is_ok()
 }
 
 /// Adds each of the lines.
-fn add_lines(text: &mut String, lines: LinkedHashSet<&str>) -> Result<(), AllocError> {
+fn add_lines(text: &mut String, lines: LinkedHashSet<&str>) -> bool {
+    let mut all = true;
     for line in lines {
-        add_line(text, line)?;
+        all &= add_line(text, line);
     }
-    Ok(())
+    all
 }
 
-/// The lines of the history where they appear first.
-fn lines_of_history(alloc: Global) -> Result<String, AllocError> {
-    let lines = distinct_lines(alloc, HISTORY)?;
-    let mut text = String::new(alloc);
-    add_lines(&mut text, lines)?;
-    Ok(text)
+/// Adds the lines of the history where they appear first.
+fn add_history(alloc: Global, text: &mut String) -> bool {
+    match distinct_lines(alloc, HISTORY) {
+        Ok(lines) => add_lines(text, lines),
+        Err(_) => false,
+    }
+}
+
+/// Whether the lines of the history are these.
+fn is_history(alloc: Global, text: &mut String) -> bool {
+    add_history(alloc, text) & (text.as_str() == "ls\ncd src\nmake\ncd ..\n\nexit\n")
 }
 
 #[test]
 fn a_line_is_shown_where_it_appears_first(rt: HostRuntime) -> ExitCode {
-    passes(lines_of_history(rt.alloc()).is_ok_and(|text| text.as_str()
-        == "ls\ncd src\nmake\ncd ..\n\nexit\n"))
+    passes(is_history(rt.alloc(), &mut String::new(rt.alloc())))
 }
 
 /// Whether three tasks, of which one is added twice, have their turns one after another, and the others once
@@ -165,9 +176,9 @@ fn each_task_has_its_turn(rt: HostRuntime) -> ExitCode {
 }
 
 /// Whether a removal of the one key and an insert of another have the right replies.
-fn is_answered(alloc: Global, map: &mut LinkedHashMap<u32, u32>) -> bool {
+fn is_answered(map: &mut LinkedHashMap<u32, u32>) -> bool {
     let _old = map.insert(1, 10);
-    remove_then_insert(alloc, map, 1, 2, 20).is_ok_and(|replies| {
+    remove_then_insert(map.allocator(), map, 1, 2, 20).is_ok_and(|replies| {
         matches!(
             replies.as_slice(),
             [Reply::Value(Some(10)), Reply::Value(None)]
@@ -177,7 +188,7 @@ fn is_answered(alloc: Global, map: &mut LinkedHashMap<u32, u32>) -> bool {
 
 #[test]
 fn an_insert_after_a_removal_is_answered(rt: HostRuntime) -> ExitCode {
-    passes(is_answered(rt.alloc(), &mut LinkedHashMap::new(rt.alloc())))
+    passes_on(LinkedHashMap::new(rt.alloc()), is_answered)
 }
 
 /// What a cache of two places has for a key that is inserted, for one that is present, and once a third key
@@ -207,9 +218,7 @@ fn is_made_once(cache: &mut LruCache<u32, u32>) -> bool {
     let failed = value_or_made(cache, 1, || Err::<u32, u8>(7));
     let made = value_or_made(cache, 1, || Ok::<u32, u8>(10));
     let kept = value_or_made(cache, 1, || Err::<u32, u8>(8));
-    matches!(failed, Err(TryInsertError::Make(1, 7)))
-        && matches!(made, Ok(10))
-        && matches!(kept, Ok(10))
+    [failed, made, kept] == [Err(TryInsertError::Make(1, 7)), Ok(10), Ok(10)]
 }
 
 #[test]
