@@ -7,6 +7,7 @@ ghost use Rattle.hashlink_model.specs.Algebra.{symmetric_difference_hint, symmet
 ghost use Rattle.hashlink_set.specs.Elements.{elements_in};
 
 use crate::sifted::Difference;
+use hashlink_core::next_of_two;
 use hashlink_map::{DefaultHashBuilder, LinkedHashMap};
 use std::alloc::AllocError;
 use std::fmt;
@@ -53,10 +54,7 @@ impl<'a, T: Eq + Hash, S: BuildHasher> Iterator for SymmetricDifference<'a, T, S
     ghost remaining = { λ s. at_most (length (symmetric_difference_rest T.eq s)) };
 
     fn next(&mut self) -> Option<&'a T> {
-        if let Some(element) = self.first.next() {
-            return Some(element);
-        }
-        self.second.next()
+        next_of_two(&mut self.first, &mut self.second)
     }
 
     fn size_hint(&self) -> (usize, Option<usize>)
