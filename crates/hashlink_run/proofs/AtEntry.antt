@@ -4,8 +4,7 @@ use Rattle.std.proofs.Common.{refl, sym, ap, ap₂, ◌∙◌, subst, arith, len
 use Rattle.std.proofs.Common.{if◌then◌else◌, unwrap_or}
 use Rattle.std.specs.Map.{lookup_entry}
 use Rattle.std.specs.Option.{option_map}
-use Rattle.std.specs.Prelude.{Result, Ok, Err, insert, remove}
-use Rattle.std.specs.Result.{IsErrAnd}
+use Rattle.std.specs.Prelude.{insert, remove}
 use Rattle.std.proofs.lemmas.Option.{none-some, same_Some}
 use Rattle.hashlink_model.specs.Entries.{place_of, moved_at}
 use Rattle.hashlink_model.specs.Entry.{EntryState, entry_of, key_at, value_at, TakesEntry}
@@ -16,8 +15,6 @@ use Rattle.hashlink_model.proofs.Puts.{put_back_absent}
 use Rattle.hashlink_model.proofs.Splits.{stands_from_place, lookup_entry-here, none_from_lookup}
 use Rattle.hashlink_run.specs.declared.commands.EntryStep.{EntryStep}
 use Rattle.hashlink_run.specs.declared.replies.Reply.{Reply}
-use Rattle.hashlink_run.specs.declared.replies.Reply.TheVariants.{Refused}
-use Rattle.hashlink_run.specs.CallReplies.{reply_or_refused}
 use Rattle.hashlink_run.specs.EntrySteps.{OccupiedStep, VacantStep, EntrySteps}
 use Rattle.hashlink_run.proofs.Moved.{lookup_entry-absent}
 
@@ -28,28 +25,18 @@ module _ {K V B S : Type 0} (eq : K → K → Bool) (Says : K → V → B → Ty
       → EntrySteps eq Says m k step replies new
   at_occupied {j} at done =
       let place : place_of (eq k) m.entries ≡ Some j = sym (ap (λ e. e.place) is) ∙ at in
-      let here : OccupiedStep Says m j k step replies new =
-      rw (given, ← ap (λ e. e.map) is, ← ap (λ e. e.key) is) done in
-      rw place here
+      rw (place, given) (subst (λ e. OccupiedStep Says e.map j e.key s replies new) is done)
 
   pub at_vacant : e.place ≡ None → VacantStep eq Says e.map e.key s replies new
       → EntrySteps eq Says m k step replies new
   at_vacant at done =
       let place : place_of (eq k) m.entries ≡ None = sym (ap (λ e. e.place) is) ∙ at in
-      let here : VacantStep eq Says m k step replies new =
-      rw (given, ← ap (λ e. e.map) is, ← ap (λ e. e.key) is) done in
-      rw place here
+      rw (place, given) (subst (λ e. VacantStep eq Says e.map e.key s replies new) is done)
 
 -- with the value that stands where it was lent
 pub added : {K V S : Type 0} {eq : K → K → Bool} {old new : MapState K V S} {k : K} {w v : V} {b : ℕ} → w ≡ v
     → AddsEntry eq old new k w b → AddsEntry eq old new k v b
 added {eq = eq} {old} {new} {k} {b = b} same adds = subst (λ v. AddsEntry eq old new k v b) same adds
-
--- and what was handed back goes on
-pub handed_on : {K V B : Type 0} (r : Result (Reply K V B) (K × V)) (p : K × V) → IsErrAnd r (λ x. x ≡ p)
-    → reply_or_refused r ∷ [] ≡ Refused p.0 p.1 ∷ []
-handed_on (Ok reply) p e = absurd e
-handed_on (Err x) p e = ap (λ x. Refused x.0 x.1 ∷ []) e
 
 -- ---- the pair that is read
 
@@ -137,7 +124,7 @@ taken {K} {V} old new j v value removes = by (slice_get old.entries j) refl valu
 
 -- the pair that went in is the last, and is the one that is read
 module _ {K V S : Type 0} (eq : K → K → Bool) {m : MapState K V S} {k : K} {e : EntryState K V S}
-    (is : e ≡ entry_of eq m k) (new : MapState K V S) (v : V) (p : ℕ) (pair : K × V) where
+    (is : e ≡ entry_of eq m k) {new : MapState K V S} {v : V} {p : ℕ} {pair : K × V} where
   pub read_new : AddsEntry eq e.map new e.key v (length e.map.entries) → p ≡ length e.map.entries
       → slice_get new.entries p ≡ Some pair
       → (pair ≡ (e.key, v)) × (unwrap_or (lookup_entry (eq k) m.entries) (k, v) ≡ pair)

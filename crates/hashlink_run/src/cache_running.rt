@@ -48,7 +48,7 @@ where
 {
     let mut replies = Vec::with_capacity(cache.allocator(), commands.len())?;
     for command in commands {
-        replies.push(answer_cache(cache, command, keep))?;
+        replies.push_reserved(answer_cache(cache, command, keep));
     }
 
     // What `len` says of every cache, that no two keys are equal, is said of this one.

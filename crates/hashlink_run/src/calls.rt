@@ -1,5 +1,5 @@
 //! Calls of caches in turn, which end if memory runs out.
-ghost use Rattle.std.specs.Prelude.{◌≡◌, ◌≤◌, [], ◌∷◌, map, IfOk, IsOk, OnOk, OnErr};
+ghost use Rattle.std.specs.Prelude.{◌≡◌, ◌≤◌, [], ◌∷◌, ◌++◌, map, Option, IfOk, IsOk, OnOk, OnErr};
 ghost use Rattle.hashlink_core.specs.Hashing.{default_builder};
 ghost use Rattle.hashlink_lru.specs.Cached.{entries_of, state_of};
 ghost use Rattle.hashlink_model.specs.Cache.{CacheUses};
@@ -111,10 +111,10 @@ where
     ensures distinct { IfOk result (λ uses. IsEntries K.eq (entries_of uses.cache)) }
     ensures none { pairs.now ≡ [] → IsOk result }
 {
-    let mut cache = LruCache::new(alloc, capacity);
     let mut replies = Vec::with_capacity(alloc, pairs.len())?;
+    let mut cache = LruCache::new(alloc, capacity);
     for (key, value) in pairs {
-        replies.push(answer_call(&mut cache, PairCommand::Use(*key, *value))?)?;
+        push_answer(&mut cache, PairCommand::Use(*key, *value), &mut replies)?;
     }
     Ok(Uses { cache, replies })
 }
@@ -132,12 +132,29 @@ where
         ran.1.items (state_of ran.0)) }
     ensures none { commands.now ≡ [] → IsOk result }
 {
-    let mut cache = LruCache::new(alloc, capacity);
     let mut replies = Vec::with_capacity(alloc, commands.len())?;
+    let mut cache = LruCache::new(alloc, capacity);
     for command in commands {
-        replies.push(answer_call(&mut cache, *command)?)?;
+        push_answer(&mut cache, *command, &mut replies)?;
     }
     Ok((cache, replies))
+}
+
+// Runs the command on the cache, and pushes what the method returns.
+fn push_answer<K, V>(
+    cache: &mut LruCache<K, V>,
+    command: PairCommand<K, V>,
+    replies: &mut Vec<Option<V>>,
+) -> Result<(), AllocError>
+where
+    K: Eq + Hash + Copy,
+    V: Copy,
+    ensures answered { OnOk result ((answer : Option V)
+        × EventStep K.eq (state_of cache.old) (event_of command) (answer ∷ []) (state_of cache.new)
+        × (replies.new.items ≡ replies.old.items ++ answer ∷ [])) }
+{
+    replies.push(answer_call(cache, command)?)?;
+    Ok(())
 }
 
 /// Runs the command on the cache and returns what the method returns that it names. It costs what that method

@@ -146,7 +146,7 @@ where
 }
 
 // Runs the command on the map and pushes its replies, for which there is room.
-fn answer_in_room<K, V, S, B, F, G>(
+pub(crate) fn answer_in_room<K, V, S, B, F, G>(
     map: &mut LinkedHashMap<K, V, S>,
     command: Command<K, V>,
     says: &F,
@@ -264,7 +264,8 @@ where
     F: FnMut(&K, &mut V) -> bool,
     requires callable { CallableOnEachPair (CalledAtPair F.FnMut) (TakesPair F.FnMut) keep
         (entries_of map.old) }
-    ensures { (end : F) × RetainsInOrder (CalledAtPair F.FnMut) keep (state_of map.old) (state_of map.new) end }
+    ensures { (end : F) × RetainsInOrder (CalledAtPair F.FnMut) keep (state_of map.old) (state_of map.new)
+        end }
 {
     map.retain(keep);
 }

@@ -2,7 +2,6 @@
 ghost use Rattle.std.specs.Prelude.{◌≡◌, [], ◌∷◌, Some, slice_get};
 ghost use Rattle.hashlink_core.specs.Keyed.{state_of};
 ghost use Rattle.hashlink_map.specs.Entry.{occupied_map, occupied_place, occupied_state};
-ghost use Rattle.hashlink_run.specs.CallReplies.{reply_or_refused};
 ghost use Rattle.hashlink_run.specs.EntrySteps.{EntrySteps, ReadAtEntry};
 ghost use Rattle.hashlink_run.specs.Reads.{CallableOn, ClosureSays, SaysOf};
 
@@ -28,70 +27,51 @@ where
     ensures { EntrySteps K.eq (ClosureSays F.Fn says.now) (state_of map.old) key step (result ∷ [])
         (state_of map.new) }
 {
-    match done_at_entry(map, key, step, says) {
-        Ok(reply) => reply,
-        Err((key, value)) => Reply::Refused(key, value),
-    }
-}
-
-// Returns the reply to the step, or the pair if it is not inserted. An occupied entry that no method has
-// consumed ends by its `into_key`: if it went out of scope with a key of any type, nothing would be known of
-// the map.
-fn done_at_entry<K, V, S, B, F>(
-    map: &mut LinkedHashMap<K, V, S>,
-    key: K,
-    step: EntryStep<V>,
-    says: &F,
-) -> Result<Reply<K, V, B>, (K, V)>
-where
-    K: Eq + Hash + Drop,
-    V: Drop,
-    S: BuildHasher,
-    F: Fn(&K, &V) -> B,
-    requires says { CallableOn F.Fn says.now (ReadAtEntry K.eq (state_of map.old) key step) }
-    ensures { EntrySteps K.eq (ClosureSays F.Fn says.now) (state_of map.old) key step
-        (reply_or_refused result ∷ []) (state_of map.new) }
-{
+    // An occupied entry that no method has consumed ends by its `into_key`: if it went out of scope with a
+    // key of any type, nothing would be known of the map.
     match map.entry(key) {
         Entry::Occupied(mut entry) => match step {
-            EntryStep::Get => Ok(Reply::Seen(Some(said_of_entry(entry, says)))),
+            EntryStep::Get => Reply::Seen(Some(said_of_entry(entry, says))),
             EntryStep::OrInsert(_) | EntryStep::ToBack => {
                 entry.to_back();
-                Ok(Reply::Seen(Some(said_of_entry(entry, says))))
+                Reply::Seen(Some(said_of_entry(entry, says)))
             }
             EntryStep::Insert(value) => {
                 let old = entry.insert(value);
                 entry.into_key();
-                Ok(Reply::Value(Some(old)))
+                Reply::Value(Some(old))
             }
-            EntryStep::InsertEntry(value) => Ok(Reply::Pair(Some(entry.insert_entry(value)))),
-            EntryStep::ReplaceEntry(value) => Ok(Reply::Pair(Some(entry.replace_entry(value)))),
-            EntryStep::ReplaceKey => Ok(Reply::Key(Some(entry.replace_key()))),
+            EntryStep::InsertEntry(value) => Reply::Pair(Some(entry.insert_entry(value))),
+            EntryStep::ReplaceEntry(value) => Reply::Pair(Some(entry.replace_entry(value))),
+            EntryStep::ReplaceKey => Reply::Key(Some(entry.replace_key())),
             EntryStep::ToFront => {
                 entry.to_front();
-                Ok(Reply::Seen(Some(said_of_entry(entry, says))))
+                Reply::Seen(Some(said_of_entry(entry, says)))
             }
-            EntryStep::Remove => Ok(Reply::Value(Some(entry.remove()))),
-            EntryStep::RemoveEntry => Ok(Reply::Pair(Some(entry.remove_entry()))),
+            EntryStep::Remove => Reply::Value(Some(entry.remove())),
+            EntryStep::RemoveEntry => Reply::Pair(Some(entry.remove_entry())),
         },
+        // What an insert lends or hands back is bound whole, so that it is known what becomes of the map.
         Entry::Vacant(entry) => match step {
-            EntryStep::Get | EntryStep::ToFront | EntryStep::ToBack => Ok(Reply::Seen(None)),
-            EntryStep::OrInsert(value) => {
-                let inserted = entry.insert_entry(value)?;
-                let (key, value) = inserted.get_key_value();
-                Ok(Reply::Inserted(says(key, value)))
-            }
-            EntryStep::Insert(value) => {
-                entry.insert(value)?;
-                Ok(Reply::Value(None))
-            }
-            EntryStep::InsertEntry(value) => {
-                entry.insert(value)?;
-                Ok(Reply::Pair(None))
-            }
-            EntryStep::ReplaceEntry(_) | EntryStep::RemoveEntry => Ok(Reply::Pair(None)),
-            EntryStep::ReplaceKey => Ok(Reply::Key(None)),
-            EntryStep::Remove => Ok(Reply::Value(None)),
+            EntryStep::Get | EntryStep::ToFront | EntryStep::ToBack => Reply::Seen(None),
+            EntryStep::OrInsert(value) => match entry.insert_entry(value) {
+                Ok(inserted) => {
+                    let (key, value) = inserted.get_key_value();
+                    Reply::Inserted(says(key, value))
+                }
+                Err(pair) => Reply::Refused(pair.0, pair.1),
+            },
+            EntryStep::Insert(value) => match entry.insert(value) {
+                Ok(_value) => Reply::Value(None),
+                Err(pair) => Reply::Refused(pair.0, pair.1),
+            },
+            EntryStep::InsertEntry(value) => match entry.insert(value) {
+                Ok(_value) => Reply::Pair(None),
+                Err(pair) => Reply::Refused(pair.0, pair.1),
+            },
+            EntryStep::ReplaceEntry(_) | EntryStep::RemoveEntry => Reply::Pair(None),
+            EntryStep::ReplaceKey => Reply::Key(None),
+            EntryStep::Remove => Reply::Value(None),
         },
     }
 }

@@ -6,7 +6,8 @@ ghost use Rattle.hashlink_model.specs.Entries.{IsEntries};
 ghost use Rattle.hashlink_run.specs.Reads.{CallableOn, ClosureSays};
 ghost use Rattle.hashlink_run.specs.Run.{LawfulRun, ShownBy, keeps_nodes, reply_total};
 
-use crate::{Command, Reply, answer_command, reply_count};
+use crate::commands::answer_in_room;
+use crate::{Command, Reply, reply_count};
 use hashlink_map::LinkedHashMap;
 use std::alloc::AllocError;
 use std::hash::{BuildHasher, Hash};
@@ -53,7 +54,7 @@ where
 {
     let mut replies = Vec::with_capacity(map.allocator(), reply_total(&commands)?)?;
     for command in commands {
-        answer_command(map, command, keep, keep, &mut replies)?;
+        answer_in_room(map, command, keep, keep, &mut replies);
     }
 
     // What `len` says of every map, that no two keys are equal, is said of this one.

@@ -21,10 +21,10 @@ pub loop-command-preserved : goal.loop-command-preserved
 loop-command-preserved g c =
     let so_far = c.loop-command.invariant in
     let left = c.in-Some.ensures.steps.0 in (
-      rw c.in_ok-push.ensures.items
+      rw c.push_reserved.ensures.items
           (HasAnswered-more (CacheStep g.K.PartialEq.eq (ClosureSays g.F.Fn c.args.keep.now)) _ _ _ _
           (rw left at so_far.0) c.answer_cache.ensures),
-      omega (arith, so_far.1, ap length left, c.in_ok-push.ensures.len, c.in_ok-push.ensures.capacity),
+      omega (arith, so_far.1, ap length left, c.push_reserved.ensures.len, c.push_reserved.ensures.capacity),
       λ pair shown. (rw left at so_far.2) pair
           (record { comes = inr (record { replies = _; state = _ }, c.answer_cache.ensures, shown.comes) }),
     )
@@ -33,14 +33,8 @@ pub answer_cache-requires : goal.answer_cache-requires
 answer_cache-requires g c = λ pair read.
     (rw c.in-Some.ensures.steps.0 at c.loop-command.invariant.2) pair (record { comes = inl read })
 
-pub returns-in_err-push-clause-refused : goal.returns-in_err-push-clause-refused
-returns-in_err-push-clause-refused g c =
-    absurd (omega (
-      arith,
-      c.loop-command.invariant.1,
-      ap length c.in-Some.ensures.steps.0,
-      c.in_err-push.ensures.full,
-    ))
+pub push_reserved-requires : goal.push_reserved-requires
+push_reserved-requires g c = omega (arith, c.loop-command.invariant.1, ap length c.in-Some.ensures.steps.0)
 
 pub returns-clause-ran : goal.returns-clause-ran
 returns-clause-ran g c =

@@ -15,7 +15,8 @@ reads_of eq old pair given of_arm is read =
     record { reads = subst (λ command. CommandReads eq old command pair) (sym is) read }
 
 pub answer_use-requires : goal.answer_use-requires
-answer_use-requires g c = record { says = λ pair read. c.requires pair (reads_of _ _ pair _ _ c.in-Use.is read) }
+answer_use-requires g c =
+    record { says = λ pair read. c.requires pair (reads_of _ _ pair _ _ c.in-Use.is read) }
 
 pub reply_of_entry-requires : goal.reply_of_entry-requires
 reply_of_entry-requires g c = record {
@@ -27,7 +28,8 @@ reply_of_entry-requires g c = record {
 }
 
 pub said_of_get-requires : goal.said_of_get-requires
-said_of_get-requires g c = record { says = λ pair read. c.requires pair (reads_of _ _ pair _ _ c.in-Get.is read) }
+said_of_get-requires g c =
+    record { says = λ pair read. c.requires pair (reads_of _ _ pair _ _ c.in-Get.is read) }
 
 pub said_of-requires : goal.said_of-requires
 said_of-requires g c = record {

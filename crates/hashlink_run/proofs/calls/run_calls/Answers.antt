@@ -12,9 +12,9 @@ pub loop-command-preserved : goal.loop-command-preserved
 loop-command-preserved g c =
     let rest = rest_from event_of c.args.commands.now c.loop-command.command-index _ c.loop-command-test.true
     c.command-item.is in
-    rw c.in_ok-push.ensures.items
-    (HasAnswered-more (EventStep g.K.PartialEq.eq) _ _ _ _ (rw rest at c.loop-command.invariant)
-    c.in_ok-answer_call.ensures.answered)
+    let pushed = c.in_ok-push_answer.ensures.answered in
+    rw pushed.2
+    (HasAnswered-more (EventStep g.K.PartialEq.eq) _ _ _ _ (rw rest at c.loop-command.invariant) pushed.1)
 
 pub returns-clause-ran : goal.returns-clause-ran
 returns-clause-ran g c =

@@ -13,9 +13,9 @@ pub loop-key-preserved : goal.loop-key-preserved
 loop-key-preserved g c =
     let rest = rest_from use_of c.args.pairs.now c.loop-key.key-index _ c.loop-key-test.true
     c.loop-key-item.is in
-    rw c.in_ok-push.ensures.items
-    (HasAnswered-more (EventStep g.K.PartialEq.eq) _ _ _ _ (rw rest at c.loop-key.invariant)
-    c.in_ok-answer_call.ensures.answered)
+    let pushed = c.in_ok-push_answer.ensures.answered in
+    rw pushed.2
+    (HasAnswered-more (EventStep g.K.PartialEq.eq) _ _ _ _ (rw rest at c.loop-key.invariant) pushed.1)
 
 pub returns-clause-ran : goal.returns-clause-ran
 returns-clause-ran g c =

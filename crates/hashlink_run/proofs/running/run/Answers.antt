@@ -1,4 +1,4 @@
-use Rattle.std.proofs.Common.{◌≡◌, true, false, inl, inr, is_ok, ap, sym, ◌∙◌, arith}
+use Rattle.std.proofs.Common.{inl, inr, ap, sym, ◌∙◌, arith}
 use Rattle.std.specs.Vec.Iter.{into_iter_items}
 use Rattle.hashlink_run.specs.Run.{reply_total}
 use Rattle.hashlink_run.proofs.Chains.{spare_at_the_end, stays_within_peak, takes_keys_where_shorter}
@@ -24,7 +24,7 @@ pub loop-command-preserved : goal.loop-command-preserved
 loop-command-preserved g c =
     let so_far = c.loop-command.invariant in
     let left = c.in-Some.ensures.steps.0 in
-    let ensures = c.in_ok-answer_command.ensures in
+    let ensures = c.answer_in_room.ensures in
     let answered = ensures.answered in (
       rw answered.2 (HasAnswered-more _ _ _ _ _ (rw left at so_far.0) answered.1),
       omega (arith, so_far.1, ap reply_total left, ensures.count, ensures.capacity),
@@ -32,21 +32,17 @@ loop-command-preserved g c =
           (record { comes = inr (record { replies = _; state = _ }, answered.1, shown.comes) }),
     )
 
-pub answer_command-requires-clause-says : goal.answer_command-requires-clause-says
-answer_command-requires-clause-says g c = λ pair read.
+pub answer_in_room-requires-clause-says : goal.answer_in_room-requires-clause-says
+answer_in_room-requires-clause-says g c = λ pair read.
     (rw c.in-Some.ensures.steps.0 at c.loop-command.invariant.2) pair (record { comes = inl (inl read) })
 
-pub answer_command-requires-clause-keep : goal.answer_command-requires-clause-keep
-answer_command-requires-clause-keep g c = λ pair asked.
+pub answer_in_room-requires-clause-keep : goal.answer_in_room-requires-clause-keep
+answer_in_room-requires-clause-keep g c = λ pair asked.
     (rw c.in-Some.ensures.steps.0 at c.loop-command.invariant.2) pair (record { comes = inl (inr asked) })
 
-pub returns-in_err-answer_command-clause-refused : goal.returns-in_err-answer_command-clause-refused
-returns-in_err-answer_command-clause-refused g c =
-    let left = c.in-Some.ensures.steps.0 in
-    let answered : is_ok c.answer_command.result ≡ true =
-    c.answer_command.ensures.room (omega (arith, c.loop-command.invariant.1, ap reply_total left)) in
-    let failed : is_ok c.answer_command.result ≡ false = ap is_ok c.in_err-answer_command.was in
-    absurd (let both : true ≡ false = sym answered ∙ failed in cc)
+pub answer_in_room-requires-clause-room : goal.answer_in_room-requires-clause-room
+answer_in_room-requires-clause-room g c =
+    omega (arith, c.loop-command.invariant.1, ap reply_total c.in-Some.ensures.steps.0)
 
 pub returns-clause-ran : goal.returns-clause-ran
 returns-clause-ran g c =

@@ -1,13 +1,11 @@
 use Rattle.std.proofs.Common.{rules, [], ◌∷◌, Some, None, refl, sym, ap, ◌∙◌, is_ok, Ok, Err, ⊎_elim}
 use Rattle.std.specs.Map.Iter.{deref_pair}
 use Rattle.hashlink_core.specs.Keyed.{state_of}
-use Rattle.hashlink_map.specs.RawEntry.{raw_place}
-use Rattle.hashlink_run.specs.declared.replies.Reply.TheVariants.{Value, Pair, Seen, Inserted}
-use Rattle.hashlink_run.specs.CallReplies.{reply_or_refused}
+use Rattle.hashlink_run.specs.declared.replies.Reply.TheVariants.{Value, Pair, Seen, Inserted, Refused}
 use Rattle.hashlink_run.specs.Reads.{ClosureSays}
-use Rattle.hashlink_run.proofs.AtEntry.{at_occupied, at_vacant, added, handed_on, taken, read_new}
+use Rattle.hashlink_run.proofs.AtEntry.{at_occupied, at_vacant, added, taken, read_new}
 use Rattle.hashlink_run.proofs.AtEntry.{there, there_at_end, there_at_front}
-use Rattle.hashlink_run.proofs.entries.done_at_entry.Goals as goal
+use Rattle.hashlink_run.proofs.entries.reply_of_entry.Goals as goal
 
 pub said_of_entry-requires : goal.said_of_entry-requires
 said_of_entry-requires g c = record {
@@ -93,35 +91,19 @@ returns-in-Occupied g c =
 
 pub says-requires : goal.says-requires
 says-requires g c =
-    let inserted = c.in_ok-inserted-in-OrInsert-step.inserted in
-    let done = c.in_ok-inserted-in-OrInsert-step.ensures in
-    let pair = deref_pair c.get_key_value.result in
-    let new =
-    read_new g.K.PartialEq.eq c.in-Vacant.ensures.entry (state_of inserted.map.now) c.in-OrInsert-step.value
-    (raw_place inserted) pair done.adds done.last c.get_key_value.ensures in
-    c.requires.says pair (rw c.in-OrInsert-step.is new.1) c.get_key_value.result.0 c.get_key_value.result.1 refl
-    refl
-
-pub returns-in_err-inserted-in-OrInsert-step : goal.returns-in_err-inserted-in-OrInsert-step
-returns-in_err-inserted-in-OrInsert-step g c =
-    let lent = c.insert_entry-in-OrInsert-step.follows in
-    let refused = c.in_err-inserted-in-OrInsert-step in
-    let back = c.from_residual in
-    let step =
-    at_vacant g.K.PartialEq.eq (ClosureSays g.F.Fn c.args.says.now) c.in-Vacant.ensures.entry
-    c.in-OrInsert-step.is (reply_or_refused back.result ∷ []) (state_of lent.lender-at-none) refl
-    (Err refused.field-0.0, rw refused.was at lent.holds-at-none, handed_on _ _ back.ensures.1) in
-    search rules
-
-pub returns-in-OrInsert-step : goal.returns-in-OrInsert-step
-returns-in-OrInsert-step g c =
-    let Says = ClosureSays g.F.Fn c.args.says.now in
-    let inserted = c.in_ok-inserted-in-OrInsert-step.inserted in
-    let done = c.in_ok-inserted-in-OrInsert-step.ensures in
     let pair = c.get_key_value.result in
     let new =
-    read_new g.K.PartialEq.eq c.in-Vacant.ensures.entry (state_of inserted.map.now) c.in-OrInsert-step.value
-    (raw_place inserted) (deref_pair pair) done.adds done.last c.get_key_value.ensures in
+    read_new g.K.PartialEq.eq c.in-Vacant.ensures.entry c.in-Ok.ensures.adds c.in-Ok.ensures.last
+    c.get_key_value.ensures in
+    c.requires.says (deref_pair pair) (rw c.in-OrInsert-step.is new.1) pair.0 pair.1 refl refl
+
+pub returns-in-Ok : goal.returns-in-Ok
+returns-in-Ok g c =
+    let Says = ClosureSays g.F.Fn c.args.says.now in
+    let adds = c.in-Ok.ensures.adds in
+    let pair = c.get_key_value.result in
+    let new =
+    read_new g.K.PartialEq.eq c.in-Vacant.ensures.entry adds c.in-Ok.ensures.last c.get_key_value.ensures in
     let said : Says c.in-Vacant.entry.key c.in-OrInsert-step.value c.says.result =
     record {
       key = pair.0;
@@ -131,50 +113,58 @@ returns-in-OrInsert-step g c =
     } in
     let step =
     at_vacant g.K.PartialEq.eq Says c.in-Vacant.ensures.entry c.in-OrInsert-step.is
-    (Inserted c.says.result ∷ []) (state_of inserted.map.now) refl
-    (Ok tt, done.adds, (c.says.result, said, refl)) in
+    (Inserted c.says.result ∷ []) (state_of c.in-Ok.inserted.map.now) refl
+    (Ok tt, adds, (c.says.result, said, refl)) in
     search rules
 
-pub returns-in_err-insert-in-Insert-step : goal.returns-in_err-insert-in-Insert-step
-returns-in_err-insert-in-Insert-step g c =
-    let lent = c.insert.follows in
-    let refused = c.in_err-insert-in-Insert-step in
-    let back = c.from_residual-in_err-insert-in-Insert-step in
+pub returns-in-OrInsert-step : goal.returns-in-OrInsert-step
+returns-in-OrInsert-step g c =
+    let lent = c.insert_entry-in-OrInsert-step.follows in
+    let pair = c.in-Err.pair in
     let step =
     at_vacant g.K.PartialEq.eq (ClosureSays g.F.Fn c.args.says.now) c.in-Vacant.ensures.entry
-    c.in-Insert-step.is (reply_or_refused back.result ∷ []) (state_of lent.lender-at-none) refl
-    (Err refused.field-0.0, rw refused.was at lent.holds-at-none, handed_on _ _ back.ensures.1) in
+    c.in-OrInsert-step.is (Refused pair.0 pair.1 ∷ []) (state_of lent.lender-at-none) refl
+    (Err pair, rw c.in-Err.is at lent.holds-at-none, refl) in
+    search rules
+
+pub returns-in-Ok-insert : goal.returns-in-Ok-insert
+returns-in-Ok-insert g c =
+    let lent = c.insert.follows in
+    let value = c.in-Ok-insert._value.now in
+    let adds = lent.holds value (ap is_ok c.in-Ok-insert.is) in
+    let step =
+    at_vacant g.K.PartialEq.eq (ClosureSays g.F.Fn c.args.says.now) c.in-Vacant.ensures.entry
+    c.in-Insert-step.is (Value None ∷ []) (state_of (lent.lender value)) refl
+    (Ok tt, added c.in-Ok-insert.ensures.value adds, refl) in
     search rules
 
 pub returns-in-Insert-step : goal.returns-in-Insert-step
 returns-in-Insert-step g c =
     let lent = c.insert.follows in
-    let value = c.in_ok-insert-in-Insert-step.field-0.now in
-    let adds = lent.holds value (ap is_ok c.in_ok-insert-in-Insert-step.was) in
+    let pair = c.in-Err-insert.pair in
     let step =
     at_vacant g.K.PartialEq.eq (ClosureSays g.F.Fn c.args.says.now) c.in-Vacant.ensures.entry
-    c.in-Insert-step.is (Value None ∷ []) (state_of (lent.lender value)) refl
-    (Ok tt, added c.in_ok-insert-in-Insert-step.ensures.value adds, refl) in
+    c.in-Insert-step.is (Refused pair.0 pair.1 ∷ []) (state_of lent.lender-at-none) refl
+    (Err pair, rw c.in-Err-insert.is at lent.holds-at-none, refl) in
     search rules
 
-pub returns-in_err-insert-in-InsertEntry-step : goal.returns-in_err-insert-in-InsertEntry-step
-returns-in_err-insert-in-InsertEntry-step g c =
+pub returns-in-Ok-insert-2 : goal.returns-in-Ok-insert-2
+returns-in-Ok-insert-2 g c =
     let lent = c.insert-in-InsertEntry-step.follows in
-    let refused = c.in_err-insert-in-InsertEntry-step in
-    let back = c.from_residual-in_err-insert-in-InsertEntry-step in
+    let value = c.in-Ok-insert-2._value.now in
+    let adds = lent.holds value (ap is_ok c.in-Ok-insert-2.is) in
     let step =
     at_vacant g.K.PartialEq.eq (ClosureSays g.F.Fn c.args.says.now) c.in-Vacant.ensures.entry
-    c.in-InsertEntry-step.is (reply_or_refused back.result ∷ []) (state_of lent.lender-at-none) refl
-    (Err refused.field-0.0, rw refused.was at lent.holds-at-none, handed_on _ _ back.ensures.1) in
+    c.in-InsertEntry-step.is (Pair None ∷ []) (state_of (lent.lender value)) refl
+    (Ok tt, added c.in-Ok-insert-2.ensures.value adds, refl) in
     search rules
 
 pub returns-in-InsertEntry-step : goal.returns-in-InsertEntry-step
 returns-in-InsertEntry-step g c =
     let lent = c.insert-in-InsertEntry-step.follows in
-    let value = c.in_ok-insert-in-InsertEntry-step.field-0.now in
-    let adds = lent.holds value (ap is_ok c.in_ok-insert-in-InsertEntry-step.was) in
+    let pair = c.in-Err-insert-2.pair in
     let step =
     at_vacant g.K.PartialEq.eq (ClosureSays g.F.Fn c.args.says.now) c.in-Vacant.ensures.entry
-    c.in-InsertEntry-step.is (Pair None ∷ []) (state_of (lent.lender value)) refl
-    (Ok tt, added c.in_ok-insert-in-InsertEntry-step.ensures.value adds, refl) in
+    c.in-InsertEntry-step.is (Refused pair.0 pair.1 ∷ []) (state_of lent.lender-at-none) refl
+    (Err pair, rw c.in-Err-insert-2.is at lent.holds-at-none, refl) in
     search rules
