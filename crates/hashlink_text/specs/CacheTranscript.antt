@@ -9,7 +9,7 @@ use Rattle.hashlink_text.specs.declared.cache_line.CacheLine.TheVariants.{Do, Le
 use Rattle.hashlink_run.specs.declared.replies.Reply.{Reply}
 use Rattle.hashlink_run.specs.CacheCalls.{event_of}
 use Rattle.hashlink_run.specs.CacheStep.{CacheStep}
-use Rattle.hashlink_text.specs.Transcript.{Itself, ended, shown_by, list_shown, replies_shown}
+use Rattle.hashlink_text.specs.Transcript.{Itself, ShowsAll, ended, shown_by, list_shown, replies_shown}
 
 module _ {S : Type 0} where
   -- from old, this text may answer what a line says, and the cache goes on to new; a bad line changes nothing
@@ -36,6 +36,10 @@ answers_shown held command =
     shown_by decimal (answer_to nat_eq held.0 (event_of command))
     ++ (32 ∷ shown_by decimal (answer_to nat_eq held.1 (event_of command)))
 
+-- what both hold, a line for each
+abbrev pub lists_shown : TwoLists → List ℕ
+lists_shown held = ended (list_shown held.0) ++ ended (list_shown held.1)
+
 module _ (c d : ℕ) where
   -- of two caches of capacities c and d, none of whose inserts is refused
   abbrev pub PairShows : TwoLists → Option (PairCommand ℕ ℕ) → List ℕ → TwoLists → Type 0
@@ -48,6 +52,8 @@ module _ (c d : ℕ) where
   PairLineShows old line text new =
       (said : Option (PairCommand ℕ ℕ)) × Says pair_spelled line said × PairShows old said text new
 
--- what both hold, a line for each
-abbrev pub lists_shown : TwoLists → List ℕ
-lists_shown held = ended (list_shown held.0) ++ ended (list_shown held.1)
+  -- an answer to the lines from old on, and what both hold at the end
+  abbrev pub PairRun : TwoLists → List (List ℕ) → List ℕ → Type 0
+  PairRun old lines text =
+      (answers : List ℕ) × (new : TwoLists) × ShowsAll PairLineShows old lines answers new
+      × (text ≡ answers ++ lists_shown new)

@@ -1,5 +1,5 @@
 -- What `run_text` answers, and what `serve` writes.
-use Rattle.std.specs.Prelude.{◌≡◌, ℕ, List, [], ◌∷◌, ◌++◌, codes, Option, None, Some}
+use Rattle.std.specs.Prelude.{◌≡◌, ℕ, List, [], ◌∷◌, codes, Option, None, Some}
 use Rattle.std.specs.Io.KnownBytes.{Appends}
 use Rattle.hashlink_model.specs.Cache.{CacheState}
 use Rattle.hashlink_model.specs.MapState.{MapState, empty_map}
@@ -11,7 +11,7 @@ use Rattle.hashlink_text.specs.Lines.{lines_of}
 use Rattle.hashlink_text.specs.Spelling.{Says, mode_spelled}
 use Rattle.hashlink_text.specs.declared.modes.Mode.{Mode}
 use Rattle.hashlink_text.specs.declared.modes.Mode.TheVariants.{Map, Cache, Pair, Weighted}
-use Rattle.hashlink_text.specs.CacheTranscript.{CacheLineShows, TwoLists, PairLineShows, lists_shown}
+use Rattle.hashlink_text.specs.CacheTranscript.{CacheLineShows, PairRun}
 use Rattle.hashlink_text.specs.Transcript.{LineShows, ShowsAll, ended}
 use Rattle.hashlink_text.specs.WeightedTranscript.{WeightedLineShows}
 
@@ -24,9 +24,7 @@ module _ (S : Type 0) where
       (hasher : S) × (new : MapState ℕ ℕ S) × ShowsAll LineShows (empty_map hasher) lines text new
   ModeRun (Some (Cache c)) lines text =
       (hasher : S) × (new : CacheState ℕ ℕ S) × ShowsAll CacheLineShows (empty_cache hasher c) lines text new
-  ModeRun (Some (Pair c d)) lines text =
-      (answers : List ℕ) × (new : TwoLists) × ShowsAll (PairLineShows c d) ([], []) lines answers new
-      × (text ≡ answers ++ lists_shown new)
+  ModeRun (Some (Pair c d)) lines text = PairRun c d ([], []) lines text
   ModeRun (Some (Weighted b)) lines text =
       (hasher : S) × (new : WeightedState ℕ ℕ S)
       × ShowsAll WeightedLineShows (empty_weighted hasher b) lines text new

@@ -4,7 +4,7 @@ ghost use Rattle.hashlink_core.specs.declared.hash_builder.DefaultHashBuilder.{D
 ghost use Rattle.hashlink_text.specs.Lines.{lines_of};
 ghost use Rattle.hashlink_text.specs.declared.modes.Mode.TheVariants.{Pair};
 ghost use Rattle.hashlink_lru.specs.Cached.{entries_of, state_of};
-ghost use Rattle.hashlink_text.specs.CacheTranscript.{PairShows, lists_shown};
+ghost use Rattle.hashlink_text.specs.CacheTranscript.{PairRun, PairShows, lists_shown};
 ghost use Rattle.hashlink_text.specs.Text.{ModeRun};
 ghost use Rattle.hashlink_text.specs.Transcript.{Pushes, PushesLine, ended, shown_by};
 
@@ -15,8 +15,7 @@ use hashlink_run::{PairCommand, Reply, answer_call};
 use std::alloc::{AllocError, Global};
 
 // Pushes the answers to the lines, which speak to two caches of these capacities that are empty at first, and
-// what the caches hold afterwards. An insert that fails to allocate counts as running out of memory for the
-// answer.
+// what the caches hold afterwards.
 pub(crate) fn run_pair_lines(
     alloc: Global,
     small_capacity: usize,
@@ -29,11 +28,24 @@ pub(crate) fn run_pair_lines(
 {
     let mut small = LruCache::new(alloc, small_capacity);
     let mut large = LruCache::new(alloc, large_capacity);
+    answer_all(&mut small, &mut large, lines, out)
+}
+
+// Pushes the answers to the lines, and what the caches hold afterwards. An insert that fails to allocate
+// counts as running out of memory for the answer.
+fn answer_all(
+    small: &mut LruCache<u64, u64>,
+    large: &mut LruCache<u64, u64>,
+    lines: Lines<'_>,
+    out: &mut String,
+) -> Result<(), AllocError>
+    ensures { OnOk result (Pushes (PairRun (state_of small.old).cap (state_of large.old).cap
+        (entries_of small.old, entries_of large.old) (lines_of lines.entry.rest.now)) out.old out.new) }
+{
     for line in lines {
-        answer(&mut small, &mut large, pair_command(line), out)?;
+        answer(small, large, pair_command(line), out)?;
     }
-    push_lists(&small, &large, out)?;
-    Ok(())
+    push_lists(small, large, out)
 }
 
 // Pushes the answer to what a line says.
