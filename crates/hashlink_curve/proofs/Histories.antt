@@ -3,16 +3,17 @@ use Rattle.hashlink_curve.proofs.Names.{◌≡◌, ℕ, zero, suc, ◌+◌, ◌�
 use Rattle.hashlink_curve.proofs.Names.{List, [], ◌∷◌, ◌++◌, length, take, drop, nat_lt, None, Some, refl}
 use Rattle.hashlink_curve.proofs.Names.{sym, ap, ap₂, ◌∙◌, subst, subst₂, arith, append_assoc, length-append}
 use Rattle.hashlink_curve.proofs.Names.{get_or, set, sum, IsEquivalence, AllZip, after_last, list_any}
-use Rattle.hashlink_curve.proofs.Names.{is_member, unique_keys, drop-nil, nat_tests, get_or_default_zero}
-use Rattle.hashlink_curve.proofs.Names.{sum_by-append, sum_by-set, IsKeyTest, reuse_distance}
-use Rattle.hashlink_curve.proofs.Names.{cache_misses_from, CurveState, Counted, Counts, misses_at, MovesPast}
-use Rattle.hashlink_curve.proofs.Names.{GoesLast}
-use Rattle.std.proofs.Common.{Option, true≢false}
+use Rattle.hashlink_curve.proofs.Names.{IsTallied, is_member, unique_keys, drop-nil, nat_tests, Touches}
+use Rattle.hashlink_curve.proofs.Names.{tallied, sum_by-append, sum_by-set, IsKeyTest, reuse_distance}
+use Rattle.hashlink_curve.proofs.Names.{CanCount, cache_misses_from, CurveState, Counted, Counts, misses_at}
+use Rattle.hashlink_curve.proofs.Names.{MovesPast}
+use Rattle.std.proofs.Common.{Option, true≢false, Vec, vec_len, vec_capacity, ◌^◌}
+use Rattle.std.specs.declared.alloc.Global.{Global}
 use Rattle.std.specs.Set.{remove_key, distinct_count}
 use Rattle.std.proofs.Math.Path.{fun_ext}
-use Rattle.std.proofs.lemmas.List.{append-nil}
+use Rattle.std.proofs.lemmas.List.{append-nil, length-set}
 use Rattle.std.proofs.lemmas.List.Folds.{list_any-append}
-use Rattle.std.proofs.lemmas.List.Sums.{sum_by-take-drop}
+use Rattle.std.proofs.lemmas.List.Sums.{sum_by-take-drop, get_or-le-sum_by}
 use Rattle.hashlink_history.specs.History.{cache_misses}
 use Rattle.hashlink_model.proofs.Members.{none_from_is_member, is_member_from_none}
 use Rattle.hashlink_history.proofs.Recency.{zip_push, zip_length, remove_key-left, remove_key-right}
@@ -90,6 +91,31 @@ pub list_any-here : {X : Type 0} (test : X → Bool) (xs : List X) (x : X) (ys :
 list_any-here test xs x ys t =
     grind (arith, t, list_any-append test xs (x ∷ ys))
 
+-- ---- the parts of a curve
+
+-- a use of a key that is there can be counted, and what it leaves
+pub MovesPast-next : {K : Type 0} (test : K → Bool) (old new : List K) (d : ℕ) (reuses : Vec ℕ Global) (n : ℕ)
+    → MovesPast test old new d → IsTallied old reuses.items n → n + 1 < 2 ^ 64
+    → CanCount (Some d) reuses × IsTallied new (tallied (Some d) reuses.items) (n + 1)
+    × (list_any test new ≡ true)
+MovesPast-next test old new d reuses n p i fits =
+    let long = i.distances in
+    let all = i.all in
+    let a = ap length p.split ∙ length-append p.front (p.key ∷ p.back) in
+    let b = ap length p.moved ∙ length-append (p.front ++ p.back) (p.key ∷ []) in
+    let c = length-append p.front p.back in
+    let within : d < length reuses.items = omega (arith, p.count) in
+    let wide = length-set reuses.items d (get_or reuses.items d 0 + 1) in
+    let most = get_or-le-sum_by (λ (m : ℕ). m) reuses.items d 0 within in (
+      (within, omega arith),
+      record {
+        distances = omega arith;
+        all = omega (arith, sum-one-more reuses.items d within);
+        fits = fits;
+      },
+      ap (list_any test) p.moved ∙ list_any-here test (p.front ++ p.back) p.key [] p.passes,
+    )
+
 module _ {K : Type 0} (eq : K → K → Bool) (laws : IsEquivalence eq) where
   abbrev Alike : List K → List K → Type 0
   Alike xs ys = AllZip (λ a b. eq a b ≡ true) xs ys
@@ -122,20 +148,15 @@ module _ {K : Type 0} (eq : K → K → Bool) (laws : IsEquivalence eq) where
 
   -- ---- the curve after one use more
 
-  missed_by : (c : ℕ) (used : List K) (k : K) (b : Bool) (d : ℕ) → is_member eq used k ≡ b
-      → reuse_distance eq used k ≡ d
-      → missed eq c used k ≡ cond (b && nat_lt d c) 0 1
-  missed_by c used k b d m e = ap₂ (λ b n. cond (b && nat_lt n c) 0 1) m e
-
-  pub Counted-absent : (used : List K) (old new : CurveState K) (k : K) → GoesLast eq old.keys new.keys k
-      → new.reuses ≡ old.reuses ++ 0 ∷ [] → Counted eq used old
-      → Counted eq (used ++ k ∷ []) new × (None ≡ distance_of eq used k)
-  Counted-absent used old new k g n h =
-      let absent : is_member eq (unique_keys eq used) k ≡ false
-      = sym (zip_member k old.keys (unique_keys eq used) h.keys) ∙ g.absent in
+  -- a use of a key, by what it returned
+  pub Counted-next : (used : List K) (old new : CurveState K) (k : K) (d : Option ℕ)
+      → Touches eq old.keys new.keys k d → length old.reuses ≡ length old.keys
+      → new.reuses ≡ tallied d old.reuses → Counted eq used old
+      → Counted eq (used ++ k ∷ []) new × (d ≡ distance_of eq used k)
+  Counted-next used old new k None g long n h =
+      let absent = sym (zip_member k old.keys (unique_keys eq used) h.keys) ∙ g.absent in
       let unused : is_member eq used k ≡ false = sym (is_member-unique eq laws used k) ∙ absent in
-      let unique : unique_keys eq (used ++ k ∷ []) ≡ unique_keys eq used ++ k ∷ []
-      = unique_keys-push eq laws used k
+      let unique = unique_keys-push eq laws used k
       ∙ ap (λ zs. zs ++ k ∷ []) (remove_key-left eq laws k [] (unique_keys eq used) absent) in (
         record {
           keys = subst₂ Alike (sym g.last) (sym unique)
@@ -143,37 +164,28 @@ module _ {K : Type 0} (eq : K → K → Bool) (laws : IsEquivalence eq) where
           misses = λ c.
               let a = cache_misses-push eq c used k in
               let b : missed eq c used k ≡ 1
-              = missed_by c used k false (reuse_distance eq used k) unused refl in
+              = ap (λ b. cond (b && nat_lt (reuse_distance eq used k) c) 0 1) unused in
               let d = h.misses c in
               let f = length-append old.keys (k ∷ []) in
               omega (arith, ap length g.last, ap (λ zs. sum (drop c zs)) n, sum-drop-push c old.reuses);
         },
         sym (ap (λ b. cond b (Some (reuse_distance eq used k)) None) unused),
       )
-
-  pub Counted-again : (used : List K) (old new : CurveState K) (k : K) (d read : ℕ)
-      → MovesPast (eq k) old.keys new.keys d → length old.reuses ≡ length old.keys
-      → read ≡ get_or old.reuses d read → new.reuses ≡ set old.reuses d (read + 1) → Counted eq used old
-      → Counted eq (used ++ k ∷ []) new × (Some d ≡ distance_of eq used k)
-  Counted-again used old new k d read p long is_read n h =
+  Counted-next used old new k (Some d) p long n h =
       let split = subst (λ zs. Alike zs (unique_keys eq used)) p.split h.keys in
-      let held : is_member eq (unique_keys eq used) k ≡ true
-      = sym (zip_member k (p.front ++ p.key ∷ p.back) (unique_keys eq used) split)
-      ∙ list_any-here (eq k) p.front p.key p.back p.passes
-      in
+      let held = sym (zip_member k (p.front ++ p.key ∷ p.back) (unique_keys eq used) split)
+      ∙ list_any-here (eq k) p.front p.key p.back p.passes in
       let used_before : is_member eq used k ≡ true = sym (is_member-unique eq laws used k) ∙ held in
       let s = last_use eq laws used k used_before in
       let u = unique_keys-last eq laws k s.0 s.1 s.2 s.3.equal s.3.after in
       let all : unique_keys eq used ≡ u.0 ++ s.1 ∷ unique_keys eq s.2 = ap (unique_keys eq) s.3.is ∙ u.1 in
-      let since : reuse_distance eq used k ≡ length (unique_keys eq s.2)
-      = ap (λ zs. distinct_count eq (after_last (eq k) zs)) s.3.is
+      let since = ap (λ zs. distinct_count eq (after_last (eq k) zs)) s.3.is
       ∙ ap (distinct_count eq) (after_last-here eq laws k s.0 s.1 s.2 s.3.equal s.3.after) in
       let behind = zip_behind k p.front p.key p.back u.0 s.1 (unique_keys eq s.2)
       (subst (Alike _) all split) p.passes
       s.3.equal p.none_after (is_member-unique eq laws s.2 k ∙ is_member_from_none eq laws s.2 k s.3.after) in
       let distance : reuse_distance eq used k ≡ d = since ∙ sym behind ∙ sym p.count in
-      let removed : remove_key (eq k) (p.front ++ p.key ∷ p.back) ≡ p.front ++ p.back
-      = remove_key-right eq laws k p.front (p.key ∷ p.back)
+      let removed = remove_key-right eq laws k p.front (p.key ∷ p.back)
       (none_from_is_member eq laws p.front k p.none_before)
       ∙ ap (λ b. p.front ++ cond b p.back (p.key ∷ remove_key (eq k) p.back)) p.passes in
       let others = subst (λ zs. Alike zs (remove_key (eq k) (unique_keys eq used))) removed
@@ -184,21 +196,38 @@ module _ {K : Type 0} (eq : K → K → Bool) (laws : IsEquivalence eq) where
               (laws.symm p.key k ∙ p.passes));
           misses = λ c.
               let a = cache_misses-push eq c used k in
-              let b : missed eq c used k ≡ cond (nat_lt d c) 0 1 =
-              missed_by c used k true d used_before distance in
+              let b : missed eq c used k ≡ cond (nat_lt d c) 0 1
+              = ap₂ (λ b n. cond (b && nat_lt n c) 0 1) used_before distance in
               let e = h.misses c in
               let f = ap length p.moved ∙ length-append (p.front ++ p.back) (p.key ∷ []) in
               let f2 = length-append p.front p.back in
               let g = ap length p.split ∙ length-append p.front (p.key ∷ p.back) in
-              let zero = is_read ∙ get_or_default_zero old.reuses d read (omega arith) in
-              let i = ap (λ zs. sum (drop c zs)) (n ∙ ap (λ m. set old.reuses d (m + 1)) zero) in
-              let j : sum (drop c (set old.reuses d (get_or old.reuses d 0 + 1)))
-              ≡ sum (drop c old.reuses) + cond (nat_lt d c) 0 1
-              = sum-drop-more c d old.reuses (omega arith) in
+              let i = ap (λ zs. sum (drop c zs)) n in
+              let j = sum-drop-more c d old.reuses (omega arith) in
               omega arith;
         },
         sym (ap (λ b. cond b (Some (reuse_distance eq used k)) None) used_before ∙ ap Some distance),
       )
+
+  -- it can be counted, and what it leaves of the parts
+  pub Touches-next : (old new : List K) (k : K) (d : Option ℕ) (reuses : Vec ℕ Global) (n : ℕ)
+      → Touches eq old new k d → IsTallied old reuses.items n → n + 1 < 2 ^ 64
+      → vec_len reuses < vec_capacity reuses
+      → CanCount d reuses × IsTallied new (tallied d reuses.items) (n + 1) × (is_member eq new k ≡ true)
+  Touches-next old new k None reuses n t i fits room =
+      let long = i.distances in
+      let all = i.all in
+      let keys = ap length t.last ∙ length-append old (k ∷ []) in (
+        room,
+        record {
+          distances = omega (arith, length-append reuses.items (0 ∷ []));
+          all = omega (arith, sum-drop-push 0 reuses.items);
+          fits = fits;
+        },
+        ap (list_any (eq k)) t.last ∙ list_any-here (eq k) old k [] (laws.refl k),
+      )
+  Touches-next old new k (Some d) reuses n t i fits room =
+      MovesPast-next (eq k) old new d reuses n t i fits
 
   -- ---- keys that pass a test, and keys that are equal
 

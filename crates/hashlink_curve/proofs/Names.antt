@@ -1,15 +1,16 @@
 -- What the proofs of this crate import again and again.
 pub use Rattle.hashlink_core.specs.Keyed.{entries_of, state_of}
 pub use Rattle.hashlink_curve.specs.Curve.{Counted, Counts, CurveState, ListsFalls, falls_from, misses_at}
+pub use Rattle.hashlink_curve.specs.Curve.{CanCount, IsTallied, tallied}
 pub use Rattle.hashlink_curve.specs.Marks.{CanChange, Marked, changed, rows_of}
-pub use Rattle.hashlink_curve.specs.Recency.{GoesLast, MovesPast}
+pub use Rattle.hashlink_curve.specs.Recency.{GoesLast, MovesPast, Touches}
 pub use Rattle.hashlink_history.specs.History.{cache_misses_from, reuse_distance}
 pub use Rattle.hashlink_model.proofs.Splits.{none_from_lookup}
 pub use Rattle.hashlink_model.specs.Entries.{IsEntries, IsKeyTest}
 pub use Rattle.std.proofs.Common.{Bool, List, None, Some, [], ap, append_assoc, ap₂, arith, cond, drop, false}
 pub use Rattle.std.proofs.Common.{get_or, inl, inr, length, length-append, nat_lt, refl, rules, set, subst}
 pub use Rattle.std.proofs.Common.{subst₂, suc, sym, take, true, zero, ℕ, ◌&&◌, ◌*◌, ◌++◌, ◌+◌, ◌-◌, ◌/◌, ◌<◌}
-pub use Rattle.std.proofs.Common.{◌^◌, ◌||◌, ◌∙◌, ◌∷◌, ◌≡◌, ◌≤◌, ◌⊎◌}
+pub use Rattle.std.proofs.Common.{vec_capacity, vec_len, ◌^◌, ◌||◌, ◌∙◌, ◌∷◌, ◌≡◌, ◌≤◌, ◌⊎◌}
 pub use Rattle.std.proofs.Math.Seq.{drop-nil}
 pub use Rattle.std.proofs.lemmas.Bool.Decides.{nat_tests}
 pub use Rattle.std.proofs.lemmas.Grind.{get_or_default_zero}

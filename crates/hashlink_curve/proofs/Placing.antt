@@ -208,23 +208,24 @@ module _ {K : Type 0} (eq : K → K → Bool) (laws : IsEquivalence eq) where
           count = omega arith;
         }
 
-    -- once the place of its last use has no mark
-    module _ (mid : List ℕ)
-        (unmarks : (xs ys : List ℕ) → Marked row (xs ++ place ∷ ys) → Marked mid (xs ++ ys)) where
-      found_unmarked : Marked mid (values_of others)
-      found_unmarked =
-          subst (Marked mid) (sym (map-append (λ e. e.1) f.front f.back))
-          (unmarks (values_of f.front) (values_of f.back) (subst (Marked row) f.values p.marked))
-
-      pub found_free : next < length mid → get_or mid next 0 ≡ 0
-      found_free l = free_at others next mid others_rise found_unmarked l
-
-      pub found_placed : (new : List (K × ℕ)) (after : List ℕ) → new ≡ put eq es k next (length es)
-          → IsEntries eq new
-          → ((xs ys : List ℕ) → Marked mid (xs ++ ys) → Marked after (xs ++ next ∷ ys)) → next < length after
-          → IsPlaced eq new after (next + 1)
-      found_placed new after n d marks l =
-          placed_last others new mid after next f.key others_rise found_unmarked (found_there new n) d marks l
+    -- once its mark is moved to the next place
+    pub found_placed : (new : List (K × ℕ)) (after : List ℕ) → new ≡ put eq es k next (length es)
+        → IsEntries eq new
+        → ((xs ys : List ℕ) → Marked row (xs ++ place ∷ ys) → Marked after ((xs ++ ys) ++ next ∷ []))
+        → next < length after → IsPlaced eq new after (next + 1)
+    found_placed new after n d moved l =
+        let there = found_there new n in
+        let values : values_of new ≡ (values_of f.front ++ values_of f.back) ++ next ∷ []
+        = ap values_of there ∙ map-append (λ e. e.1) others ((f.key, next) ∷ [])
+        ∙ ap (λ zs. zs ++ next ∷ []) (map-append (λ e. e.1) f.front f.back) in
+        record {
+          distinct = d;
+          rises = subst (λ zs. Rises 0 zs (next + 1)) (sym there)
+              (rises_push 0 others f.key next others_rise);
+          marked = subst (Marked after) (sym values)
+              (moved (values_of f.front) (values_of f.back) (subst (Marked row) f.values p.marked));
+          within = omega arith;
+        }
 
   pub absent_last : (es new : List (K × ℕ)) (k : K) (next : ℕ) → lookup (eq k) es ≡ None
       → new ≡ es ++ (k, next) ∷ [] → GoesLast eq (keys_of es) (keys_of new) k

@@ -1,19 +1,18 @@
 -- What stands before a place, by the rows of sums, and a change at a place.
 use Rattle.std.proofs.lemmas.Bool.{cases_lt}
-use Rattle.std.proofs.Common.{◌≡◌, ◌≢◌, ℕ, zero, suc, ◌+◌, ◌-◌, ◌*◌, ◌/◌, ◌^◌, ◌<◌, ◌≤◌, Bool, true, false}
+use Rattle.std.proofs.Common.{◌≡◌, ℕ, zero, suc, ◌+◌, ◌-◌, ◌*◌, ◌/◌, ◌^◌, ◌<◌, ◌≤◌, Bool}
 use Rattle.std.proofs.Common.{List, [], ◌∷◌, ◌++◌, length, take, drop, get_or, set, replicate, refl, sym, ap}
 use Rattle.std.proofs.Common.{◌∙◌, ◌⊎◌, inl, inr, arith, cond, subst, subst₂}
 use Rattle.std.specs.Prelude.{nat_eq, nat_lt, sum, slice_range, All, Vec}
 use Rattle.std.specs.List.{count_by}
 use Rattle.std.proofs.Math.Seq.{take-set-lt, take-add}
 use Rattle.std.proofs.lemmas.List.{take-set-le, take_all, get_or-take, length-set, length-take}
-use Rattle.std.proofs.lemmas.List.{take-append-le, get_or-set_other, length-replicate, length-map}
+use Rattle.std.proofs.lemmas.List.{take-append-le, length-replicate, length-map}
 use Rattle.std.proofs.lemmas.List.Sums.{sum_by-cons, sum_by-append, sum_by-set, sum_by_more, sum_by-take-le}
 use Rattle.std.proofs.lemmas.List.Sums.{get_or-le-sum_by, sum_by-le}
 use Rattle.std.proofs.lemmas.List.Elements.{All-set, All-replicate}
 use Rattle.std.proofs.lemmas.List.Folds.{sum_by-replicate}
 use Rattle.std.proofs.lemmas.Bool.Decides.{nat_tests}
-use Rattle.std.proofs.lemmas.Grind.{get_or-set_at}
 use Rattle.std.specs.declared.alloc.Global.{Global}
 use Rattle.hashlink_curve.specs.Marks.{Marked, HasSums, HasRows, AreSummed, rows_of, sum_before, HasNode}
 use Rattle.hashlink_curve.specs.Marks.{changed, CanChange}
@@ -207,44 +206,13 @@ marks_before row places m (suc x) l =
     let one : x + 1 ≡ suc x = omega arith in
     omega (arith, sum-take-next row x (omega arith), ap (λ n. sum (take n row)) one, count_by-next x places)
 
--- ---- a mark more and a mark less
-
-zero_either : (b : Bool) → ◌≡◌ {A = ℕ} (cond b 0 0) 0
-zero_either true = refl
-zero_either false = refl
+-- ---- a place among others, and the sum of all
 
 pub count_by-middle : (p : ℕ → Bool) (xs : List ℕ) (x : ℕ) (ys : List ℕ)
     → count_by p (xs ++ x ∷ ys) ≡ count_by p (xs ++ ys) + cond (p x) 1 0
 count_by-middle p xs x ys =
-    let a : count_by p (xs ++ x ∷ ys) ≡ count_by p xs + count_by p (x ∷ ys)
-    = sum_by-append (λ y. cond (p y) 1 0) xs (x ∷ ys) in
-    let b : count_by p (xs ++ ys) ≡ count_by p xs + count_by p ys
-    = sum_by-append (λ y. cond (p y) 1 0) xs ys in
-    omega (arith, count_by-cons p x ys)
-
-module _ (row : List ℕ) (place : ℕ) (l : place < length row) (v : ℕ) where
-  Marked-changed : (less more : ℕ) → v + less ≡ get_or row place 0 + more → (from to : List ℕ)
-      → ((x : ℕ) → count_by (nat_eq x) to + cond (nat_eq x place) less 0
-      ≡ count_by (nat_eq x) from + cond (nat_eq x place) more 0)
-      → Marked row from → Marked (set row place v) to
-  Marked-changed less more is from to counts m =
-      let wide = length-set row place v in
-      record { each = λ x h. by x (m.each x (omega arith)) (grind arith) }
-    where
-      by : (x : ℕ) → get_or row x 0 ≡ count_by (nat_eq x) from → (x ≡ place) ⊎ (x ≢ place)
-          → get_or (set row place v) x 0 ≡ count_by (nat_eq x) to
-      by x was (inl e) =
-          let yes : nat_eq x place ≡ true = grind (arith, nat_tests) in
-          omega (arith, ap (λ n. get_or row n 0) e, rw yes at (counts x), get_or-set_at row place x v 0 e l)
-      by x was (inr d) =
-          let no : nat_eq x place ≡ false = grind (arith, nat_tests) in
-          omega (arith, rw no at (counts x), get_or-set_other row place x v 0 d)
-
-  pub Marked-less : v + 1 ≡ get_or row place 0 → (xs ys : List ℕ) → Marked row (xs ++ place ∷ ys)
-      → Marked (set row place v) (xs ++ ys)
-  Marked-less is xs ys m =
-      Marked-changed 1 0 (omega arith) (xs ++ place ∷ ys) (xs ++ ys)
-      (λ x. omega (arith, count_by-middle (nat_eq x) xs place ys, zero_either (nat_eq x place))) m
+    let add = sum_by-append (λ y. cond (p y) 1 0) xs in
+    omega (arith, count_by-cons p x ys, add (x ∷ ys), add ys)
 
 -- marks are no more than places
 sum-marks : (row : List ℕ) (above : List (List ℕ)) → AreSummed row above → sum row < 2 ^ 62

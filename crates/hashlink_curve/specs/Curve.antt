@@ -1,7 +1,8 @@
 -- What a curve of misses has counted of a history.
 use Rattle.std.specs.Prelude.{◌≡◌, ℕ, ◌+◌, ◌-◌, ◌^◌, ◌<◌, ◌≤◌, Bool, true, false, nat_eq, List, [], ◌∷◌, ◌++◌}
 use Rattle.std.specs.Prelude.{length, drop, sum, All, AllPairs, Contains, IsTrue, Option, None, Some}
-use Rattle.std.specs.Prelude.{if◌then◌else◌}
+use Rattle.std.specs.Prelude.{if◌then◌else◌, set, slice_index, Vec, vec_len, vec_capacity}
+use Rattle.std.specs.declared.alloc.Global.{Global}
 use Rattle.std.specs.List.{AllZip, list_any}
 use Rattle.std.specs.Set.{is_member, unique_keys}
 use Rattle.hashlink_history.specs.History.{reuse_distance, cache_misses}
@@ -64,6 +65,16 @@ pub record IsTallied {K : Type 0} (keys : List K) (reuses : List ℕ) (accesses 
   pub distances : length reuses ≡ length keys
   pub all : accesses ≡ length keys + sum reuses
   pub fits : accesses < 2 ^ 64
+
+-- the uses at each distance after one more at this distance, or with a place for one distance more
+abbrev pub tallied : Option ℕ → List ℕ → List ℕ
+tallied None reuses = reuses ++ 0 ∷ []
+tallied (Some d) reuses = set reuses d (slice_index reuses d + 1)
+
+-- there is room for a place more, or the distance has one, and its count may grow
+abbrev pub CanCount : Option ℕ → Vec ℕ Global → Type 0
+CanCount None reuses = vec_len reuses < vec_capacity reuses
+CanCount (Some d) reuses = (d < length reuses.items) × (slice_index reuses.items d + 1 < 2 ^ 64)
 
 -- what is left of the curve: the uses at each distance from the capacity on are among those that it misses
 pub record Falling (reuses : List ℕ) (capacity misses : ℕ) : Type 0 where

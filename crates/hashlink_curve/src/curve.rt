@@ -5,7 +5,7 @@ ghost use Rattle.std.specs.List.{list_any};
 ghost use Rattle.std.specs.Set.{distinct_count, is_member};
 ghost use Rattle.hashlink_history.specs.History.{cache_misses};
 ghost use Rattle.hashlink_curve.specs.Curve.{Counted, Counts, CountsMatch, CanMakeMatch, misses_at};
-ghost use Rattle.hashlink_curve.specs.Curve.{falls_from, ListsFalls};
+ghost use Rattle.hashlink_curve.specs.Curve.{falls_from, ListsFalls, CanCount, tallied};
 
 use crate::falls::Falls;
 use crate::recency::Recency;
@@ -73,20 +73,10 @@ impl<K: Eq + Hash, S: BuildHasher> MissCurve<K, S> {
         if self.accesses == u64::MAX || self.reuses.reserve(1).is_err() {
             return Err(key);
         }
-        match self.recency.touch(key)? {
-            Some(others) => {
-                self.reuses[others] += 1;
-                self.accesses += 1;
-                Ok(Some(others))
-            }
-            None => {
-                let Ok(()) = self.reuses.push(0) else {
-                    unreachable!();
-                };
-                self.accesses += 1;
-                Ok(None)
-            }
-        }
+        let distance = self.recency.touch(key)?;
+        count_use(&mut self.reuses, distance);
+        self.accesses += 1;
+        Ok(distance)
     }
 
     /// Does the same as `record` for a key that the query matches. If none is recorded yet, `make` has to be
@@ -133,7 +123,7 @@ impl<K: Eq + Hash, S: BuildHasher> MissCurve<K, S> {
         let Some(others) = self.recency.touch_match(query)? else {
             return Ok(None);
         };
-        self.reuses[others] += 1;
+        count_use(&mut self.reuses, Some(others));
         self.accesses += 1;
         Ok(Some(others))
     }
@@ -197,6 +187,17 @@ pub fn miss_curve<K: Eq + Hash + Copy>(
         };
     }
     Ok(curve)
+}
+
+/// Counts a use at this distance. A new key has none, and brings a place for one distance more.
+fn count_use(reuses: &mut Vec<u64>, distance: Option<usize>)
+    requires countable { CanCount distance reuses.old }
+    ensures { reuses.new.items ≡ tallied distance reuses.old.items }
+{
+    match distance {
+        Some(others) => reuses[others] += 1,
+        None => reuses.push_reserved(0),
+    }
 }
 
 /// Returns the sum of the counts from this place on.

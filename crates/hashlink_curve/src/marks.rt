@@ -70,7 +70,7 @@ impl Marks {
     }
 
     /// Returns the number of marks before the place. It takes at most 63 steps for each row.
-    pub(crate) fn before(&self, place: usize) -> usize
+    fn before(&self, place: usize) -> usize
         requires { place < length self.now }
         ensures { (places : List ℕ) → Marked self.now places → result ≡ count_by
             (λ p. nat_lt p place) places }
@@ -90,15 +90,23 @@ impl Marks {
         self.change_at(place, 0, 1);
     }
 
-    /// Removes a mark from the place, which has to have one. It takes a step for each row.
-    pub(crate) fn unmark(&mut self, place: usize)
-        requires within { place < length self.old }
+    /// Moves the mark at `place`, which has to have one, to the place `to`, which has to have none. Returns
+    /// the number of marks that stood before it. It takes at most 65 steps for each row.
+    pub(crate) fn move_mark(&mut self, place: usize, to: usize) -> usize
+        requires within { (place < length self.old) × (to < length self.old) }
         requires marked { 0 < slice_index self.old place }
-        ensures unmarked { (xs ys : List ℕ) → Marked self.old (xs ++ place ∷ ys)
-            → Marked self.new (xs ++ ys) }
+        requires unmarked { slice_index self.old to ≡ 0 }
+        ensures before { (places : List ℕ) → Marked self.old places → result ≡ count_by
+            (λ p. nat_lt p place) places }
+        ensures moved { (xs ys : List ℕ) → Marked self.old (xs ++ place ∷ ys)
+            → Marked self.new ((xs ++ ys) ++ to ∷ []) }
         ensures width { length self.new ≡ length self.old }
+        ensures small { length self.new < 2 ^ 62 }
     {
+        let before = self.before(place);
         self.change_at(place, 1, 0);
+        self.mark(to);
+        before
     }
 
     /// Takes `less` marks from the place, and adds `more`. It takes a step for each row.

@@ -79,9 +79,7 @@ impl<K: Eq + Hash, S: BuildHasher> Recency<K, S> {
         let count = self.places.len();
         match self.places.insert(key, self.next) {
             Ok(Some(place)) => {
-                let others = count - 1 - self.marks.before(place);
-                self.marks.unmark(place);
-                self.marks.mark(self.next);
+                let others = count - 1 - self.marks.move_mark(place, self.next);
                 self.next += 1;
                 Ok(Some(others))
             }
@@ -117,9 +115,7 @@ impl<K: Eq + Hash, S: BuildHasher> Recency<K, S> {
         let Some(place) = move_last(&mut self.places, query, self.next) else {
             return Ok(None);
         };
-        let others = count - self.marks.before(place) - 1;
-        self.marks.unmark(place);
-        self.marks.mark(self.next);
+        let others = count - self.marks.move_mark(place, self.next) - 1;
         self.next += 1;
         Ok(Some(others))
     }
@@ -192,12 +188,8 @@ fn renumber<K: Eq + Hash + Drop, S: BuildHasher>(
     }
     let mut marks = Marks::with_places(alloc, PLACES * (count + 1))?;
     for place in 0..count {
-        let Some((key, _)) = places.pop_front() else {
-            unreachable!();
-        };
-        let Ok(_) = places.insert(key, place) else {
-            unreachable!();
-        };
+        let (key, _) = places.pop_front().unwrap();
+        places.insert(key, place).unwrap();
         marks.mark(place);
     }
     Ok(marks)

@@ -7,16 +7,15 @@ mark-requires-clause-unmarked g c = Renumbers-free c.loop-place.invariant.0 (ome
 
 pub loop-place-preserved : goal.loop-place-preserved
 loop-place-preserved g c =
-    let i = c.loop-place.invariant in
-    let count = i.2 in
-    let small = i.3 in (
+    let i = c.loop-place.invariant in (
       Renumbers-step g.K.PartialEq.eq (entries_of c.args.places.now) (state_of c.loop-place.places)
           (state_of c.pop_front.new.self) (state_of c.insert.new.self) c.loop-place.marks c.mark.new.self
-          c.loop-place.place c.in-Some.key c.in-Some.field-0-1 i.0 (omega arith) c.in-Some.ensures.pops
-          c.in-Ok.ensures.added c.insert.ensures.distinct c.mark.ensures.marked,
+          c.loop-place.place c.unwrap-key.result.0 c.unwrap-key.result.1 i.0 (omega arith)
+          (rw c.unwrap-key.ensures at c.pop_front.ensures.pops)
+          (rw c.unwrap.ensures at c.insert.ensures.added) c.insert.ensures.distinct c.mark.ensures.marked,
       omega arith,
-      count,
-      small,
+      i.2,
+      i.3,
     )
 
 pub returns : goal.returns

@@ -1,26 +1,37 @@
-use Rattle.hashlink_curve.proofs.Names.{◌+◌, ◌++◌, ◌∷◌, [], sym, ap, ◌∙◌, subst, get_or, set, Counted}
-use Rattle.hashlink_curve.proofs.Histories.{Counted-absent, Counted-again}
+use Rattle.hashlink_curve.proofs.Names.{◌≡◌, ◌<◌, ◌+◌, true, sym, ap, ◌∙◌, subst, arith, rules, is_member}
+use Rattle.hashlink_curve.proofs.Names.{Counted, CanCount, IsTallied, tallied, vec_len, vec_capacity}
+use Rattle.hashlink_curve.proofs.Histories.{Counted-next, Touches-next}
+use Rattle.hashlink_curve.proofs.curve.MissCurve.record.Goals.{In_ok-distance}
+use Rattle.hashlink_curve.proofs.curve.MissCurve.record.Given as given
 use Rattle.hashlink_curve.proofs.curve.MissCurve.record.Goals as goal
 
-pub returns-in-Some-clause-counted : goal.returns-in-Some-clause-counted
-returns-in-Some-clause-counted g c used h =
-    let I = c.self.inside.reuses.items in
-    let d = c.in-Some.others in
-    let before = subst (Counted g.K.PartialEq.eq used) (sym c.self.view_is) h in
-    let kept = c.reserve.ensures.items in
-    let touched = rw c.in-Some.is at c.in_ok-others.ensures.touched in
-    let n = c.index_mut.result.now in
-    Counted-again g.K.PartialEq.eq g.met.K.Eq.laws used (record { keys = c.self.inside.recency; reuses = I })
-    (record { keys = c.touch.new.self; reuses = set c.reserve.new.self.items d (n + 1) }) c.args.key d n
-    touched c.self.invariant.distances (c.index_mut.ensures.value ∙ ap (λ ns. get_or ns d n) kept)
-    (ap (λ ns. set ns d (n + 1)) kept) before
+-- the use can be counted, and what it leaves
+touched : (g : given.Over) (c : In_ok-distance g)
+    → CanCount c.in_ok-distance.distance c.reserve.new.self
+    × IsTallied c.touch.new.self (tallied c.in_ok-distance.distance c.reserve.new.self.items)
+    (c.self.inside.accesses + 1)
+    × (is_member g.K.PartialEq.eq c.touch.new.self c.args.key ≡ true)
+touched g c =
+    let room : vec_len c.reserve.new.self < vec_capacity c.reserve.new.self = search rules in
+    let before : IsTallied c.self.inside.recency c.reserve.new.self.items c.self.inside.accesses
+    = rw c.reserve.ensures.items c.self.invariant in
+    Touches-next g.K.PartialEq.eq g.met.K.Eq.laws _ _ _ _ _ _ c.in_ok-distance.ensures.touched before
+    (omega arith) room
 
-pub returns-in-Ok-clause-counted : goal.returns-in-Ok-clause-counted
-returns-in-Ok-clause-counted g c used h =
-    let before = subst (Counted g.K.PartialEq.eq used) (sym c.self.view_is) h in
-    let kept = c.reserve.ensures.items in
-    let touched = rw c.in-None.is at c.in_ok-others.ensures.touched in
-    Counted-absent g.K.PartialEq.eq g.met.K.Eq.laws used
-    (record { keys = c.self.inside.recency; reuses = c.self.inside.reuses.items })
-    (record { keys = c.touch.new.self; reuses = c.push.new.self.items })
-    c.args.key touched (c.in-Ok.ensures.items ∙ ap (λ ns. ns ++ 0 ∷ []) kept) before
+pub count_use-requires : goal.count_use-requires
+count_use-requires g c = record { countable = (touched g (goal.at.count_use-requires g c).In_ok-distance).0 }
+
+pub invariant_of-self-2 : goal.invariant_of-self-2
+invariant_of-self-2 g c =
+    subst (λ ns. IsTallied c.touch.new.self ns (c.self.inside.accesses + 1)) (sym c.count_use.ensures)
+    (touched g (goal.at.invariant_of-self-2 g c).In_ok-distance).1
+
+pub returns-clause-there : goal.returns-clause-there
+returns-clause-there g c = (touched g (goal.at.returns-clause-there g c).In_ok-distance).2
+
+pub returns-clause-counted : goal.returns-clause-counted
+returns-clause-counted g c used h =
+    Counted-next g.K.PartialEq.eq g.met.K.Eq.laws used _ _ c.args.key c.in_ok-distance.distance
+    c.in_ok-distance.ensures.touched c.self.invariant.distances
+    (c.count_use.ensures ∙ ap (tallied c.in_ok-distance.distance) c.reserve.ensures.items)
+    (subst (Counted g.K.PartialEq.eq used) (sym c.self.view_is) h)

@@ -1,6 +1,6 @@
 use Rattle.hashlink_curve.proofs.Names.{◌<◌, ◌-◌, length, ◌∙◌, subst, arith, rules, keys_of, entries_of}
 use Rattle.hashlink_curve.proofs.Names.{MovesPast, GoesLast}
-use Rattle.hashlink_curve.proofs.Placing.{Found, found, found_moves, found_placed, found_free, free_at}
+use Rattle.hashlink_curve.proofs.Placing.{Found, found, found_moves, found_placed, free_at}
 use Rattle.hashlink_curve.proofs.Placing.{absent_last, placed_last}
 use Rattle.hashlink_curve.proofs.recency.Recency.touch.Goals.{In-Ok-Some}
 use Rattle.hashlink_curve.proofs.recency.Recency.touch.Given as given
@@ -14,28 +14,24 @@ was g c =
     found g.K.PartialEq.eq g.met.K.Eq.laws _ _ _ _ _ c.free_place.ensures.placed
     (rw c.in-Ok-Some.field-0-is at c.in-Ok-Some.ensures.inserts).old_value
 
-pub before-requires : goal.before-requires
-before-requires g c = (was g (goal.at.before-requires g c).In-Ok-Some).within
+pub move_mark-requires : goal.move_mark-requires
+move_mark-requires g c =
+    let f = was g (goal.at.move_mark-requires g c).In-Ok-Some in
+    let p = c.free_place.ensures.placed in
+    let free : c.free_place.new.next < length c.free_place.new.marks = search rules in
+    record {
+      within = (f.within, free);
+      marked = f.marked;
+      unmarked = free_at (entries_of c.free_place.new.places) _ _ p.rises p.marked free;
+    }
 
 pub overflow_sub-others-in-Ok-Some : goal.overflow_sub-others-in-Ok-Some
 overflow_sub-others-in-Ok-Some g c =
     let f = was g (goal.at.overflow_sub-others-in-Ok-Some g c).In-Ok-Some in
-    omega (arith, c.before-in-Ok-Some.ensures _ c.free_place.ensures.placed.marked ∙ f.before, f.long)
-
-pub unmark-requires : goal.unmark-requires
-unmark-requires g c =
-    let f = was g (goal.at.unmark-requires g c).In-Ok-Some in
-    record { within = f.within; marked = f.marked }
+    omega (arith, c.move_mark.ensures.before _ c.free_place.ensures.placed.marked ∙ f.before, f.long)
 
 pub mark-requires-clause-unmarked : goal.mark-requires-clause-unmarked
 mark-requires-clause-unmarked g c =
-    let f = was g (goal.at.mark-requires-clause-unmarked g c).In-Ok-Some in
-    let free : c.free_place.new.next < length c.free_place.new.marks = search rules in
-    found_free g.K.PartialEq.eq g.met.K.Eq.laws _ _ _ _ _ c.free_place.ensures.placed f c.unmark.new.self
-    c.unmark.ensures.unmarked (omega arith)
-
-pub mark-requires-in-Ok-None-clause-unmarked : goal.mark-requires-in-Ok-None-clause-unmarked
-mark-requires-in-Ok-None-clause-unmarked g c =
     let p = c.free_place.ensures.placed in
     free_at (entries_of c.free_place.new.places) c.free_place.new.next c.free_place.new.marks p.rises p.marked
     (search rules)
@@ -45,9 +41,8 @@ invariant_of-self-in-Ok-Some g c =
     let f = was g (goal.at.invariant_of-self-in-Ok-Some g c).In-Ok-Some in
     let puts = rw c.in-Ok-Some.field-0-is at c.in-Ok-Some.ensures.inserts in
     let free : c.free_place.new.next < length c.free_place.new.marks = search rules in
-    found_placed g.K.PartialEq.eq g.met.K.Eq.laws _ _ _ _ _ c.free_place.ensures.placed f _
-    c.unmark.ensures.unmarked _ _ puts.puts.entries c.insert.ensures.distinct c.mark.ensures.marked
-    (omega arith)
+    found_placed g.K.PartialEq.eq g.met.K.Eq.laws _ _ _ _ _ c.free_place.ensures.placed f _ _
+    puts.puts.entries c.insert.ensures.distinct c.move_mark.ensures.moved (omega arith)
 
 pub invariant_of-self-in-Ok-None : goal.invariant_of-self-in-Ok-None
 invariant_of-self-in-Ok-None g c =
@@ -55,16 +50,16 @@ invariant_of-self-in-Ok-None g c =
     let adds = rw c.in-Ok-None.field-0-is at c.in-Ok-None.ensures.inserts in
     let free : c.free_place.new.next < length c.free_place.new.marks = search rules in
     placed_last g.K.PartialEq.eq g.met.K.Eq.laws _ _ _ _ _ _ p.rises p.marked
-    (c.in-Ok-None.ensures.added adds.absent) c.insert.ensures.distinct c.mark-in-Ok-None.ensures.marked
+    (c.in-Ok-None.ensures.added adds.absent) c.insert.ensures.distinct c.mark.ensures.marked
     (omega arith)
 
 pub returns-in-Ok-Some-clause-touched : goal.returns-in-Ok-Some-clause-touched
 returns-in-Ok-Some-clause-touched g c =
     let f = was g (goal.at.returns-in-Ok-Some-clause-touched g c).In-Ok-Some in
     let puts = rw c.in-Ok-Some.field-0-is at c.in-Ok-Some.ensures.inserts in
-    let n = c.before-in-Ok-Some.ensures _ c.free_place.ensures.placed.marked ∙ f.before in
+    let n = c.move_mark.ensures.before _ c.free_place.ensures.placed.marked ∙ f.before in
     let new = entries_of c.insert.new.self in
-    let past = c.len-count.result - 1 - c.before-in-Ok-Some.result in
+    let past = c.len-count.result - 1 - c.move_mark.result in
     subst (λ ks. MovesPast (g.K.PartialEq.eq c.args.key) ks (keys_of new) past)
     (c.free_place.ensures.keys ∙ c.self.view_is)
     (found_moves g.K.PartialEq.eq g.met.K.Eq.laws _ _ _ _ _ c.free_place.ensures.placed f new past
