@@ -7,7 +7,10 @@ use std::hash::{BuildHasher, Hash};
 impl<K: Eq + Hash + fmt::Debug, V: fmt::Debug, S: BuildHasher> fmt::Debug
     for WeightedCache<K, V, S> {
     fn fmt<W: fmt::Write>(&self, f: &mut fmt::Formatter<W>) -> fmt::Result {
-        let pairs = self.iter().rev().map(|(key, value, _)| (key, value));
-        f.debug_map().entries(pairs).finish()
+        let mut map = f.debug_map();
+        for (key, value, _) in self.iter().rev() {
+            map.entry(key, value);
+        }
+        map.finish()
     }
 }

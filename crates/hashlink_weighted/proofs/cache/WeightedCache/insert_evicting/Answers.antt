@@ -21,18 +21,13 @@ returns-in-Ok-clause-inserts g c =
     let fits : c.args.weight ≤ c.self.inside.budget = omega arith in
     rw (c.take_apart-old_value.ensures, ← c.self.view_is)
     (accepts g.K.PartialEq.eq (state_of c.self.inside.map) (state_of c.insert.new.self)
-    c.args.key c.args.value
-    c.args.weight c.in-Ok.old c.in-Ok.ensures.inserts (state_of c.evict_until_fitting-self-inside.new.map)
+    c.args.key c.args.value c.args.weight c.in-Ok.old c.in-Ok.ensures.inserts
+    (state_of c.evict_until_fitting-self-inside.new.map)
     c.self.inside.budget fits c.evict_until_fitting-self-inside.ensures.keeps)
 
 pub returns-then-weight-self-clause-inserts : goal.returns-then-weight-self-clause-inserts
-returns-then-weight-self-clause-inserts g c = (
-  refl,
-  record {
-    too_heavy = rw (← c.self.view_is) c.if-weight-self.true;
-    unchanged = refl;
-  },
-)
+returns-then-weight-self-clause-inserts g c =
+    (refl, record { too_heavy = rw (← c.self.view_is) c.if-weight-self.true; unchanged = refl })
 
 pub returns-in-Err-clause-inserts : goal.returns-in-Err-clause-inserts
 returns-in-Err-clause-inserts g c =
