@@ -112,7 +112,8 @@ module _ {K V : Type 0} (eq : K → K → Bool) (es : List (K × V)) (cap : ℕ)
   named_first e n =
       let p = named_parts e n in
       let d = length All - cap - 1 in
-      (take d p.0, p.1 ∙ ap (λ zs. e ∷ zs) (sym (take-append-drop d p.0) ∙ ap (λ zs. take d p.0 ++ zs) (sym p.3)))
+      let parted = sym (take-append-drop d p.0) ∙ ap (λ zs. take d p.0 ++ zs) (sym p.3) in
+      (take d p.0, p.1 ∙ ap (λ zs. e ∷ zs) parted)
 
   -- where none is named there is a place
   pub unnamed : evicted_by (eq k) es cap ≡ None → 1 ≤ cap → last_entries All cap ≡ All

@@ -7,8 +7,8 @@ use Rattle.hashlink_lru.proofs.cache.LruCache.get_or_try_insert_with.Goals as go
 pub unreachable-requires : goal.unreachable-requires
 unreachable-requires g c =
     some_stands g.K.PartialEq.eq g.met.K.Eq.laws _ (state_of c.args.self.now)
-    (state_of c.use_or_try_put.new.self)
-    c.args.key c.in_ok-use_or_try_put.ensures.used c.in-None.ensures.value
+    (state_of c.use_or_try_put.new.self) c.args.key c.in_ok-use_or_try_put.ensures.used
+    c.in-None.ensures.value
 
 pub returns : goal.returns
 returns g c =

@@ -14,5 +14,4 @@ returns-clause-used g c =
     let keeps = c.keep_last.ensures.keeps in
     used_new g.K.PartialEq.eq _ (state_of c.args.self.now) (state_of c.keep_last.new.self)
     (keyed.state_of c.move_or_make.new.map) c.args.key c.in_ok-move_or_make.ensures.puts
-    (λ same. omega arith) c.max.result c.max.ensures
-    keeps.map keeps.cap
+    (λ same. omega arith) c.max.result c.max.ensures keeps.map keeps.cap

@@ -12,10 +12,8 @@ returns-in_err-extend-clause-ran g c =
     took_some nexts (λ raw. raw) g.I.IntoIterator.into_iter_gives (InsertsPairIn g.K.PartialEq.eq)
     (OnMap (Grows 1)) c.args.iter (state_of c.args.self.now) (state_of c.extend.new.self)
     c.from_residual.result e.taken e.pair c.from_residual.ensures.0 (cuts_item nexts)
-    (λ a b x y refused. record {
-      map = refused.map.grows;
-      cap = refused.cap;
-    }) c.in_err-extend.ensures.stopped
+    (λ a b x y refused. record { map = refused.map.grows; cap = refused.cap })
+    c.in_err-extend.ensures.stopped
 
 pub returns-in_err-extend-clause-stopped : goal.returns-in_err-extend-clause-stopped
 returns-in_err-extend-clause-stopped g c =
@@ -29,7 +27,4 @@ returns-clause-ran g c =
     let new = state_of c.extend.new.self in
     took_all g.I.IntoIter.Iterator.next_gives (λ raw. raw) g.I.IntoIterator.into_iter_gives
     (InsertsPairIn g.K.PartialEq.eq) (OnMap (Grows 1)) c.args.iter (state_of c.args.self.now) new
-    c.in_ok-extend.ensures.all (record {
-      map = grows-none new.map;
-      cap = refl;
-    })
+    c.in_ok-extend.ensures.all (record { map = grows-none new.map; cap = refl })
