@@ -1,8 +1,7 @@
 -- A trace, read line by line.
 use Rattle.std.proofs.Common.{◌≡◌, ℕ, suc, ◌-◌, ◌<◌, Bool, true, false, cond, ◌&&◌, List, [], ◌∷◌, ◌++◌}
 use Rattle.std.proofs.Common.{length, take, map, filter, Option, None, Some, IfSome, refl, sym, ap, ap₂, ◌∙◌}
-use Rattle.std.proofs.Common.{subst, arith, append_assoc, eqb, get_or, nat_lt, nat_eq, ◌||◌, true≢false}
-use Rattle.std.specs.List.{list_any}
+use Rattle.std.proofs.Common.{subst, arith, append_assoc, eqb, get_or, nat_lt, nat_eq}
 use Rattle.std.specs.Prelude.{Vec}
 use Rattle.std.specs.Cmp.Lexicographic.{pointwise}
 use Rattle.std.specs.Io.BufRead.{take_through, drop_through, strip_last, first_piece, DropsThrough}
@@ -12,8 +11,7 @@ use Rattle.std.proofs.lemmas.List.{append-nil, map-append}
 use Rattle.std.proofs.lemmas.List.Elements.{filter-append}
 use Rattle.hashlink_curve.specs.Curve.{CurveState, Counted}
 use Rattle.hashlink_curve.proofs.MappedKeys.{Counted-map}
-use Rattle.misscurve.specs.Trace.{CountsLine, CountsTrace, begun_with, is_picked, lines_of, of_bytes}
-use Rattle.misscurve.specs.Trace.{same_bytes}
+use Rattle.misscurve.specs.Trace.{CountsLine, CountsTrace, is_picked, lines_of, of_bytes, same_bytes}
 
 -- ---- the first line
 
@@ -29,17 +27,11 @@ strip_last-at bytes m e =
 strip_last-later : (b c : ℕ) (bytes : List ℕ)
     → strip_last 10 (b ∷ c ∷ bytes) ≡ b ∷ strip_last 10 (c ∷ bytes)
 strip_last-later b c bytes =
-    strip_last-at (b ∷ c ∷ bytes) (suc (length bytes)) refl
-    ∙ by (eqb (get_or (c ∷ bytes) (length bytes) 0) 10)
-    ∙ ap (λ l. b ∷ l) (sym (strip_last-at (c ∷ bytes) (length bytes) refl))
-  where
-    by : (e : Bool) → cond e (b ∷ take (length bytes) (c ∷ bytes)) (b ∷ c ∷ bytes)
-        ≡ b ∷ cond e (take (length bytes) (c ∷ bytes)) (c ∷ bytes)
-    by true = refl
-    by false = refl
-
-strip_last-one : (b : ℕ) (e : Bool) → eqb b 10 ≡ e → strip_last 10 (b ∷ []) ≡ cond e [] (b ∷ [])
-strip_last-one b e is = strip_last-at (b ∷ []) 0 refl ∙ ap (λ t. cond t [] (b ∷ [])) is
+    grind (
+      arith,
+      strip_last-at (b ∷ c ∷ bytes) (suc (length bytes)) refl,
+      strip_last-at (c ∷ bytes) (length bytes) refl,
+    )
 
 -- what goes through a byte, or to the end, has one byte at least
 through : (bytes : List ℕ) → 0 < length bytes → (b : ℕ) × (bs : List ℕ) × (take_through 10 bytes ≡ b ∷ bs)
@@ -53,40 +45,18 @@ through (b ∷ bytes) some = by (eqb b 10)
 pub lines_first : (bytes : List ℕ) → 0 < length bytes
     → lines_of bytes ≡ first_piece 10 bytes ∷ lines_of (drop_through 10 bytes)
 lines_first [] some = absurd (omega arith)
-lines_first (b ∷ []) some = by (eqb b 10) refl
-  where
-    by : (e : Bool) → eqb b 10 ≡ e
-        → cond e ([] ∷ []) ((b ∷ []) ∷ [])
-        ≡ strip_last 10 (cond e (b ∷ []) (b ∷ [])) ∷ lines_of (cond e [] [])
-    by true is = ap (λ l. l ∷ []) (sym (strip_last-one b true is))
-    by false is = ap (λ l. l ∷ []) (sym (strip_last-one b false is))
+lines_first (b ∷ []) some = grind (arith, strip_last-at (b ∷ []) 0 refl)
 lines_first (b ∷ c ∷ bytes) some =
-    by (eqb b 10) refl (lines_first (c ∷ bytes) (omega arith)) (through (c ∷ bytes) (omega arith))
-  where
-    by : (e : Bool) → eqb b 10 ≡ e
-        → lines_of (c ∷ bytes) ≡ first_piece 10 (c ∷ bytes) ∷ lines_of (drop_through 10 (c ∷ bytes))
-        → ((d : ℕ) × (ds : List ℕ) × (take_through 10 (c ∷ bytes) ≡ d ∷ ds))
-        → cond e ([] ∷ lines_of (c ∷ bytes)) (begun_with b (lines_of (c ∷ bytes)))
-        ≡ strip_last 10 (cond e (b ∷ []) (b ∷ take_through 10 (c ∷ bytes)))
-        ∷ lines_of (cond e (c ∷ bytes) (drop_through 10 (c ∷ bytes)))
-    by true is h t = ap (λ l. l ∷ lines_of (c ∷ bytes)) (sym (strip_last-one b true is))
-    by false is h t =
-        ap (begun_with b) h
-        ∙ ap (λ l. l ∷ lines_of (drop_through 10 (c ∷ bytes)))
-        (ap (λ bs. b ∷ strip_last 10 bs) t.2 ∙ sym (strip_last-later b t.0 t.1)
-        ∙ ap (λ bs. strip_last 10 (b ∷ bs)) (sym t.2))
+    let t = through (c ∷ bytes) (omega arith) in
+    grind (
+      arith,
+      strip_last-at (b ∷ []) 0 refl,
+      lines_first (c ∷ bytes) (omega arith),
+      t.2,
+      strip_last-later b t.0 t.1,
+    )
 
 -- ---- what was counted
-
-pub one_passes : {X : Type 0} (test : X → Bool) (xs : List X) → list_any test xs ≡ true
-    → (x : X) × (test x ≡ true)
-one_passes test [] any = absurd (true≢false (sym any))
-one_passes {X = X} test (x ∷ xs) any = by (test x) refl any (λ h. one_passes test xs h)
-  where
-    by : (b : Bool) → test x ≡ b → (b || list_any test xs) ≡ true
-        → (list_any test xs ≡ true → (y : X) × (test y ≡ true)) → (y : X) × (test y ≡ true)
-    by true is h later = (x, is)
-    by false is h later = later h
 
 module _ {A : Type 0} (parts : ℕ) (trace : List ℕ) where
   -- what was read of the trace are these lines, and those that are in the part were counted

@@ -2,7 +2,7 @@ use Rattle.std.proofs.Common.{◌≡◌, [], ◌∷◌, cond, ap, sym, ◌∙◌
 use Rattle.std.specs.Cmp.Lexicographic.{pointwise, bytes_decides}
 use Rattle.std.specs.Prelude.{nat_eq}
 use Rattle.std.proofs.lemmas.Cmp.{nat_list_eq_equiv}
-use Rattle.misscurve.proofs.Lines.{one_passes}
+use Rattle.std.proofs.lemmas.List.Folds.{Any-from_list_any}
 use Rattle.misscurve.proofs.trace.record.Goals as goal
 
 pub record_with-requires : goal.record_with-requires
@@ -18,10 +18,12 @@ pub returns-in_ok-record_with : goal.returns-in_ok-record_with
 returns-in_ok-record_with g c used h =
     let line = c.args.line.now in
     let new = c.record_with.new.self in
-    let k = one_passes (λ key. pointwise nat_eq line key.items) new.keys c.in_ok-record_with.ensures.there in
-    let same = (bytes_decides line k.0.items).0 k.1 in (
-      k.0 ∷ [],
+    let some = Any-from_list_any (λ key. pointwise nat_eq line key.items) new.keys
+    c.in_ok-record_with.ensures.there in
+    let k = some.1 in
+    let same = (bytes_decides line k.items).0 some.4 in (
+      k ∷ [],
       ap (λ bytes. bytes ∷ []) (sym same)
           ∙ ap (λ b. cond b (line ∷ []) []) c.if-is_picked.ensures,
-      (c.in_ok-record_with.ensures.counted used k.0 k.1 h).0,
+      (c.in_ok-record_with.ensures.counted used k some.4 h).0,
     )
