@@ -33,34 +33,33 @@ impl Row for Inserts {
 
 /// An iterator over the union of two sets.
 #[derive(Drop)]
-struct Unions<'a> {
-    left: &'a Set,
-    right: &'a Set,
+struct Unions {
+    left: Set,
+    right: Set,
 }
 
-impl Row for Unions<'_> {
+impl Row for Unions {
     type Item = ();
 
     #[inline]
     fn call(&mut self, place: u64, _item: &()) -> Result<u64, AllocError> {
         let mut sum = place;
-        for key in self.left.union(self.right) {
+        for key in self.left.union(&self.right) {
             sum = fold(sum, *key);
         }
         Ok(sum)
     }
 }
 
-/// A set of the keys, each of which comes from one of the lists, where a key of the first is even or not.
-fn filled(alloc: Global, even: &[u64], odd: &[u64]) -> Result<Set, AllocError> {
-    let mut set = LinkedHashSet::new(alloc);
+/// Inserts keys, each of which comes from one of the lists, where a key of the first is even or not.
+fn fill(set: &mut Set, even: &[u64], odd: &[u64]) -> Result<(), AllocError> {
     for (key, other) in even.iter().zip(odd) {
         let element = if *key % 2 == 0 { *key } else { *other };
         if set.insert(element).is_err() {
             return Err(AllocError);
         }
     }
-    Ok(set)
+    Ok(())
 }
 
 fn time_inserts(plan: &Plan<'_>, keys: &Keys) -> io::Result<()> {
@@ -75,22 +74,18 @@ fn time_inserts(plan: &Plan<'_>, keys: &Keys) -> io::Result<()> {
     )
 }
 
-/// Of two sets that have about half of their elements in common.
 fn time_unions(plan: &Plan<'_>, keys: &Keys) -> io::Result<()> {
-    let left = filled(keys.alloc, &keys.held, &keys.held)?;
-    let right = filled(keys.alloc, &keys.mixed, &keys.absent)?;
-    time_union(plan, keys, &left, &right)
+    let left = LinkedHashSet::new(keys.alloc);
+    let right = LinkedHashSet::new(keys.alloc);
+    time_unions_of(plan, keys, &mut Unions { left, right })
 }
 
-/// A call is a look at one element.
-fn time_union(plan: &Plan<'_>, keys: &Keys, left: &Set, right: &Set) -> io::Result<()> {
+/// Of two sets that have about half of their elements in common. A call is a look at one element.
+fn time_unions_of(plan: &Plan<'_>, keys: &Keys, unions: &mut Unions) -> io::Result<()> {
+    fill(&mut unions.left, &keys.held, &keys.held)?;
+    fill(&mut unions.right, &keys.mixed, &keys.absent)?;
     let calls = keys.held.len().saturating_mul(2);
-    plan.row(
-        "set_union",
-        calls,
-        &mut Turns::of(&[()]),
-        &mut Unions { left, right },
-    )
+    plan.row("set_union", calls, &mut Turns::of(&[()]), unions)
 }
 
 pub(crate) fn rows(plan: &Plan<'_>, keys: &Keys) -> io::Result<()> {

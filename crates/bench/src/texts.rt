@@ -8,6 +8,14 @@ use std::io;
 
 type Map = LinkedHashMap<String, u64>;
 
+#[inline]
+fn insert_copy(map: &mut Map, text: &String, value: u64) -> Result<Option<u64>, AllocError> {
+    match map.insert(text.clone()?, value) {
+        Ok(old) => Ok(old),
+        Err(_) => Err(AllocError),
+    }
+}
+
 /// Inserts of new texts, into an empty map in each pass. The texts are made before.
 #[derive(Drop)]
 struct Inserts<'a> {
@@ -22,7 +30,7 @@ impl Row for Inserts<'_> {
 
     fn ready(&mut self) -> Result<(), AllocError> {
         self.map = LinkedHashMap::new(self.alloc);
-        self.coming = texts(self.alloc, self.keys)?;
+        self.coming = texts(self.alloc, Form::Number, self.keys)?;
         Ok(())
     }
 
@@ -68,10 +76,8 @@ impl Row for Queues {
             Some((text, value)) => fold(last_byte(&text), value),
             None => place,
         };
-        match self.map.insert(text.clone()?, place) {
-            Ok(old) => Ok(fold(first, old.unwrap_or(place))),
-            Err(_) => Err(AllocError),
-        }
+        let old = insert_copy(&mut self.map, text, place)?;
+        Ok(fold(first, old.unwrap_or(place)))
     }
 }
 
@@ -123,17 +129,41 @@ impl Row for Uses<'_> {
     }
 }
 
-/// The keys as texts of 20 bytes.
-fn texts(alloc: Global, keys: &[u64]) -> Result<Vec<String>, AllocError> {
+/// What a text says of its key.
+#[derive(Clone, Copy)]
+enum Form {
+    /// The key alone, in 20 bytes.
+    Number,
+    /// A token of 32 bytes.
+    Token,
+    /// A statement of a database, of 77 bytes, which begins and ends as all others do.
+    Statement,
+}
+
+fn text(alloc: Global, form: Form, key: u64) -> Result<String, AllocError> {
+    match form {
+        Form::Number => format!(in alloc; "{key:020}"),
+        Form::Token => {
+            let rest = !key;
+            format!(in alloc; "{key:016x}{rest:016x}")
+        }
+        Form::Statement => format!(in alloc;
+            "SELECT name, price FROM articles WHERE shop = {key:020} AND id = ?"
+        ),
+    }
+}
+
+/// A text of each key.
+fn texts(alloc: Global, form: Form, keys: &[u64]) -> Result<Vec<String>, AllocError> {
     let mut texts = Vec::new(alloc);
     for key in keys {
-        texts.push(format!(in alloc; "{key:020}")?)?;
+        texts.push(text(alloc, form, *key)?)?;
     }
     Ok(texts)
 }
 
 fn time_gets(plan: &Plan<'_>, keys: &Keys, map: &Map) -> io::Result<()> {
-    let mixed = texts(keys.alloc, &keys.mixed)?;
+    let mixed = texts(keys.alloc, Form::Number, &keys.mixed)?;
     plan.row(
         "text_get_hit",
         mixed.len(),
@@ -159,72 +189,64 @@ fn time_maps(plan: &Plan<'_>, keys: &Keys) -> io::Result<()> {
     time_gets(plan, keys, &inserts.map)
 }
 
-/// A map of the texts, each with its place in the list as its value.
-fn filled(alloc: Global, texts: &[String]) -> Result<Map, AllocError> {
-    let mut map = LinkedHashMap::new(alloc);
-    for (place, text) in texts.iter().enumerate() {
-        if map.insert(text.clone()?, place as u64).is_err() {
-            return Err(AllocError);
-        }
-    }
-    Ok(map)
-}
-
 fn time_queue(plan: &Plan<'_>, keys: &Keys) -> io::Result<()> {
-    let held = texts(keys.alloc, &keys.held)?;
-    let absent = texts(keys.alloc, &keys.absent)?;
-    let map = filled(keys.alloc, &held)?;
-    let sides = &mut Turns::new(&absent, &held);
-    plan.row("text_pop_insert", held.len(), sides, &mut Queues { map })
+    let held = texts(keys.alloc, Form::Number, &keys.held)?;
+    let absent = texts(keys.alloc, Form::Number, &keys.absent)?;
+    let map = LinkedHashMap::new(keys.alloc);
+    time_queue_of(plan, &absent, &held, &mut Queues { map })
 }
 
-/// Tokens of 32 bytes.
-fn tokens(alloc: Global, keys: &[u64]) -> Result<Vec<String>, AllocError> {
-    let mut tokens = Vec::new(alloc);
-    for key in keys {
-        let rest = !*key;
-        tokens.push(format!(in alloc; "{key:016x}{rest:016x}")?)?;
+/// The texts that are held are in the map at first.
+fn time_queue_of(
+    plan: &Plan<'_>,
+    absent: &[String],
+    held: &[String],
+    queues: &mut Queues,
+) -> io::Result<()> {
+    for (place, text) in held.iter().enumerate() {
+        insert_copy(&mut queues.map, text, place as u64)?;
     }
-    Ok(tokens)
-}
-
-/// Statements of a database, of 77 bytes, which all begin and end alike.
-fn statements(alloc: Global, keys: &[u64]) -> Result<Vec<String>, AllocError> {
-    let mut statements = Vec::new(alloc);
-    for key in keys {
-        statements.push(format!(in alloc;
-            "SELECT name, price FROM articles WHERE shop = {key:020} AND id = ?"
-        )?)?;
-    }
-    Ok(statements)
+    let sides = &mut Turns::new(absent, held);
+    plan.row("text_pop_insert", held.len(), sides, queues)
 }
 
 /// The texts come about as by Zipf's law.
-fn time_uses(plan: &Plan<'_>, name: &str, alloc: Global, uses: &mut Uses<'_>) -> io::Result<()> {
+fn time_uses(
+    plan: &Plan<'_>,
+    name: &str,
+    alloc: Global,
+    is_full: bool,
+    uses: &mut Uses<'_>,
+) -> io::Result<()> {
+    if is_full {
+        uses.use_each()?;
+    }
     let places: Vec<u64> = (0..uses.texts.len() as u64).collect(alloc)?;
     let chosen = &mut Choices::zipf(alloc, &places);
     plan.row(name, places.len(), chosen, uses)
 }
 
-/// Of a cache for half of the tokens, full at first.
-fn time_tokens(plan: &Plan<'_>, keys: &Keys) -> io::Result<()> {
-    let tokens = tokens(keys.alloc, &keys.held)?;
-    let half = (tokens.len() / 2).max(1);
-    let uses = &mut Uses::new(keys.alloc, &tokens, half);
-    uses.use_each()?;
-    time_uses(plan, "lru_text", keys.alloc, uses)
-}
-
-/// Of a cache for all statements, empty at first.
-fn time_statements(plan: &Plan<'_>, keys: &Keys) -> io::Result<()> {
-    let statements = statements(keys.alloc, &keys.held)?;
-    let uses = &mut Uses::new(keys.alloc, &statements, statements.len());
-    time_uses(plan, "statement_get", keys.alloc, uses)
+/// Of a cache of texts for half of them, full at first, or for all, empty at first.
+fn time_cache(
+    plan: &Plan<'_>,
+    name: &str,
+    keys: &Keys,
+    form: Form,
+    is_full: bool,
+) -> io::Result<()> {
+    let texts = texts(keys.alloc, form, &keys.held)?;
+    let capacity = if is_full {
+        (texts.len() / 2).max(1)
+    } else {
+        texts.len()
+    };
+    let uses = &mut Uses::new(keys.alloc, &texts, capacity);
+    time_uses(plan, name, keys.alloc, is_full, uses)
 }
 
 pub(crate) fn rows(plan: &Plan<'_>, keys: &Keys) -> io::Result<()> {
     time_maps(plan, keys)?;
     time_queue(plan, keys)?;
-    time_tokens(plan, keys)?;
-    time_statements(plan, keys)
+    time_cache(plan, "lru_text", keys, Form::Token, true)?;
+    time_cache(plan, "statement_get", keys, Form::Statement, false)
 }
