@@ -5,13 +5,13 @@ use hashlink::{LinkedHashSet, LruCache};
 use std::process::ExitCode;
 
 /// A number with one digit more.
-fn with_digit(digits: u32, digit: u32) -> u32 {
+fn with_digit(digits: u64, digit: u64) -> u64 {
     digits.wrapping_mul(10).wrapping_add(digit)
 }
 
 /// The keys as digits, by a loop.
-fn digits(map: &Map) -> u32 {
-    let mut digits = 0u32;
+fn digits(map: &Map) -> u64 {
+    let mut digits = 0u64;
     for (key, _) in map {
         digits = with_digit(digits, *key);
     }
@@ -19,20 +19,20 @@ fn digits(map: &Map) -> u32 {
 }
 
 /// The same from the back, by adapters.
-fn keys_backwards(keys: Keys<'_, u32, u32>) -> u32 {
+fn keys_backwards(keys: Keys<'_, u64, u64>) -> u64 {
     keys.rev()
-        .fold(0u32, |digits, key| with_digit(digits, *key))
+        .fold(0u64, |digits, key| with_digit(digits, *key))
 }
 
 /// The values, each with its last digit left out, from the back.
-fn values_backwards(values: Values<'_, u32, u32>) -> u32 {
+fn values_backwards(values: Values<'_, u64, u64>) -> u64 {
     values
         .rev()
-        .fold(0u32, |digits, value| with_digit(digits, *value / 10))
+        .fold(0u64, |digits, value| with_digit(digits, *value / 10))
 }
 
 /// Whether the first pair comes last from the back.
-fn ends_with_first(entries: Iter<'_, u32, u32>) -> bool {
+fn ends_with_first(entries: Iter<'_, u64, u64>) -> bool {
     is_pair(entries.rev().last(), 3, 30)
 }
 
@@ -50,7 +50,7 @@ fn a_map_goes_through_loops_and_adapters(rt: HostRuntime) -> ExitCode {
 }
 
 /// Whether a loop over a borrowed cache begins with the pair of ones, and goes over one more.
-fn begins_with_one(cache: &LruCache<u32, u32>) -> bool {
+fn begins_with_one(cache: &LruCache<u64, u64>) -> bool {
     let mut entries = cache.into_iter();
     is_pair(entries.next(), 1, 1) & (entries.len() == 1)
 }
@@ -61,8 +61,8 @@ fn a_borrowed_cache_is_iterated(rt: HostRuntime) -> ExitCode {
 }
 
 /// The elements as digits, by a loop.
-fn digits_of_set(set: &LinkedHashSet<u32>) -> u32 {
-    let mut digits = 0u32;
+fn digits_of_set(set: &LinkedHashSet<u64>) -> u64 {
+    let mut digits = 0u64;
     for element in set {
         digits = with_digit(digits, *element);
     }

@@ -1,6 +1,6 @@
 //! A list of commands with keys that are equal and yet differ.
 use crate::few::passes;
-use crate::keys::Numbered;
+use crate::keys::{Numbered, key};
 use hashlink::LinkedHashMap;
 use hashlink::run::{Command, EntryStep, Reply, run};
 use std::alloc::{AllocError, Global};
@@ -10,11 +10,6 @@ type Commands = Vec<Command<Numbered, u32>>;
 
 type Replies = Vec<Reply<Numbered, u32>>;
 
-/// The key of this number. All are equal.
-fn key(number: u32) -> Numbered {
-    Numbered { group: 1, number }
-}
-
 /// The commands and one more.
 fn and(mut commands: Commands, command: Command<Numbered, u32>) -> Commands {
     let _pushed = commands.push(command);
@@ -23,16 +18,16 @@ fn and(mut commands: Commands, command: Command<Numbered, u32>) -> Commands {
 
 /// Two inserts, with a cursor without steps between.
 fn inserts(alloc: Global) -> Commands {
-    let commands = and(Vec::new(alloc), Command::Insert(key(1), 10));
+    let commands = and(Vec::new(alloc), Command::Insert(key(1, 1), 10));
     let commands = and(commands, Command::Cursor(Vec::new(alloc)));
-    and(commands, Command::Insert(key(2), 11))
+    and(commands, Command::Insert(key(1, 2), 11))
 }
 
 /// The inserts, a read, and two steps of entries.
 fn all_commands(alloc: Global) -> Commands {
-    let commands = and(inserts(alloc), Command::Get(key(3)));
-    let commands = and(commands, Command::Entry(key(4), EntryStep::ReplaceKey));
-    and(commands, Command::Entry(key(5), EntryStep::RemoveEntry))
+    let commands = and(inserts(alloc), Command::Get(key(1, 3)));
+    let commands = and(commands, Command::Entry(key(1, 4), EntryStep::ReplaceKey));
+    and(commands, Command::Entry(key(1, 5), EntryStep::RemoveEntry))
 }
 
 /// What a read is told of its pair: whether the stored key has the number 1.

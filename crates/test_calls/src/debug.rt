@@ -1,13 +1,11 @@
 //! The texts of `{:?}`, and of errors.
-use crate::few::{Map, cache_of, is_cloned, map_of, passes, set_of};
-use crate::keys::Numbered;
+use crate::few::{Map, cache_of, is_cloned, map_of, passes, says, set_of, shows};
+use crate::keys::{Numbered, key};
 use hashlink::linked_hash_map::{Entry, ExtendError, RawEntryMut};
 use hashlink::lru_cache::TryInsertError;
 use hashlink::weighted::{WeightError, WeightedCache};
 use hashlink::{LinkedHashMap, LinkedHashSet};
 use std::alloc::Global;
-use std::error::Error;
-use std::fmt;
 use std::process::ExitCode;
 
 const PAIRS: &str = "[(1, 10), (2, 20)]";
@@ -15,23 +13,6 @@ const PAIRS: &str = "[(1, 10), (2, 20)]";
 /// The keys 1 and 2 with ten times their numbers.
 fn one_and_two(alloc: Global) -> Map {
     map_of(alloc, &[(1, 10), (2, 20)])
-}
-
-/// Whether the value shows itself so. It takes the value, so that a test has none to drop.
-fn shows<T: fmt::Debug + Drop>(alloc: Global, value: T, text: &str) -> bool {
-    let shown = format!(in alloc; "{value:?}");
-    shown.is_ok_and(|shown| shown.as_str() == text)
-}
-
-/// Whether this is shown of a value. It takes the value, so that a test has none to drop.
-fn shows_of<T: Drop, F: FnOnce(Global, &mut T) -> bool>(
-    alloc: Global,
-    mut value: T,
-    shows: F,
-) -> bool
-    requires { F.IsAlwaysCallable shows }
-{
-    shows(alloc, &mut value)
 }
 
 #[test]
@@ -42,16 +23,17 @@ fn a_map_shows_its_entries(rt: HostRuntime) -> ExitCode {
     )
 }
 
-/// Whether a set of 1 and 2 and its iterator show the elements, and an empty set shows none.
-fn elements_are_shown(alloc: Global, set: &LinkedHashSet<u32>, empty: &LinkedHashSet<u32>) -> bool {
-    shows(alloc, set, "{1, 2}") & shows(alloc, set.iter(), "[1, 2]") & shows(alloc, empty, "{}")
+/// Whether a set of 1 and 2 and its iterator show the elements.
+fn elements_are_shown(alloc: Global, set: &LinkedHashSet<u64>) -> bool {
+    shows(alloc, set, "{1, 2}") & shows(alloc, set.iter(), "[1, 2]")
 }
 
 #[test]
 fn a_set_shows_its_elements(rt: HostRuntime) -> ExitCode {
-    let set = set_of(rt.alloc(), &[1, 2]);
-    let empty = set_of(rt.alloc(), &[]);
-    passes(shows_of_two(rt.alloc(), set, empty, elements_are_shown))
+    passes(
+        shows(rt.alloc(), set_of(rt.alloc(), &[]), "{}")
+            & elements_are_shown(rt.alloc(), &set_of(rt.alloc(), &[1, 2])),
+    )
 }
 
 #[test]
@@ -67,7 +49,7 @@ fn a_cache_shows_what_was_used_last_first(rt: HostRuntime) -> ExitCode {
 }
 
 /// Whether a cache with a budget and its iterator show two pairs that are put in.
-fn weighted_pairs_are_shown(alloc: Global, cache: &mut WeightedCache<u32, u32>) -> bool {
+fn weighted_pairs_are_shown(alloc: Global, cache: &mut WeightedCache<u64, u64>) -> bool {
     let _first = cache.insert(1, 10, 1);
     let _second = cache.insert(2, 20, 1);
     shows(alloc, &*cache, "{2: 20, 1: 10}") & shows(alloc, cache.iter(), "[(1, 10, 1), (2, 20, 1)]")
@@ -75,8 +57,8 @@ fn weighted_pairs_are_shown(alloc: Global, cache: &mut WeightedCache<u32, u32>) 
 
 #[test]
 fn a_cache_with_a_budget_shows_what_was_used_last_first(rt: HostRuntime) -> ExitCode {
-    let cache = WeightedCache::new(rt.alloc(), 2);
-    passes(shows_of(rt.alloc(), cache, weighted_pairs_are_shown))
+    let cache = &mut WeightedCache::new(rt.alloc(), 2);
+    passes(weighted_pairs_are_shown(rt.alloc(), cache))
 }
 
 /// Whether the iterators over the map that read show what is left.
@@ -92,8 +74,8 @@ fn readers_show_what_is_left(alloc: Global, map: &mut Map) -> bool {
 
 #[test]
 fn iterators_that_read_show_what_is_left(rt: HostRuntime) -> ExitCode {
-    let map = one_and_two(rt.alloc());
-    passes(shows_of(rt.alloc(), map, readers_show_what_is_left))
+    let map = &mut one_and_two(rt.alloc());
+    passes(readers_show_what_is_left(rt.alloc(), map))
 }
 
 /// Whether the iterator over the map that writes values in pairs shows what is left.
@@ -123,74 +105,41 @@ fn writers_show_what_is_left(alloc: Global, map: &mut Map) -> bool {
 
 #[test]
 fn iterators_that_write_or_own_show_what_is_left(rt: HostRuntime) -> ExitCode {
+    let map = &mut one_and_two(rt.alloc());
     passes(
         shows(rt.alloc(), one_and_two(rt.alloc()).into_iter(), PAIRS)
-            & shows_of(
-                rt.alloc(),
-                one_and_two(rt.alloc()),
-                writers_show_what_is_left,
-            ),
+            & writers_show_what_is_left(rt.alloc(), map),
     )
 }
 
-/// The same of two values.
-fn shows_of_two<T: Drop, F: FnOnce(Global, &T, &T) -> bool>(
+/// Whether the iterators over two sets show what is left so: the difference, the intersection, the union and
+/// the symmetric difference.
+fn lazy_ones_show(
     alloc: Global,
-    left: T,
-    right: T,
-    shows: F,
-) -> bool
-    requires { F.IsAlwaysCallable shows }
-{
-    shows(alloc, &left, &right)
-}
-
-/// Whether each iterator over two sets shows what is left.
-fn lazy_ones_show_what_is_left(
-    alloc: Global,
-    left: &LinkedHashSet<u32>,
-    right: &LinkedHashSet<u32>,
+    left: &LinkedHashSet<u64>,
+    right: &LinkedHashSet<u64>,
+    texts: [&str; 4],
 ) -> bool {
-    shows(alloc, left.difference(right), "[1]")
-        & shows(alloc, left.intersection(right), "[2]")
-        & shows(alloc, left.union(right), "[1, 2, 3]")
-        & shows(alloc, left.symmetric_difference(right), "[1, 3]")
+    shows(alloc, left.difference(right), texts[0])
+        & shows(alloc, left.intersection(right), texts[1])
+        & shows(alloc, left.union(right), texts[2])
+        & shows(alloc, left.symmetric_difference(right), texts[3])
 }
 
 #[test]
 fn iterators_over_two_sets_show_what_is_left(rt: HostRuntime) -> ExitCode {
     let left = set_of(rt.alloc(), &[1, 2]);
     let right = set_of(rt.alloc(), &[2, 3]);
-    passes(shows_of_two(rt.alloc(), left, right, lazy_ones_show_what_is_left))
-}
-
-/// Whether the iterators over the elements of either of two sets show two of them.
-fn those_over_both_show_two(
-    alloc: Global,
-    left: &LinkedHashSet<u32>,
-    right: &LinkedHashSet<u32>,
-) -> bool {
-    shows(alloc, left.union(right), "[1, 2]")
-        & shows(alloc, left.symmetric_difference(right), "[1, 2]")
-}
-
-/// Whether the iterators over the elements of the first of two sets show two of them.
-fn those_over_one_show_two(
-    alloc: Global,
-    left: &LinkedHashSet<u32>,
-    other: &LinkedHashSet<u32>,
-) -> bool {
-    shows(alloc, left.intersection(left), "[1, 2]") & shows(alloc, left.difference(other), "[1, 2]")
+    let texts = ["[1]", "[2]", "[1, 2, 3]", "[1, 3]"];
+    passes(lazy_ones_show(rt.alloc(), &left, &right, texts))
 }
 
 #[test]
 fn iterators_over_two_sets_show_two_that_are_left(rt: HostRuntime) -> ExitCode {
-    let one = set_of(rt.alloc(), &[1]);
-    let two = set_of(rt.alloc(), &[2]);
-    let is_shown = shows_of_two(rt.alloc(), one, two, those_over_both_show_two);
-    let both = set_of(rt.alloc(), &[1, 2]);
-    let other = set_of(rt.alloc(), &[3]);
-    passes(is_shown & shows_of_two(rt.alloc(), both, other, those_over_one_show_two))
+    let left = set_of(rt.alloc(), &[1, 2, 3, 4]);
+    let right = set_of(rt.alloc(), &[3, 4]);
+    let texts = ["[1, 2]", "[3, 4]", "[1, 2, 3, 4]", "[1, 2]"];
+    passes(lazy_ones_show(rt.alloc(), &left, &right, texts))
 }
 
 /// Whether an occupied entry shows itself.
@@ -237,16 +186,11 @@ fn each_is_shown(alloc: Global, map: &mut Map) -> bool {
 
 #[test]
 fn an_entry_that_was_matched_shows_itself(rt: HostRuntime) -> ExitCode {
-    let map = map_of(rt.alloc(), &[(1, 10)]);
-    passes(shows_of(rt.alloc(), map, each_is_shown))
+    let map = &mut map_of(rt.alloc(), &[(1, 10)]);
+    passes(each_is_shown(rt.alloc(), map))
 }
 
-/// The key of a group, of which a map keeps the first that it is given.
-fn key(group: u32, number: u32) -> Numbered {
-    Numbered { group, number }
-}
-
-type NumberedMap = LinkedHashMap<Numbered, u32>;
+type NumberedMap = LinkedHashMap<Numbered, u64>;
 
 /// Puts in one entry, whose key has the number 5.
 fn put_one(map: &mut NumberedMap) {
@@ -290,21 +234,15 @@ fn all_is_shown(alloc: Global, map: &mut NumberedMap) -> bool {
 
 #[test]
 fn an_entry_shows_the_stored_key_and_a_builder_its_name(rt: HostRuntime) -> ExitCode {
-    let map = LinkedHashMap::new(rt.alloc());
-    passes(shows_of(rt.alloc(), map, all_is_shown))
+    let map = &mut LinkedHashMap::new(rt.alloc());
+    passes(all_is_shown(rt.alloc(), map))
 }
 
-/// Whether the error has this text.
-fn says<E: Error>(alloc: Global, error: &E, text: &str) -> bool {
-    let said = error.to_string(alloc);
-    said.is_ok_and(|said| said.as_str() == text)
-}
-
-type Stopped = ExtendError<u32, u32>;
+type Stopped = ExtendError<u64, u64>;
 
 #[test]
 fn an_extend_that_ran_out_of_memory_says_after_how_many(rt: HostRuntime) -> ExitCode {
-    let pair = (3u32, 30u32);
+    let pair = (3u64, 30u64);
     let error: Stopped = ExtendError { taken: 2, pair };
     passes(
         says(rt.alloc(), &error, "no memory for an item, after 2 items")
@@ -318,7 +256,7 @@ fn an_extend_that_ran_out_of_memory_says_after_how_many(rt: HostRuntime) -> Exit
     )
 }
 
-type Refused = WeightError<u32, u32>;
+type Refused = WeightError<u64, u64>;
 
 /// Whether an error of a weight says and shows why.
 fn weight_says_why(alloc: Global, heavy: &Refused, refused: &Refused) -> bool {
@@ -340,7 +278,7 @@ fn a_refused_weight_says_why_and_hands_its_pair_back(rt: HostRuntime) -> ExitCod
     )
 }
 
-type NotMade = TryInsertError<u32, u32, u8>;
+type NotMade = TryInsertError<u64, u64, u8>;
 
 #[test]
 fn a_value_that_was_not_made_says_why(rt: HostRuntime) -> ExitCode {

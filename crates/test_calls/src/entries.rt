@@ -1,10 +1,10 @@
 //! Entries: whether a closure is called, and the raw entry of a vacant one.
-use crate::few::{Map, is_pair, is_value, map_of, passes_on};
+use crate::few::{Map, is_pair, is_value, map_of, passes};
 use hashlink::linked_hash_map::Entry;
 use std::process::ExitCode;
 
 /// Whether the entry of the key calls the closure that makes a value.
-fn entry_makes(map: &mut Map, key: u32) -> bool {
+fn entry_makes(map: &mut Map, key: u64) -> bool {
     let mut is_made = false;
     let _value = map.entry(key).or_insert_with(|| {
         is_made = true;
@@ -14,7 +14,7 @@ fn entry_makes(map: &mut Map, key: u32) -> bool {
 }
 
 /// The same of a raw entry, whose closure makes a pair.
-fn raw_entry_makes(map: &mut Map, key: u32) -> bool {
+fn raw_entry_makes(map: &mut Map, key: u64) -> bool {
     let mut is_made = false;
     let _pair = map.raw_entry_of(&key).or_insert_with(|| {
         is_made = true;
@@ -30,11 +30,11 @@ fn what_is_absent_is_made(map: &mut Map) -> bool {
 
 #[test]
 fn an_entry_makes_what_is_absent_alone(rt: HostRuntime) -> ExitCode {
-    passes_on(map_of(rt.alloc(), &[(1, 10)]), what_is_absent_is_made)
+    passes(what_is_absent_is_made(&mut map_of(rt.alloc(), &[(1, 10)])))
 }
 
 /// Inserts a pair by the raw entry of a vacant entry.
-fn put_raw(map: &mut Map, key: u32, value: u32) -> bool {
+fn put_raw(map: &mut Map, key: u64, value: u64) -> bool {
     match map.entry(key) {
         Entry::Vacant(entry) => entry.raw_entry_mut().insert(key, value).is_ok(),
         Entry::Occupied(_occupied) => false,
@@ -48,11 +48,11 @@ fn is_put_raw(map: &mut Map) -> bool {
 
 #[test]
 fn the_raw_entry_of_a_vacant_entry_takes_a_pair(rt: HostRuntime) -> ExitCode {
-    passes_on(map_of(rt.alloc(), &[(1, 10)]), is_put_raw)
+    passes(is_put_raw(&mut map_of(rt.alloc(), &[(1, 10)])))
 }
 
 /// Counts a word by an entry whose value is 0 at first.
-fn count(map: &mut Map, word: u32) {
+fn count(map: &mut Map, word: u64) {
     if let Ok(count) = map.entry(word).or_default() {
         *count = count.wrapping_add(1);
     }
@@ -68,5 +68,5 @@ fn counts_from_nothing(map: &mut Map) -> bool {
 
 #[test]
 fn an_entry_makes_a_default_value(rt: HostRuntime) -> ExitCode {
-    passes_on(map_of(rt.alloc(), &[]), counts_from_nothing)
+    passes(counts_from_nothing(&mut map_of(rt.alloc(), &[])))
 }

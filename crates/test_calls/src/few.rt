@@ -1,10 +1,16 @@
 //! Small containers of numbers, and what tests ask of values.
-use hashlink::{LinkedHashMap, LinkedHashSet, LruCache};
-use std::alloc::{AllocError, Global};
+ghost use Rattle.std.specs.Prelude.{◌≡◌, if◌then◌else◌};
+
+use hashlink::{LinkedHashMap, LinkedHashSet, LruCache, TryReserveError};
+use std::alloc::Global;
+use std::error::Error;
+use std::fmt;
 use std::process::ExitCode;
 
 /// How a test ends. It costs its proof less than an assertion, which would be one more way out.
-pub(crate) fn passes(holds: bool) -> ExitCode {
+pub(crate) fn passes(holds: bool) -> ExitCode
+    ensures { result ≡ (if holds then ExitCode.SUCCESS else ExitCode.FAILURE) }
+{
     if holds {
         ExitCode::SUCCESS
     } else {
@@ -12,38 +18,19 @@ pub(crate) fn passes(holds: bool) -> ExitCode {
     }
 }
 
-/// Whether this holds of a value. It takes the value, so that a test has none to drop.
-pub(crate) fn holds_of<T: Drop, F: FnOnce(&mut T) -> bool>(mut value: T, holds: F) -> bool
-    requires { F.IsAlwaysCallable holds }
-{
-    holds(&mut value)
+/// Whether the error has this text.
+pub(crate) fn says<E: Error>(alloc: Global, error: &E, text: &str) -> bool {
+    match error.to_string(alloc) {
+        Ok(said) => said.as_str() == text,
+        Err(_) => false,
+    }
 }
 
-/// Whether this holds of two values. It takes them as well.
-pub(crate) fn holds_of_two<T: Drop, F: FnOnce(&T, &T) -> bool>(left: T, right: T, holds: F) -> bool
-    requires { F.IsAlwaysCallable holds }
-{
-    holds(&left, &right)
-}
-
-/// How a test ends that asks this of a value.
-pub(crate) fn passes_on<T: Drop, F: FnOnce(&mut T) -> bool>(value: T, holds: F) -> ExitCode
-    requires { F.IsAlwaysCallable holds }
-{
-    passes(holds_of(value, holds))
-}
-
-/// How a test ends that asks this of a value and a key of its own, which is made where there is memory.
-pub(crate) fn passes_with<T: Drop, K: Drop, F: FnOnce(&mut T, K) -> bool>(
-    mut value: T,
-    key: Result<K, AllocError>,
-    holds: F,
-) -> ExitCode
-    requires { F.IsAlwaysCallable holds }
-{
-    match key {
-        Ok(key) => passes(holds(&mut value, key)),
-        Err(_) => ExitCode::FAILURE,
+/// Whether the value shows itself so. It takes the value, so that a test has none to drop.
+pub(crate) fn shows<T: fmt::Debug + Drop>(alloc: Global, value: T, text: &str) -> bool {
+    match format!(in alloc; "{value:?}") {
+        Ok(shown) => shown.as_str() == text,
+        Err(_) => false,
     }
 }
 
@@ -69,9 +56,9 @@ pub(crate) fn is_pair<K: Copy + PartialEq, V: Copy + PartialEq>(
     found == Some((&key, &value))
 }
 
-pub(crate) type Map = LinkedHashMap<u32, u32>;
+pub(crate) type Map = LinkedHashMap<u64, u64>;
 
-pub(crate) fn map_of(alloc: Global, pairs: &[(u32, u32)]) -> Map {
+pub(crate) fn map_of(alloc: Global, pairs: &[(u64, u64)]) -> Map {
     let mut map = LinkedHashMap::new(alloc);
     for (key, value) in pairs {
         let _old = map.insert(*key, *value);
@@ -79,7 +66,7 @@ pub(crate) fn map_of(alloc: Global, pairs: &[(u32, u32)]) -> Map {
     map
 }
 
-pub(crate) fn set_of(alloc: Global, elements: &[u32]) -> LinkedHashSet<u32> {
+pub(crate) fn set_of(alloc: Global, elements: &[u64]) -> LinkedHashSet<u64> {
     let mut set = LinkedHashSet::new(alloc);
     for element in elements {
         let _is_new = set.insert(*element);
@@ -88,10 +75,23 @@ pub(crate) fn set_of(alloc: Global, elements: &[u32]) -> LinkedHashSet<u32> {
 }
 
 /// A cache into which the pairs went.
-pub(crate) fn cache_of(alloc: Global, capacity: usize, pairs: &[(u32, u32)]) -> LruCache<u32, u32> {
+pub(crate) fn cache_of(alloc: Global, capacity: usize, pairs: &[(u64, u64)]) -> LruCache<u64, u64> {
     let mut cache = LruCache::new(alloc, capacity);
     for (key, value) in pairs {
         let _old = cache.insert(*key, *value);
     }
     cache
+}
+
+#[test]
+fn what_is_asked_of_values_tells_what_is_wrong(rt: HostRuntime) -> ExitCode {
+    passes(
+        !says(rt.alloc(), &TryReserveError::AllocError, "no memory")
+            & !shows(rt.alloc(), 1u64, "2")
+            & !is_cloned(&f64::NAN)
+            & !is_value(Some(&1u64), 2)
+            & !is_value(None::<&u64>, 2)
+            & !is_pair(Some((&1u64, &10u64)), 1, 20)
+            & !is_pair(Some((&1u64, &10u64)), 2, 10),
+    )
 }

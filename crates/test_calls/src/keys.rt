@@ -8,3 +8,8 @@ pub(crate) struct Numbered {
     #[derive_where(skip(EqHashOrd))]
     pub(crate) number: u32,
 }
+
+/// The key of a group, of which a map keeps the first that it is given.
+pub(crate) fn key(group: u32, number: u32) -> Numbered {
+    Numbered { group, number }
+}

@@ -1,5 +1,5 @@
 //! One large run of each container, and of a text.
-use crate::few::{Map, is_cloned, is_value, map_of, passes, passes_on, set_of};
+use crate::few::{Map, is_cloned, is_value, map_of, passes, set_of};
 use hashlink::run::run_text;
 use hashlink::weighted::WeightedCache;
 use hashlink::{LinkedHashSet, LruCache};
@@ -7,10 +7,10 @@ use std::alloc::Global;
 use std::process::ExitCode;
 
 /// More than a million, so that no bound of a million is met by it.
-const MANY: u32 = 1_100_000;
+const MANY: u64 = 1_100_000;
 
 /// Puts the numbers below a bound into a map.
-fn fill(map: &mut Map, bound: u32) {
+fn fill(map: &mut Map, bound: u64) {
     for key in 0..bound {
         let _old = map.insert(key, key);
     }
@@ -24,7 +24,7 @@ fn takes_each_pair(map: &mut Map) -> bool {
 
 #[test]
 fn a_large_map_takes_each_pair(rt: HostRuntime) -> ExitCode {
-    passes_on(map_of(rt.alloc(), &[]), takes_each_pair)
+    passes(takes_each_pair(&mut map_of(rt.alloc(), &[])))
 }
 
 /// Whether the clone of a map of thousands is equal to it.
@@ -35,11 +35,11 @@ fn thousands_are_cloned(map: &mut Map) -> bool {
 
 #[test]
 fn a_map_of_thousands_is_cloned(rt: HostRuntime) -> ExitCode {
-    passes_on(map_of(rt.alloc(), &[]), thousands_are_cloned)
+    passes(thousands_are_cloned(&mut map_of(rt.alloc(), &[])))
 }
 
 /// Whether a set takes each element.
-fn takes_each_element(set: &mut LinkedHashSet<u32>) -> bool {
+fn takes_each_element(set: &mut LinkedHashSet<u64>) -> bool {
     for element in 0..MANY {
         let _added = set.insert(element);
     }
@@ -48,11 +48,11 @@ fn takes_each_element(set: &mut LinkedHashSet<u32>) -> bool {
 
 #[test]
 fn a_large_set_takes_each_element(rt: HostRuntime) -> ExitCode {
-    passes_on(set_of(rt.alloc(), &[]), takes_each_element)
+    passes(takes_each_element(&mut set_of(rt.alloc(), &[])))
 }
 
 /// Whether a cache keeps as many as it may, and the last key that had to leave is gone.
-fn keeps_the_last_pairs(cache: &mut LruCache<u32, ()>) -> bool {
+fn keeps_the_last_pairs(cache: &mut LruCache<u64, ()>) -> bool {
     for key in 0..MANY {
         let _old = cache.insert(key, ());
     }
@@ -61,11 +61,11 @@ fn keeps_the_last_pairs(cache: &mut LruCache<u32, ()>) -> bool {
 
 #[test]
 fn a_large_cache_keeps_the_last_pairs(rt: HostRuntime) -> ExitCode {
-    passes_on(LruCache::new(rt.alloc(), 1_000_001), keeps_the_last_pairs)
+    passes(keeps_the_last_pairs(&mut LruCache::new(rt.alloc(), 1_000_001)))
 }
 
 /// Whether a cache with a budget keeps as many as weigh no more.
-fn keeps_what_fits(cache: &mut WeightedCache<u32, ()>) -> bool {
+fn keeps_what_fits(cache: &mut WeightedCache<u64, ()>) -> bool {
     for key in 0..MANY {
         let _old = cache.insert(key, (), 2);
     }
@@ -74,7 +74,7 @@ fn keeps_what_fits(cache: &mut WeightedCache<u32, ()>) -> bool {
 
 #[test]
 fn a_large_cache_with_a_budget_keeps_what_fits(rt: HostRuntime) -> ExitCode {
-    passes_on(WeightedCache::new(rt.alloc(), 2_000_002), keeps_what_fits)
+    passes(keeps_what_fits(&mut WeightedCache::new(rt.alloc(), 2_000_002)))
 }
 
 /// A text of more than a megabyte, which inserts one pair again and again.

@@ -4,7 +4,7 @@ ghost use Rattle.hashlink.specs.Entries.{IsEntries};
 ghost use Rattle.hashlink.specs.Keyed.{entries_of};
 ghost use Rattle.hashlink.specs.Reading.{entries_from};
 
-use crate::few::{Map, is_value, map_of, passes, passes_on};
+use crate::few::{Map, is_value, map_of, passes};
 use hashlink::LinkedHashMap;
 use std::alloc::{AllocError, Global};
 use std::hash::{BuildHasher, Hash};
@@ -34,7 +34,7 @@ fn copy_keys<T: Eq + Hash + Copy, S: BuildHasher>(pairs: &mut LinkedHashMap<T, T
 }
 
 /// The pairs of a map, of which no two have one key.
-fn pairs_of(alloc: Global, map: Map) -> Result<Vec<(u32, u32)>, AllocError>
+fn pairs_of(alloc: Global, map: Map) -> Result<Vec<(u64, u64)>, AllocError>
     ensures all { IfOk result (λ pairs. pairs.items ≡ entries_of map) }
     ensures distinct { IsEntries nat_eq (entries_of map) }
 {
@@ -58,14 +58,11 @@ fn writes_each(pairs: &mut Map) -> bool {
 
 #[test]
 fn loops_write_each_value(rt: HostRuntime) -> ExitCode {
-    passes_on(
-        map_of(rt.alloc(), &[(1, 10), (2, 20), (3, 30)]),
-        writes_each,
-    )
+    passes(writes_each(&mut map_of(rt.alloc(), &[(1, 10), (2, 20), (3, 30)])))
 }
 
 /// Whether a map's own pairs are these.
-fn are_pairs(alloc: Global, map: Map, pairs: &[(u32, u32)]) -> bool {
+fn are_pairs(alloc: Global, map: Map, pairs: &[(u64, u64)]) -> bool {
     match pairs_of(alloc, map) {
         Ok(own) => own.as_slice() == pairs,
         Err(_) => false,

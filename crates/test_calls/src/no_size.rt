@@ -1,5 +1,5 @@
 //! Keys and values without size. `large.rt` has caches whose values alone have none.
-use crate::few::{holds_of, is_value, passes, passes_on};
+use crate::few::{is_value, passes};
 use hashlink::weighted::WeightedCache;
 use hashlink::{LinkedHashMap, LinkedHashSet, LruCache};
 use std::process::ExitCode;
@@ -32,7 +32,7 @@ fn comes_and_goes(map: &mut Unit) -> bool {
 
 #[test]
 fn a_map_of_keys_without_size_has_one_entry(rt: HostRuntime) -> ExitCode {
-    passes_on(Unit::new(rt.alloc()), comes_and_goes)
+    passes(comes_and_goes(&mut Unit::new(rt.alloc())))
 }
 
 /// Whether an element is inserted once.
@@ -42,7 +42,7 @@ fn is_element_inserted_once(set: &mut LinkedHashSet<()>) -> bool {
 
 #[test]
 fn a_set_of_elements_without_size_has_one(rt: HostRuntime) -> ExitCode {
-    passes_on(LinkedHashSet::new(rt.alloc()), is_element_inserted_once)
+    passes(is_element_inserted_once(&mut LinkedHashSet::new(rt.alloc())))
 }
 
 /// Whether two inserts into a cache find nothing, and a read and a removal find none of them.
@@ -64,9 +64,9 @@ fn keeps_the_last_value(cache: &mut LruCache<(), u32>) -> bool {
 #[test]
 fn a_cache_of_keys_without_size_has_one_entry_at_most(rt: HostRuntime) -> ExitCode {
     passes(
-        holds_of(LruCache::new(rt.alloc(), 0), keeps_nothing)
-            & holds_of(LruCache::new(rt.alloc(), 1), keeps_the_last_value)
-            & holds_of(LruCache::new_unbounded(rt.alloc()), keeps_the_last_value),
+        keeps_nothing(&mut LruCache::new(rt.alloc(), 0))
+            & keeps_the_last_value(&mut LruCache::new(rt.alloc(), 1))
+            & keeps_the_last_value(&mut LruCache::new_unbounded(rt.alloc())),
     )
 }
 
@@ -80,5 +80,5 @@ fn weighs_once(cache: &mut WeightedCache<(), ()>) -> bool {
 
 #[test]
 fn a_cache_with_a_budget_weighs_a_key_without_size_once(rt: HostRuntime) -> ExitCode {
-    passes_on(WeightedCache::new(rt.alloc(), 3), weighs_once)
+    passes(weighs_once(&mut WeightedCache::new(rt.alloc(), 3)))
 }

@@ -4,30 +4,16 @@ use hashlink::{LinkedHashMap, LinkedHashSet, LruCache, TryReserveError};
 use std::alloc::Global;
 use std::process::ExitCode;
 
-/// Whether a map is empty and has that room.
-fn has_room(map: &LinkedHashMap<u32, u32>, room: usize) -> bool {
-    map.is_empty() & (map.capacity() >= room)
-}
-
-/// Whether a map that is made with that room is and has it.
+/// Whether a map that is made with that room is empty and has it.
 fn map_with_room(alloc: Global, room: usize) -> Result<bool, TryReserveError> {
-    match LinkedHashMap::with_capacity(alloc, room) {
-        Ok(map) => Ok(has_room(&map, room)),
-        Err(error) => Err(error),
-    }
+    let map = LinkedHashMap::<u64, u64>::with_capacity(alloc, room)?;
+    Ok(map.is_empty() & (map.capacity() >= room))
 }
 
-/// Whether a set is empty and has that room.
-fn set_has_room(set: &LinkedHashSet<u32>, room: usize) -> bool {
-    set.is_empty() & (set.capacity() >= room)
-}
-
-/// The same of a set that is made with it.
+/// The same of a set.
 fn set_with_room(alloc: Global, room: usize) -> Result<bool, TryReserveError> {
-    match LinkedHashSet::with_capacity(alloc, room) {
-        Ok(set) => Ok(set_has_room(&set, room)),
-        Err(error) => Err(error),
-    }
+    let set = LinkedHashSet::<u64>::with_capacity(alloc, room)?;
+    Ok(set.is_empty() & (set.capacity() >= room))
 }
 
 #[test]
@@ -43,5 +29,5 @@ fn a_map_and_a_set_are_made_with_room(rt: HostRuntime) -> ExitCode {
 
 #[test]
 fn a_cache_without_a_bound_has_the_greatest_capacity(rt: HostRuntime) -> ExitCode {
-    passes(LruCache::<u32, u32>::new_unbounded(rt.alloc()).capacity() == usize::MAX)
+    passes(LruCache::<u64, u64>::new_unbounded(rt.alloc()).capacity() == usize::MAX)
 }

@@ -1,5 +1,5 @@
 //! What a program reads and writes, with readers and writers that fail.
-use crate::few::passes;
+use crate::few::{passes, says};
 use hashlink::run::{Fault, serve};
 use std::alloc::Global;
 use std::io::{self, ErrorKind, Read, Write};
@@ -68,19 +68,11 @@ fn failed_write_is_a_fault(rt: HostRuntime) -> ExitCode {
     passes(fails_to_write(rt.alloc(), b"map\niter\n") & fails_to_write(rt.alloc(), b""))
 }
 
-/// Whether this is the text of a fault.
-fn says(alloc: Global, fault: Fault, wanted: &str) -> bool {
-    match fault.to_string(alloc) {
-        Ok(text) => text.as_str() == wanted,
-        Err(_) => false,
-    }
-}
-
 #[test]
 fn a_fault_says_what_failed(rt: HostRuntime) -> ExitCode {
     passes(
-        says(rt.alloc(), Fault::Reading, "linkrun: reading failed")
-            & says(rt.alloc(), Fault::Memory, "linkrun: no memory")
-            & says(rt.alloc(), Fault::Writing, "linkrun: writing failed"),
+        says(rt.alloc(), &Fault::Reading, "linkrun: reading failed")
+            & says(rt.alloc(), &Fault::Memory, "linkrun: no memory")
+            & says(rt.alloc(), &Fault::Writing, "linkrun: writing failed"),
     )
 }

@@ -7,25 +7,25 @@ use std::process::ExitCode;
 /// What holds containers.
 #[derive(Clone, Drop)]
 struct Index {
-    values: LinkedHashMap<u32, u32>,
-    seen: LinkedHashSet<u32>,
-    recent: LruCache<u32, u32>,
+    values: LinkedHashMap<u64, u64>,
+    seen: LinkedHashSet<u64>,
+    recent: LruCache<u64, u64>,
 }
 
 /// A map of the numbers from 1 to 3.
 fn values(alloc: Global) -> Result<Map, AllocError> {
-    (1u32..4).map(|x| (x, x)).collect(alloc)
+    (1u64..4).map(|x| (x, x)).collect(alloc)
 }
 
 /// A set of them.
-fn seen(alloc: Global) -> Result<LinkedHashSet<u32>, AllocError> {
-    (1u32..4).collect(alloc)
+fn seen(alloc: Global) -> Result<LinkedHashSet<u64>, AllocError> {
+    (1u64..4).collect(alloc)
 }
 
 /// A cache of the last of them.
-fn recent(alloc: Global) -> LruCache<u32, u32> {
+fn recent(alloc: Global) -> LruCache<u64, u64> {
     let mut recent = LruCache::new(alloc, 2);
-    let _taken = Extend::extend(&mut recent, (1u32..4).map(|x| (x, x)));
+    let _taken = Extend::extend(&mut recent, (1u64..4).map(|x| (x, x)));
     recent
 }
 
@@ -48,12 +48,10 @@ fn holds_three(index: &Index) -> bool {
         & is_value(index.recent.peek(&3), 3)
 }
 
-/// Whether this holds of a clone of a value.
-fn holds_of_clone<T: Clone + Drop, F: FnOnce(&T) -> bool>(value: T, holds: F) -> bool
-    requires { F.IsAlwaysCallable holds }
-{
-    match value.clone() {
-        Ok(clone) => holds(&clone),
+/// Whether a clone of an index does.
+fn is_cloned(index: &Index) -> bool {
+    match index.clone() {
+        Ok(clone) => holds_three(&clone),
         Err(_) => false,
     }
 }
@@ -61,7 +59,7 @@ fn holds_of_clone<T: Clone + Drop, F: FnOnce(&T) -> bool>(value: T, holds: F) ->
 #[test]
 fn what_holds_containers_is_cloned(rt: HostRuntime) -> ExitCode {
     passes(match one_to_three(rt.alloc()) {
-        Ok(index) => holds_of_clone(index, holds_three),
+        Ok(index) => is_cloned(&index),
         Err(_) => false,
     })
 }

@@ -1,5 +1,5 @@
 //! What stands for a key in a lookup: a text for a `String`, a slice for a `Vec`, a `&K` for a `K`.
-use crate::few::{is_value, passes_on, passes_with};
+use crate::few::{is_value, passes};
 use hashlink::weighted::WeightedCache;
 use hashlink::{LinkedHashMap, LinkedHashSet, LruCache};
 use std::alloc::Global;
@@ -50,8 +50,8 @@ fn is_found(map: &mut Texts, key: String) -> bool {
 
 #[test]
 fn a_text_finds_its_entry(rt: HostRuntime) -> ExitCode {
-    let key = "one".to_string(rt.alloc());
-    passes_with(LinkedHashMap::new(rt.alloc()), key, is_found)
+    let key = owned(rt.alloc(), "one");
+    passes(is_found(&mut LinkedHashMap::new(rt.alloc()), key))
 }
 
 /// Whether bytes find the value that a map has under them, and no others do.
@@ -63,8 +63,10 @@ fn is_found_by_bytes(map: &mut LinkedHashMap<Vec<u8>, u32>, key: Vec<u8>) -> boo
 
 #[test]
 fn bytes_find_their_entry(rt: HostRuntime) -> ExitCode {
-    let key = b"one".to_vec(rt.alloc());
-    passes_with(LinkedHashMap::new(rt.alloc()), key, is_found_by_bytes)
+    passes(match b"one".to_vec(rt.alloc()) {
+        Ok(key) => is_found_by_bytes(&mut LinkedHashMap::new(rt.alloc()), key),
+        Err(_) => false,
+    })
 }
 
 /// Whether a text and a reference to it find the value in a map of borrowed texts.
@@ -74,7 +76,7 @@ fn is_found_borrowed(map: &mut LinkedHashMap<&'static str, u32>) -> bool {
 
 #[test]
 fn a_borrowed_text_finds_its_entry(rt: HostRuntime) -> ExitCode {
-    passes_on(LinkedHashMap::new(rt.alloc()), is_found_borrowed)
+    passes(is_found_borrowed(&mut LinkedHashMap::new(rt.alloc())))
 }
 
 /// Whether the calls of a text find the element of a set.
@@ -94,8 +96,8 @@ fn is_element_found(set: &mut LinkedHashSet<String>, element: String) -> bool {
 
 #[test]
 fn a_text_finds_its_element(rt: HostRuntime) -> ExitCode {
-    let element = "one".to_string(rt.alloc());
-    passes_with(LinkedHashSet::new(rt.alloc()), element, is_element_found)
+    let element = owned(rt.alloc(), "one");
+    passes(is_element_found(&mut LinkedHashSet::new(rt.alloc()), element))
 }
 
 /// Whether the calls of a text that read find its statement.
@@ -120,8 +122,8 @@ fn is_statement_found(cache: &mut LruCache<String, u32>, sql: String) -> bool {
 
 #[test]
 fn a_text_finds_its_statement(rt: HostRuntime) -> ExitCode {
-    let sql = "select 1".to_string(rt.alloc());
-    passes_with(LruCache::new(rt.alloc(), 2), sql, is_statement_found)
+    let sql = owned(rt.alloc(), "select 1");
+    passes(is_statement_found(&mut LruCache::new(rt.alloc(), 2), sql))
 }
 
 /// Whether a cache with a budget takes a value, and a text finds it.
@@ -134,6 +136,6 @@ fn is_weighed(cache: &mut WeightedCache<String, u32>, key: String) -> bool {
 
 #[test]
 fn a_text_finds_what_has_a_weight(rt: HostRuntime) -> ExitCode {
-    let key = "one".to_string(rt.alloc());
-    passes_with(WeightedCache::new(rt.alloc(), 2), key, is_weighed)
+    let key = owned(rt.alloc(), "one");
+    passes(is_weighed(&mut WeightedCache::new(rt.alloc(), 2), key))
 }

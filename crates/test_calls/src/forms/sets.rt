@@ -1,10 +1,10 @@
 //! Loops, operators, and comparisons of containers.
-use crate::few::{Map, holds_of_two, map_of, passes, set_of};
+use crate::few::{Map, map_of, passes, set_of};
 use hashlink::LinkedHashSet;
 use std::process::ExitCode;
 
 /// The last of the elements that are given away.
-fn last(set: LinkedHashSet<u32>) -> u32 {
+fn last(set: LinkedHashSet<u64>) -> u64 {
     let mut last = 0;
     for x in set {
         last = x;
@@ -13,7 +13,7 @@ fn last(set: LinkedHashSet<u32>) -> u32 {
 }
 
 /// The last element of clones of the elements of both.
-fn last_of_both(a: &LinkedHashSet<u32>, b: &LinkedHashSet<u32>) -> u32 {
+fn last_of_both(a: &LinkedHashSet<u64>, b: &LinkedHashSet<u64>) -> u64 {
     match a | b {
         Ok(both) => last(both),
         Err(_) => 0,
@@ -21,7 +21,7 @@ fn last_of_both(a: &LinkedHashSet<u32>, b: &LinkedHashSet<u32>) -> u32 {
 }
 
 /// Whether two sets are joined, and are not equal.
-fn are_joined(a: &LinkedHashSet<u32>, b: &LinkedHashSet<u32>) -> bool {
+fn are_joined(a: &LinkedHashSet<u64>, b: &LinkedHashSet<u64>) -> bool {
     (last_of_both(a, b) == 3) & (*a != *b)
 }
 
@@ -29,7 +29,7 @@ fn are_joined(a: &LinkedHashSet<u32>, b: &LinkedHashSet<u32>) -> bool {
 fn sets_are_joined_compared_and_walked(rt: HostRuntime) -> ExitCode {
     let left = set_of(rt.alloc(), &[1, 2]);
     let right = set_of(rt.alloc(), &[2, 3]);
-    passes(holds_of_two(left, right, are_joined))
+    passes(are_joined(&left, &right))
 }
 
 /// Whether a map is equal to itself and not less.
@@ -38,8 +38,8 @@ fn is_itself(map: &Map) -> bool {
 }
 
 /// The sum of all keys and values, by a loop that takes them.
-fn sum(map: Map) -> u32 {
-    let mut sum = 0u32;
+fn sum(map: Map) -> u64 {
+    let mut sum = 0u64;
     for (key, value) in map {
         sum = sum.wrapping_add(key).wrapping_add(value);
     }

@@ -1,14 +1,11 @@
 //! The forms by habit.
-use crate::few::{holds_of_two, passes, passes_on};
+use crate::few::{Map, map_of, passes, set_of};
 use hashlink::{LinkedHashMap, LinkedHashSet, LruCache};
 use hashlink_uses::forms::{
     append, has_cached, has_element, has_value, insert_with_room, pop_each, shared,
 };
-use std::alloc::{AllocError, Global};
-use std::ops::Range;
+use std::alloc::AllocError;
 use std::process::ExitCode;
-
-type Map = LinkedHashMap<u64, u64>;
 
 /// Inserts a pair, and appends another and one that takes the first one's place.
 fn insert_and_append(map: &mut Map) -> Result<(), AllocError> {
@@ -29,7 +26,7 @@ fn is_walked(map: &mut Map) -> bool {
 
 #[test]
 fn a_loop_over_a_map_finds_its_values(rt: HostRuntime) -> ExitCode {
-    passes_on(LinkedHashMap::new(rt.alloc()), is_walked)
+    passes(is_walked(&mut map_of(rt.alloc(), &[])))
 }
 
 /// Whether a loop over a cache finds its value.
@@ -39,7 +36,7 @@ fn is_cached(cache: &mut LruCache<u64, u64>) -> bool {
 
 #[test]
 fn a_loop_over_a_cache_finds_its_values(rt: HostRuntime) -> ExitCode {
-    passes_on(LruCache::new(rt.alloc(), 1), is_cached)
+    passes(is_cached(&mut LruCache::new(rt.alloc(), 1)))
 }
 
 type Set = LinkedHashSet<u64>;
@@ -57,17 +54,9 @@ fn share_three(left: &Set, right: &Set) -> bool {
     }
 }
 
-/// A set of these numbers, or an empty one where there is no memory.
-fn set_of(alloc: Global, numbers: Range<u64>) -> Set {
-    match LinkedHashSet::from_iter(alloc, numbers) {
-        Ok(set) => set,
-        Err(_) => LinkedHashSet::new(alloc),
-    }
-}
-
 #[test]
 fn a_loop_over_a_set_finds_its_elements(rt: HostRuntime) -> ExitCode {
-    let left = set_of(rt.alloc(), 1..4);
-    let right = set_of(rt.alloc(), 3..6);
-    passes(holds_of_two(left, right, share_three))
+    let left = set_of(rt.alloc(), &[1, 2, 3]);
+    let right = set_of(rt.alloc(), &[3, 4, 5]);
+    passes(share_three(&left, &right))
 }

@@ -1,7 +1,6 @@
 //! Calls of a map.
-use crate::few::{is_pair, is_value, passes, passes_on};
+use crate::few::{Map, is_pair, is_value, map_of, passes};
 use crate::raw_insert::put_number;
-use hashlink::LinkedHashMap;
 use hashlink::linked_hash_map::IntoIter;
 use hashlink_uses::forms::has_value;
 use hashlink_uses::maps::cursors::put_after;
@@ -12,15 +11,9 @@ use hashlink_uses::maps::raw_entries::{take_by_hash, write_beside_key, write_val
 use std::alloc::Global;
 use std::process::ExitCode;
 
-type Map = LinkedHashMap<u64, u64>;
-
 /// A map of the keys 1 to 3.
 fn three(alloc: Global) -> Map {
-    let mut map = LinkedHashMap::new(alloc);
-    for (key, value) in [(1, 10), (2, 20), (3, 30)] {
-        let _old = map.insert(key, value);
-    }
-    map
+    map_of(alloc, &[(1, 10), (2, 20), (3, 30)])
 }
 
 /// The first four keys of a map.
@@ -44,7 +37,7 @@ fn is_written(map: &mut Map) -> bool {
 
 #[test]
 fn a_value_is_written_in_place(rt: HostRuntime) -> ExitCode {
-    passes_on(three(rt.alloc()), is_written)
+    passes(is_written(&mut three(rt.alloc())))
 }
 
 /// Whether one entry is moved to the front and one to the back, each with its new value.
@@ -59,7 +52,7 @@ fn are_moved(map: &mut Map) -> bool {
 
 #[test]
 fn an_entry_is_moved_and_written(rt: HostRuntime) -> ExitCode {
-    passes_on(three(rt.alloc()), are_moved)
+    passes(are_moved(&mut three(rt.alloc())))
 }
 
 /// Whether a pair is inserted after a key that is present, and none after one that is absent.
@@ -71,7 +64,7 @@ fn is_put_after(map: &mut Map) -> bool {
 
 #[test]
 fn a_pair_is_put_after_a_key(rt: HostRuntime) -> ExitCode {
-    passes_on(three(rt.alloc()), is_put_after)
+    passes(is_put_after(&mut three(rt.alloc())))
 }
 
 /// Whether only a pair whose key is absent is inserted.
@@ -84,7 +77,7 @@ fn is_put_once(map: &mut Map) -> bool {
 
 #[test]
 fn a_pair_is_put_where_its_key_is_new(rt: HostRuntime) -> ExitCode {
-    passes_on(three(rt.alloc()), is_put_once)
+    passes(is_put_once(&mut three(rt.alloc())))
 }
 
 /// Counts a word whose count can still grow.
@@ -104,7 +97,7 @@ fn are_counted(map: &mut Map) -> bool {
 
 #[test]
 fn words_are_counted(rt: HostRuntime) -> ExitCode {
-    passes_on(three(rt.alloc()), are_counted)
+    passes(are_counted(&mut three(rt.alloc())))
 }
 
 /// Whether a raw entry takes a number whose key is absent, and no other.
@@ -116,7 +109,7 @@ fn takes_absent_number(map: &mut Map) -> bool {
 
 #[test]
 fn a_raw_entry_takes_an_absent_number(rt: HostRuntime) -> ExitCode {
-    passes_on(three(rt.alloc()), takes_absent_number)
+    passes(takes_absent_number(&mut three(rt.alloc())))
 }
 
 /// Whether raw entries write in place, and remove what they find by its hash.
@@ -133,7 +126,7 @@ fn serves_raw_entries(map: &mut Map) -> bool {
 
 #[test]
 fn raw_entries_write_and_remove(rt: HostRuntime) -> ExitCode {
-    passes_on(three(rt.alloc()), serves_raw_entries)
+    passes(serves_raw_entries(&mut three(rt.alloc())))
 }
 
 /// Whether what an iterator has left after its first pair is appended in turn. The key 3 is there already.
@@ -153,7 +146,7 @@ fn is_appended(map: &mut Map) -> bool {
 
 #[test]
 fn the_rest_of_a_map_is_appended(rt: HostRuntime) -> ExitCode {
-    passes_on(LinkedHashMap::new(rt.alloc()), is_appended)
+    passes(is_appended(&mut map_of(rt.alloc(), &[])))
 }
 
 /// Whether a copy is equal to its map, and has the values 20 and not 21.

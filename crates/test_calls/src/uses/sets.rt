@@ -1,20 +1,11 @@
 //! Calls of a set.
-use crate::few::{is_value, passes, passes_on};
+use crate::few::{is_value, passes, set_of};
 use hashlink::LinkedHashSet;
 use hashlink_uses::everyday::strike;
 use hashlink_uses::sets::{append, copy_of, empty_out, promote};
-use std::alloc::Global;
 use std::process::ExitCode;
 
 type Set = LinkedHashSet<u64>;
-
-fn set_of(alloc: Global, elements: [u64; 3]) -> Set {
-    let mut set = LinkedHashSet::new(alloc);
-    for element in elements {
-        let _is_new = set.insert(element);
-    }
-    set
-}
 
 /// Whether only a word that is present is moved to the front.
 fn is_promoted(set: &mut Set) -> bool {
@@ -23,7 +14,7 @@ fn is_promoted(set: &mut Set) -> bool {
 
 #[test]
 fn a_word_is_promoted(rt: HostRuntime) -> ExitCode {
-    passes_on(set_of(rt.alloc(), [1, 2, 3]), is_promoted)
+    passes(is_promoted(&mut set_of(rt.alloc(), &[1, 2, 3])))
 }
 
 /// Whether a word is removed once.
@@ -33,7 +24,7 @@ fn is_struck_once(set: &mut Set) -> bool {
 
 #[test]
 fn a_word_is_struck(rt: HostRuntime) -> ExitCode {
-    passes_on(set_of(rt.alloc(), [1, 2, 3]), is_struck_once)
+    passes(is_struck_once(&mut set_of(rt.alloc(), &[1, 2, 3])))
 }
 
 /// Whether 4 and 1 are appended to 1, 2 and 3, of which 1 then stands last.
@@ -46,8 +37,8 @@ fn is_appended(set: &mut Set, others: Set) -> bool {
 
 #[test]
 fn the_words_of_a_set_are_appended(rt: HostRuntime) -> ExitCode {
-    let others = set_of(rt.alloc(), [4, 1, 1]);
-    passes(is_appended(&mut set_of(rt.alloc(), [1, 2, 3]), others))
+    let others = set_of(rt.alloc(), &[4, 1, 1]);
+    passes(is_appended(&mut set_of(rt.alloc(), &[1, 2, 3]), others))
 }
 
 /// Whether a copy is equal to its set, and stays as it is when the set is emptied.
@@ -67,5 +58,5 @@ fn is_copied(set: &mut Set) -> bool {
 
 #[test]
 fn a_copy_outlives_its_set(rt: HostRuntime) -> ExitCode {
-    passes_on(set_of(rt.alloc(), [1, 2, 3]), is_copied)
+    passes(is_copied(&mut set_of(rt.alloc(), &[1, 2, 3])))
 }

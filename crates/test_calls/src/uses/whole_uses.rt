@@ -1,5 +1,5 @@
 //! Names, settings, lines, tasks, commands and retains.
-use crate::few::{is_pair, passes, passes_on};
+use crate::few::{is_pair, passes};
 use hashlink::linked_hash_map::TryInsertError;
 use hashlink::run::Reply;
 use hashlink::{LinkedHashMap, LinkedHashSet, LruCache};
@@ -24,8 +24,10 @@ fn name_learnt(
     answer: Answer,
 ) -> Result<(), AllocError> {
     let name = String::from_str(alloc, name)?;
-    learn(names, name, answer).map_err(|_| AllocError)?;
-    Ok(())
+    match learn(names, name, answer) {
+        Ok(_) => Ok(()),
+        Err(_) => Err(AllocError),
+    }
 }
 
 /// Learns three names, each with an address that holds until a time.
@@ -49,9 +51,10 @@ fn names_at_100(names: &mut Names) -> ([Option<u32>; 3], usize, bool) {
         address_of(names, "mail.example", 100),
     ];
     sweep(names, 100);
-    let is_www = names
-        .peek_lru()
-        .is_some_and(|(name, _)| name.as_str() == "www.example");
+    let is_www = match names.peek_lru() {
+        Some((name, _)) => name.as_str() == "www.example",
+        None => false,
+    };
     (found, names.len(), is_www)
 }
 
@@ -172,23 +175,24 @@ fn have_their_turns(tasks: &mut RoundRobin<u32>) -> bool {
 
 #[test]
 fn each_task_has_its_turn(rt: HostRuntime) -> ExitCode {
-    passes_on(RoundRobin::new(rt.alloc()), have_their_turns)
+    passes(have_their_turns(&mut RoundRobin::new(rt.alloc())))
 }
 
 /// Whether a removal of the one key and an insert of another have the right replies.
 fn is_answered(map: &mut LinkedHashMap<u32, u32>) -> bool {
     let _old = map.insert(1, 10);
-    remove_then_insert(map.allocator(), map, 1, 2, 20).is_ok_and(|replies| {
-        matches!(
+    match remove_then_insert(map.allocator(), map, 1, 2, 20) {
+        Ok(replies) => matches!(
             replies.as_slice(),
             [Reply::Value(Some(10)), Reply::Value(None)]
-        )
-    })
+        ),
+        Err(_) => false,
+    }
 }
 
 #[test]
 fn an_insert_after_a_removal_is_answered(rt: HostRuntime) -> ExitCode {
-    passes_on(LinkedHashMap::new(rt.alloc()), is_answered)
+    passes(is_answered(&mut LinkedHashMap::new(rt.alloc())))
 }
 
 /// What a cache of two places has for a key that is inserted, for one that is present, and once a third key
@@ -210,7 +214,7 @@ fn are_values_used(cache: &mut LruCache<u32, u32>) -> bool {
 
 #[test]
 fn a_value_is_put_in_where_the_key_is_absent(rt: HostRuntime) -> ExitCode {
-    passes_on(LruCache::new(rt.alloc(), 2), are_values_used)
+    passes(are_values_used(&mut LruCache::new(rt.alloc(), 2)))
 }
 
 /// Whether a value that cannot be made is none, one that is made is kept, and none is made for it again.
@@ -223,7 +227,7 @@ fn is_made_once(cache: &mut LruCache<u32, u32>) -> bool {
 
 #[test]
 fn a_value_is_made_once(rt: HostRuntime) -> ExitCode {
-    passes_on(LruCache::new(rt.alloc(), 1), is_made_once)
+    passes(is_made_once(&mut LruCache::new(rt.alloc(), 1)))
 }
 
 /// Whether two of three zeros among four values are taken where two may be, and two entries are left.
@@ -236,7 +240,7 @@ fn are_zeros_taken(map: &mut LinkedHashMap<u8, u64>) -> bool {
 
 #[test]
 fn a_retain_counts_what_it_takes_of_a_map(rt: HostRuntime) -> ExitCode {
-    passes_on(LinkedHashMap::new(rt.alloc()), are_zeros_taken)
+    passes(are_zeros_taken(&mut LinkedHashMap::new(rt.alloc())))
 }
 
 /// Whether both of the even elements of 1 to 4 are taken where three may be, and two elements are left.
@@ -249,5 +253,5 @@ fn are_even_taken(set: &mut LinkedHashSet<u64>) -> bool {
 
 #[test]
 fn a_retain_counts_what_it_takes_of_a_set(rt: HostRuntime) -> ExitCode {
-    passes_on(LinkedHashSet::new(rt.alloc()), are_even_taken)
+    passes(are_even_taken(&mut LinkedHashSet::new(rt.alloc())))
 }
