@@ -151,7 +151,7 @@ class Entries:
             if stands:
                 answers.pair(stands)
         elif name in RAW_INSERTS:
-            self.raw_insert((key, words.name()), answers)
+            self.raw_insert(name, (key, words.name()), words.optional(), answers)
         else:
             self.raw_there(key, name, words, answers)
 
@@ -163,12 +163,14 @@ class Entries:
             words.drop()
             answers.say(NOTHING)
 
-    def raw_insert(self, pair, answers):
+    def raw_insert(self, name, pair, written, answers):
+        """Puts a pair whose key is absent, and writes its value. A new entry then says it, a loan before."""
         if self.list.find(pair[0]):
             answers.say(NOTHING)
         elif not self.is_refused(pair, answers):
             self.put("back", pair)
-            answers.pair(pair)
+            self.write(pair[0], written)
+            answers.pair(self.list.find(pair[0]) if name.startswith("insert_entry") else pair)
 
     def raw_occupied(self, old, key, name, words, answers):
         if name in ("get", "get_key_value"):

@@ -10,7 +10,7 @@ from .sets import SetModel, call_sets
 from .texts import cut_row, is_answer
 from .words import MEMORY, Answers, Unread, Words, is_word
 
-HASHERS = ("default", "same_hash", "odd_or_even")
+HASHERS = ("default", "same_hash", "two_hashes")
 #: those to which a row may be bound
 KINDS = {
     **dict.fromkeys(("map", "copied_map"), Model),

@@ -86,7 +86,7 @@ WRONG_WORDS = (
 
 def whole(said, more=0, left_out=0):
     """What is said of the row under each hasher, and at the end how many answers are refusals, and more."""
-    heads = (f"row 3 {hasher}\n" for hasher in ("default", "same_hash", "odd_or_even"))
+    heads = (f"row 3 {hasher}\n" for hasher in ("default", "same_hash", "two_hashes"))
     refused = 3 * said.count("memory") + more
     return "".join(head + said for head in heads) + SUMMARY.format(refused=refused, left_out=left_out)
 

@@ -1,7 +1,9 @@
--- What the hashers of the rows compute from the bytes that they are fed.
-use Rattle.std.specs.Prelude.{ℕ, ◌%◌, List, [], ◌∷◌}
+-- What the hashers of the rows make of the default hash.
+use Rattle.std.specs.Prelude.{ℕ, ◌%◌}
+use Rattle.test_rows.specs.declared.hashers.Hashing.{Hashing}
+use Rattle.test_rows.specs.declared.hashers.Hashing.TheVariants as hashing
 
--- whether the first byte is odd
-abbrev pub first_bit : List ℕ → ℕ
-first_bit [] = 0
-first_bit (b ∷ _) = b % 2
+abbrev pub hash_of : Hashing → ℕ → ℕ
+hash_of hashing.Default hash = hash
+hash_of hashing.Same hash = 0
+hash_of hashing.Two hash = hash % 2

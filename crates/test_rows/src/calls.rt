@@ -4,6 +4,7 @@
 mod alike;
 mod cache_calls;
 mod cache_many;
+mod called;
 mod compared;
 mod entries;
 mod extended;
@@ -20,7 +21,7 @@ mod weighted_calls;
 
 pub use cache_calls::{Cache, call_cache};
 pub use compared::compare;
-pub use extended::{extended_by_trait, say_kept};
+pub use extended::say_kept;
 pub use map_calls::{Map, call_map};
 pub use set_calls::{Set, call_set};
 pub use two_sets::call_sets;

@@ -1,26 +1,25 @@
 //! Maps and sets of what can be copied, which take items by reference.
-use crate::calls::{extended_by_trait, say_kept};
-use crate::items::{Answer, Home, Line, Name, Pair, Read, Stop, Word, Words, push_rest};
+use crate::calls::say_kept;
+use crate::hashers::Hashing;
+use crate::items::{Answer, Home, Line, Name, Pair, Read, Stop, Word, Words, done, push_rest};
 use crate::spoken::{Spoken, say_elements, say_pairs, say_room};
 use hashlink::linked_hash_map::ExtendError;
 use hashlink::{LinkedHashMap, LinkedHashSet};
-use std::hash::BuildHasher;
-use std::vec::IntoIter;
 
-impl<S: BuildHasher + Default> Spoken for LinkedHashMap<Name, Name, S> {
-    fn make(home: Home<'_>, _capacity: usize) -> LinkedHashMap<Name, Name, S> {
-        LinkedHashMap::with_hasher(home.alloc, S::default())
+impl Spoken for LinkedHashMap<Name, Name, Hashing> {
+    fn make(home: Home<'_>, _capacity: usize) -> LinkedHashMap<Name, Name, Hashing> {
+        LinkedHashMap::with_hasher(home.alloc, home.hashing)
     }
 
     fn call(
         &mut self,
-        _other: &LinkedHashMap<Name, Name, S>,
+        _other: &LinkedHashMap<Name, Name, Hashing>,
         line: &mut Line<'_>,
     ) -> Result<(), Stop> {
         let is_by_trait = is_by_trait(&mut line.words)?;
         let pairs: Vec<Pair> = copied(line)?;
-        let lent: Vec<(&Name, &Name)> = pairs.iter().map(lend_pair).collect(line.home.alloc)?;
-        extend_map(self, is_by_trait, &mut lent.into_iter(), line)
+        let (answer, left) = extend_map(self, is_by_trait, &pairs);
+        say_kept(answer, left, line)
     }
 
     fn count_items(&self) -> usize {
@@ -33,16 +32,20 @@ impl<S: BuildHasher + Default> Spoken for LinkedHashMap<Name, Name, S> {
     }
 }
 
-impl<S: BuildHasher + Default> Spoken for LinkedHashSet<Name, S> {
-    fn make(home: Home<'_>, _capacity: usize) -> LinkedHashSet<Name, S> {
-        LinkedHashSet::with_hasher(home.alloc, S::default())
+impl Spoken for LinkedHashSet<Name, Hashing> {
+    fn make(home: Home<'_>, _capacity: usize) -> LinkedHashSet<Name, Hashing> {
+        LinkedHashSet::with_hasher(home.alloc, home.hashing)
     }
 
-    fn call(&mut self, _other: &LinkedHashSet<Name, S>, line: &mut Line<'_>) -> Result<(), Stop> {
+    fn call(
+        &mut self,
+        _other: &LinkedHashSet<Name, Hashing>,
+        line: &mut Line<'_>,
+    ) -> Result<(), Stop> {
         let is_by_trait = is_by_trait(&mut line.words)?;
         let elements: Vec<Name> = copied(line)?;
-        let lent: Vec<&Name> = elements.iter().collect(line.home.alloc)?;
-        extend_set(self, is_by_trait, &mut lent.into_iter(), line)
+        let (answer, left) = extend_set(self, is_by_trait, &elements);
+        say_kept(answer, left, line)
     }
 
     fn count_items(&self) -> usize {
@@ -55,38 +58,40 @@ impl<S: BuildHasher + Default> Spoken for LinkedHashSet<Name, S> {
     }
 }
 
-fn extend_map<'p, S: BuildHasher>(
-    map: &mut LinkedHashMap<Name, Name, S>,
+/// How an extension goes, and how many pairs it has not read.
+fn extend_map(
+    map: &mut LinkedHashMap<Name, Name, Hashing>,
     is_by_trait: bool,
-    pairs: &mut IntoIter<(&'p Name, &'p Name)>,
-    line: &mut Line<'_>,
-) -> Result<(), Stop> {
+    pairs: &[Pair],
+) -> (Answer, usize) {
+    let mut lent = pairs.iter().map(lend_pair);
     let answer = if is_by_trait {
-        extended_by_trait(map, pairs)
+        Answer::Word(done(Extend::extend(map, &mut lent)))
     } else {
-        match map.extend_ref(&mut *pairs) {
+        match map.extend_ref(&mut lent) {
             Ok(()) => Answer::Word(Word::Done),
             Err(ExtendError { taken, pair }) => Answer::BackAfter(Word::pair(pair), taken),
         }
     };
-    say_kept(answer, pairs.len(), line)
+    (answer, lent.len())
 }
 
-fn extend_set<S: BuildHasher>(
-    set: &mut LinkedHashSet<Name, S>,
+/// The same of elements.
+fn extend_set(
+    set: &mut LinkedHashSet<Name, Hashing>,
     is_by_trait: bool,
-    elements: &mut IntoIter<&Name>,
-    line: &mut Line<'_>,
-) -> Result<(), Stop> {
+    elements: &[Name],
+) -> (Answer, usize) {
+    let mut lent = elements.iter();
     let answer = if is_by_trait {
-        extended_by_trait(set, elements)
+        Answer::Word(done(Extend::extend(set, &mut lent)))
     } else {
-        match set.extend_ref(&mut *elements) {
+        match set.extend_ref(&mut lent) {
             Ok(()) => Answer::Word(Word::Done),
             Err(ExtendError { taken, pair }) => Answer::BackAfter(Word::item(pair.0), taken),
         }
     };
-    say_kept(answer, elements.len(), line)
+    (answer, lent.len())
 }
 
 /// The calls by their names, and whether they go by std's `Extend`.

@@ -1,63 +1,58 @@
-//! Hashers by which many keys meet.
-ghost use Rattle.test_rows.specs.OwnHashers.{first_bit};
+//! How the keys of a row are hashed.
+ghost use Rattle.hashlink_core.specs.Hashing.{finish, initial, write};
+ghost use Rattle.test_rows.specs.OwnHashers.{hash_of};
 
+use hashlink_map::{DefaultHashBuilder, DefaultHasher};
 use std::hash::{BuildHasher, Hasher};
 
-/// Gives every key the hash 0.
-#[derive(Clone, Copy, Default)]
-pub struct SameHash;
+/// How a key is hashed: as by default, or so that many keys meet. A container that is made without a hasher
+/// has the one by which all meet.
+#[derive(Clone, Copy, Default, Drop)]
+pub enum Hashing {
+    /// As the default hasher does.
+    Default,
+    /// Every key has the hash 0.
+    #[default]
+    Same,
+    /// The hash is the last bit of the default one.
+    Two,
+}
 
-impl Hasher for SameHash {
-    ghost write = { λ s _. s };
+/// The hasher of one of these.
+#[derive(Clone, Copy, Drop)]
+pub struct RowHasher {
+    hashing: Hashing,
+    default: DefaultHasher,
+}
 
-    ghost finish = { λ _. 0 };
+impl BuildHasher for Hashing {
+    type Hasher = RowHasher;
+
+    ghost build_hasher = { λ s. record { hashing = s; default = initial } };
+
+    fn build_hasher(&self) -> RowHasher {
+        RowHasher {
+            hashing: *self,
+            default: DefaultHashBuilder.build_hasher(),
+        }
+    }
+}
+
+impl Hasher for RowHasher {
+    ghost write = { λ s bytes. record { hashing = s.hashing; default = write s.default bytes } };
+
+    ghost finish = { λ s. hash_of s.hashing (finish s.default) };
 
     fn finish(&self) -> u64 {
-        0
-    }
-
-    fn write(&mut self, _bytes: &[u8]) {}
-}
-
-impl BuildHasher for SameHash {
-    type Hasher = SameHash;
-
-    ghost build_hasher = { λ s. s };
-
-    fn build_hasher(&self) -> SameHash {
-        *self
-    }
-}
-
-/// Gives odd numbers the hash 1 and even ones the hash 0.
-#[derive(Clone, Copy, Default)]
-pub struct OddOrEven {
-    hash: u64,
-}
-
-impl Hasher for OddOrEven {
-    ghost write = { λ _ bytes. record { hash = first_bit bytes } };
-
-    ghost finish = { λ s. s.hash };
-
-    fn finish(&self) -> u64 {
-        self.hash
+        let hash = self.default.finish();
+        match self.hashing {
+            Hashing::Default => hash,
+            Hashing::Same => 0,
+            Hashing::Two => hash % 2,
+        }
     }
 
     fn write(&mut self, bytes: &[u8]) {
-        self.hash = match bytes {
-            [first, ..] => (*first % 2) as u64,
-            [] => 0,
-        };
-    }
-}
-
-impl BuildHasher for OddOrEven {
-    type Hasher = OddOrEven;
-
-    ghost build_hasher = { λ s. s };
-
-    fn build_hasher(&self) -> OddOrEven {
-        *self
+        self.default.write(bytes);
     }
 }

@@ -22,8 +22,8 @@ pub use keep::{
 pub use line::{Line, Read, push, push_rest, rest_of};
 pub use raw_call::{RawAsk, RawCall, RawGive, RawPut, RawThere};
 pub use said::{
-    given, given_item, lent, lent_item, made, no_memory, no_memory_after, put, room, set, shown,
-    taken, taken_pair, write, write_item, write_pair,
+    done, given, given_item, lent, lent_item, made, made_with_room, no_memory, no_memory_after,
+    put, room, set, shown, taken, taken_pair, write, write_item, write_pair,
 };
 pub use steps::Step;
 pub use walk::{Walk, hinted, walk_and_clone, walk_or_forget, walk_whole};

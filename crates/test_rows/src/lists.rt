@@ -1,5 +1,6 @@
 //! Lists of commands, in two runs, and lists of uses.
-use crate::items::{Answer, Answers, Name, Stop, Word, Words, are_written, number, push};
+use crate::hashers::Hashing;
+use crate::items::{Answer, Answers, Home, Name, Stop, Word, Words, are_written, number, push};
 use crate::row::cut;
 use crate::spoken::{Voice, say_pairs, say_room, say_word, say_words};
 use crate::texts::refuse;
@@ -10,12 +11,11 @@ use hashlink::run::{
 use hashlink::{LinkedHashMap, LruCache};
 use hashlink_text::{CacheLine, Line, pair_command};
 use std::alloc::{AllocError, Global};
-use std::hash::BuildHasher;
 
 /// A container that runs a list of commands.
 pub trait Listed: Sized {
     /// An empty one, of this capacity if it has one.
-    fn make(alloc: Global, capacity: usize) -> Self;
+    fn make(home: Home<'_>, capacity: usize) -> Self;
 
     /// Runs these lines as one list, and says the replies. It returns whether it had the memory for them.
     fn run(
@@ -30,9 +30,9 @@ pub trait Listed: Sized {
     fn stand(&self, rt: &HostRuntime);
 }
 
-impl<S: BuildHasher + Default> Listed for LinkedHashMap<u64, u64, S> {
-    fn make(alloc: Global, _capacity: usize) -> LinkedHashMap<u64, u64, S> {
-        LinkedHashMap::with_hasher(alloc, S::default())
+impl Listed for LinkedHashMap<u64, u64, Hashing> {
+    fn make(home: Home<'_>, _capacity: usize) -> LinkedHashMap<u64, u64, Hashing> {
+        LinkedHashMap::with_hasher(home.alloc, home.hashing)
     }
 
     fn run(
@@ -52,9 +52,9 @@ impl<S: BuildHasher + Default> Listed for LinkedHashMap<u64, u64, S> {
     }
 }
 
-impl<S: BuildHasher + Default> Listed for LruCache<u64, u64, S> {
-    fn make(alloc: Global, capacity: usize) -> LruCache<u64, u64, S> {
-        LruCache::with_hasher(alloc, capacity, S::default())
+impl Listed for LruCache<u64, u64, Hashing> {
+    fn make(home: Home<'_>, capacity: usize) -> LruCache<u64, u64, Hashing> {
+        LruCache::with_hasher(home.alloc, capacity, home.hashing)
     }
 
     fn run(
@@ -64,7 +64,7 @@ impl<S: BuildHasher + Default> Listed for LruCache<u64, u64, S> {
         seen: Seen,
         answers: &mut Answers,
     ) -> Result<bool, Stop> {
-        let commands = cache_commands_of(alloc, lines)?;
+        let commands = commands_of(alloc, lines)?;
         say_all(replies_of_cache(self, commands, seen), answers)
     }
 
@@ -96,8 +96,8 @@ fn is_any(_key: &u64, _value: &u64) -> bool {
 }
 
 /// Runs the commands on a map.
-fn replies_of<S: BuildHasher>(
-    map: &mut LinkedHashMap<u64, u64, S>,
+fn replies_of(
+    map: &mut LinkedHashMap<u64, u64, Hashing>,
     commands: Vec<Command<u64, u64>>,
     seen: Seen,
 ) -> Result<Vec<Reply<u64, u64>>, AllocError> {
@@ -108,8 +108,8 @@ fn replies_of<S: BuildHasher>(
 }
 
 /// Runs the commands on a cache.
-fn replies_of_cache<S: BuildHasher>(
-    cache: &mut LruCache<u64, u64, S>,
+fn replies_of_cache(
+    cache: &mut LruCache<u64, u64, Hashing>,
     commands: Vec<CacheCommand<u64, u64>>,
     seen: Seen,
 ) -> Result<Vec<Reply<u64, u64>>, AllocError> {
@@ -119,8 +119,13 @@ fn replies_of_cache<S: BuildHasher>(
     }
 }
 
-/// The commands to a map that the lines say.
-fn commands_of(alloc: Global, lines: &[&str]) -> Result<Vec<Command<u64, u64>>, Stop> {
+/// A command that a line says.
+trait Parsed: Sized {
+    fn parsed(alloc: Global, line: &str) -> Result<Self, Stop>;
+}
+
+/// The commands that the lines say.
+fn commands_of<C: Parsed + Drop>(alloc: Global, lines: &[&str]) -> Result<Vec<C>, Stop> {
     let mut commands = Vec::with_capacity(alloc, lines.len())?;
     for line in lines {
         push_command(&mut commands, alloc, line)?;
@@ -128,57 +133,42 @@ fn commands_of(alloc: Global, lines: &[&str]) -> Result<Vec<Command<u64, u64>>, 
     Ok(commands)
 }
 
-fn push_command(
-    commands: &mut Vec<Command<u64, u64>>,
+fn push_command<C: Parsed + Drop>(
+    commands: &mut Vec<C>,
     alloc: Global,
     line: &str,
 ) -> Result<(), Stop> {
-    push(commands, command_of(alloc, cut(line).0)?)
+    push(commands, C::parsed(alloc, cut(line).0)?)
 }
 
-/// The commands to a cache that the lines say.
-fn cache_commands_of(alloc: Global, lines: &[&str]) -> Result<Vec<CacheCommand<u64, u64>>, Stop> {
-    let mut commands = Vec::with_capacity(alloc, lines.len())?;
-    for line in lines {
-        push_cache_command(&mut commands, alloc, line)?;
+impl Parsed for Command<u64, u64> {
+    fn parsed(alloc: Global, line: &str) -> Result<Command<u64, u64>, Stop> {
+        let mut words = Words::new(line);
+        let (name, key) = (words.word(), words.number());
+        match (name, words.rest) {
+            ("remove_entry", "") => Ok(Command::RemoveEntry(key)),
+            ("entry", "replace_key") => Ok(Command::Entry(key, EntryStep::ReplaceKey)),
+            ("entry", "remove_entry") => Ok(Command::Entry(key, EntryStep::RemoveEntry)),
+            _ => match Line::parse(alloc, line.as_bytes())? {
+                Some(Line::Do(command)) => Ok(command),
+                _ => Err(Stop::Unread),
+            },
+        }
     }
-    Ok(commands)
 }
 
-fn push_cache_command(
-    commands: &mut Vec<CacheCommand<u64, u64>>,
-    alloc: Global,
-    line: &str,
-) -> Result<(), Stop> {
-    push(commands, cache_command_of(alloc, cut(line).0)?)
-}
-
-/// The command to a map that a line says.
-fn command_of(alloc: Global, line: &str) -> Result<Command<u64, u64>, Stop> {
-    let mut words = Words::new(line);
-    let (name, key) = (words.word(), words.number());
-    match (name, words.rest) {
-        ("remove_entry", "") => Ok(Command::RemoveEntry(key)),
-        ("entry", "replace_key") => Ok(Command::Entry(key, EntryStep::ReplaceKey)),
-        ("entry", "remove_entry") => Ok(Command::Entry(key, EntryStep::RemoveEntry)),
-        _ => match Line::parse(alloc, line.as_bytes())? {
-            Some(Line::Do(command)) => Ok(command),
+impl Parsed for CacheCommand<u64, u64> {
+    fn parsed(alloc: Global, line: &str) -> Result<CacheCommand<u64, u64>, Stop> {
+        if line.starts_with("entry ") {
+            return match Command::parsed(alloc, line)? {
+                Command::Entry(key, step) => Ok(CacheCommand::Entry(key, step)),
+                _ => Err(Stop::Unread),
+            };
+        }
+        match CacheLine::parse(line.as_bytes()) {
+            Some(CacheLine::Do(command)) => Ok(command),
             _ => Err(Stop::Unread),
-        },
-    }
-}
-
-/// The command to a cache that a line says.
-fn cache_command_of(alloc: Global, line: &str) -> Result<CacheCommand<u64, u64>, Stop> {
-    if line.starts_with("entry ") {
-        return match command_of(alloc, line)? {
-            Command::Entry(key, step) => Ok(CacheCommand::Entry(key, step)),
-            _ => Err(Stop::Unread),
-        };
-    }
-    match CacheLine::parse(line.as_bytes()) {
-        Some(CacheLine::Do(command)) => Ok(command),
-        _ => Err(Stop::Unread),
+        }
     }
 }
 
@@ -222,17 +212,24 @@ fn said(reply: Reply<u64, u64>) -> Answer {
 pub fn are_runs_right<C: Listed + Drop>(
     capacity: usize,
     is_one: bool,
-    alloc: Global,
+    home: Home<'_>,
     lines: &str,
     answers: &mut Answers,
     voice: Voice<'_>,
 ) -> Result<bool, Stop> {
-    let lines: Vec<&str> = lines.split('\n').collect(alloc)?;
-    let mut container = C::make(alloc, capacity);
+    let lines: Vec<&str> = lines.split('\n').collect(home.alloc)?;
+    let mut container = C::make(home, capacity);
     if is_one {
-        return is_run_right(&mut container, alloc, &lines, Seen::Always, answers, voice);
+        return is_run_right(
+            &mut container,
+            home.alloc,
+            &lines,
+            Seen::Always,
+            answers,
+            voice,
+        );
     }
-    are_halves_right(&mut container, alloc, &lines, answers, voice)
+    are_halves_right(&mut container, home.alloc, &lines, answers, voice)
 }
 
 fn are_halves_right<C: Listed>(

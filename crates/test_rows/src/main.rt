@@ -18,10 +18,12 @@ mod rows;
 mod spoken;
 mod texts;
 
+use crate::hashers::Hashing;
 use crate::items::{Answers, Counts, Home, Line, Tally, Words, number};
-use row::{Row, Wrong};
+use row::{Row, Why, Wrong};
 use rows::wrong;
 use spoken::{Voice, say_words};
+use std::alloc::AllocError;
 use std::io::ErrorKind;
 use std::process::ExitCode;
 use std::rc::Rc;
@@ -74,33 +76,65 @@ fn is_file_right(rt: &HostRuntime, name: &str, is_said: bool, tally: &mut Tally)
         Some((name, place)) => (name, number(place)),
         None => (name, None),
     };
-    let read = fs::read_to_string(rt, name);
-    if let Err(error) = &read
-        && error.kind() != ErrorKind::OutOfMemory
-    {
-        let _ = println!(rt; "{name}: {error}");
-        return false;
+    match fs::read_to_string(rt, name) {
+        Ok(text) => is_text_right(rt, (name, only), text.as_str(), is_said, tally),
+        Err(error) if error.kind() == ErrorKind::OutOfMemory => leave_out(tally),
+        Err(error) => {
+            let _ = println!(rt; "{name}: {error}");
+            false
+        }
     }
-    let (Ok(text), Ok(mut answers), Ok(counts)) = (
-        read,
-        Answers::new(rt.alloc()),
-        Rc::new(rt.alloc(), Counts::new()),
-    ) else {
-        tally.left_out = tally.left_out.saturating_add(1);
-        return true;
-    };
-    answers.tally = *tally;
-    let mut line = Line {
-        home: Home {
-            alloc: rt.alloc(),
-            counts: &counts,
-        },
-        words: Words::new(""),
-        answers,
-    };
-    let are_right = are_rows_right(rt, (name, only), text.as_str(), is_said, &mut line);
-    *tally = line.answers.tally;
-    are_right
+}
+
+/// Leaves out a file for which there is no memory, which is not wrong.
+fn leave_out(tally: &mut Tally) -> bool {
+    tally.left_out = tally.left_out.saturating_add(1);
+    true
+}
+
+/// Runs the rows of a text, or the one of this number, with items that are counted.
+fn is_text_right(
+    rt: &HostRuntime,
+    named: (&str, Option<u64>),
+    text: &str,
+    is_said: bool,
+    tally: &mut Tally,
+) -> bool {
+    match Rc::new(rt.alloc(), Counts::new()) {
+        Ok(counts) => is_counted_right(rt, named, text, is_said, &counts, tally),
+        Err(_counts) => leave_out(tally),
+    }
+}
+
+/// The same with answers.
+fn is_counted_right(
+    rt: &HostRuntime,
+    named: (&str, Option<u64>),
+    text: &str,
+    is_said: bool,
+    counts: &Rc<Counts>,
+    tally: &mut Tally,
+) -> bool {
+    let alloc = rt.alloc();
+    match Answers::new(alloc, *tally) {
+        Ok(answers) => {
+            let home = Home {
+                alloc,
+                counts,
+                hashing: Hashing::Default,
+            };
+            let words = Words::new("");
+            let line = &mut Line {
+                home,
+                words,
+                answers,
+            };
+            let are_right = are_rows_right(rt, named, text, is_said, line);
+            *tally = line.answers.tally;
+            are_right
+        }
+        Err(AllocError) => leave_out(tally),
+    }
 }
 
 /// Runs the rows of a text, or the one of this number, and says what is wrong.
@@ -147,21 +181,27 @@ fn is_row_right<'f>(
 fn report(rt: &HostRuntime, file: &str, row: Row<'_>, wrong: Wrong<'_>, answers: &Answers) {
     let name = row.name;
     match wrong {
-        Wrong::Line(number, line) => {
+        Wrong::Line(number, line, why) => {
             let _ = println!(rt; "{file}:{number}: {name}: {line}");
-            let _ = print!(rt; "  came ");
-            say_words(Some(rt), answers.words.as_slice());
-        }
-        Wrong::Unread(number, line) => {
-            let _ = println!(rt; "{file}:{number}: {name}: {line}");
-            let _ = println!(rt; "  this is no line of such a row");
-        }
-        Wrong::Living(number, line) => {
-            let _ = println!(rt; "{file}:{number}: {name}: {line}");
-            let _ = println!(rt; "  other keys and values live then than those that are held");
+            say_why(rt, why, answers);
         }
         Wrong::Row => {
             let _ = println!(rt; "{file}: {name}: a wrong answer");
+        }
+    }
+}
+
+fn say_why(rt: &HostRuntime, why: Why, answers: &Answers) {
+    match why {
+        Why::Answer => {
+            let _ = print!(rt; "  came ");
+            say_words(Some(rt), answers.words.as_slice());
+        }
+        Why::Unread => {
+            let _ = println!(rt; "  this is no line of such a row");
+        }
+        Why::Living => {
+            let _ = println!(rt; "  other keys and values live then than those that are held");
         }
     }
 }

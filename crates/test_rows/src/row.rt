@@ -14,15 +14,21 @@ pub struct Row<'f> {
 /// What is wrong with a row.
 #[derive(Clone, Copy)]
 pub enum Wrong<'f> {
-    /// The line of this number and text, whose answer is not the one that is written: what came stands in the
-    /// answers.
-    Line(usize, &'f str),
-    /// It is no line of such a row.
-    Unread(usize, &'f str),
-    /// After the line of this number and text other items live than those that the containers hold.
-    Living(usize, &'f str),
+    /// The line of this number and text.
+    Line(usize, &'f str, Why),
     /// A row of commands or a text, which says no more.
     Row,
+}
+
+/// What is wrong with a line.
+#[derive(Clone, Copy)]
+pub enum Why {
+    /// Its answer is not the one that is written: what came stands in the answers.
+    Answer,
+    /// It is no line of such a row.
+    Unread,
+    /// After it other items live than those that the containers hold.
+    Living,
 }
 
 impl<'f> Row<'f> {

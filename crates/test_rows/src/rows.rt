@@ -1,24 +1,23 @@
 //! A row, and what is done with it.
 use crate::calls::{Cache, Map, Set, Weighted};
-use crate::hashers::{OddOrEven, SameHash};
+use crate::hashers::Hashing;
 use crate::items::{Answers, Line, Name, Stop, Word, Words, are_written};
 use crate::lists::{Listed, are_runs_right, run_lines_of_pair, run_lines_of_uses};
-use crate::row::{Row, Wrong, cut, words_of};
+use crate::row::{Row, Why, Wrong, cut, words_of};
 use crate::spoken::{Spoken, Voice, say_words};
 use crate::texts::is_text_right;
-use hashlink::{DefaultHashBuilder, LinkedHashMap, LinkedHashSet, LruCache};
-use std::hash::BuildHasher;
+use hashlink::{LinkedHashMap, LinkedHashSet, LruCache};
 
 /// Returns what is wrong with the row, if anything is. A row for which an allocation failed says so.
 pub fn wrong<'f>(row: Row<'f>, line: &mut Line<'f>, voice: Voice<'_>) -> Option<Wrong<'f>> {
     match run(row, line, voice) {
         Err(Stop::Memory) => leave_out(&mut line.answers, voice),
-        Err(Stop::Unread) => return Some(Wrong::Unread(row.first, row.mode)),
+        Err(Stop::Unread) => return Some(Wrong::Line(row.first, row.mode, Why::Unread)),
         Ok(Some(wrong)) => return Some(wrong),
         Ok(None) => {}
     }
     if line.home.living() > 0 {
-        return Some(Wrong::Living(row.first, row.mode));
+        return Some(Wrong::Line(row.first, row.mode, Why::Living));
     }
     None
 }
@@ -31,31 +30,26 @@ fn leave_out(answers: &mut Answers, voice: Voice<'_>) {
 }
 
 /// Says which row and which hasher what follows is of.
-fn head(row: Row<'_>, hasher: &str, voice: Voice<'_>) {
+fn head(row: Row<'_>, hashing: Hashing, voice: Voice<'_>) {
     if let Some(rt) = voice {
         let first = row.first;
+        let hasher = name_of(hashing);
         let _ = println!(rt; "row {first} {hasher}");
     }
 }
 
-/// A hasher, by its word.
-#[derive(Clone, Copy)]
-enum Hashing {
-    Default,
-    SameHash,
-    OddOrEven,
-}
-
+/// The hashers by their words.
 const HASHERS: [(&str, Hashing); 3] = [
     ("default", Hashing::Default),
-    ("same_hash", Hashing::SameHash),
-    ("odd_or_even", Hashing::OddOrEven),
+    ("same_hash", Hashing::Same),
+    ("two_hashes", Hashing::Two),
 ];
 
-impl Hashing {
-    /// The hasher that the next word names, if it is one of these.
-    fn known(words: &mut Words<'_>) -> Option<Hashing> {
-        words.known(&HASHERS)
+fn name_of(hashing: Hashing) -> &'static str {
+    match hashing {
+        Hashing::Default => "default",
+        Hashing::Same => "same_hash",
+        Hashing::Two => "two_hashes",
     }
 }
 
@@ -113,8 +107,8 @@ impl Called {
 
 fn run<'f>(row: Row<'f>, line: &mut Line<'f>, voice: Voice<'_>) -> Result<Option<Wrong<'f>>, Stop> {
     line.words = Words::new(row.mode);
-    if let Some(hashing) = Hashing::known(&mut line.words) {
-        return under_one(row, hashing, line, voice);
+    if let Some(hashing) = line.words.known(&HASHERS) {
+        return under(row, hashing, line, voice);
     }
     match Alone::known(&mut line.words) {
         Some(kind) => whole(is_right_alone(row, kind, line, voice)),
@@ -128,7 +122,7 @@ fn is_right_alone(
     line: &mut Line<'_>,
     voice: Voice<'_>,
 ) -> Result<bool, Stop> {
-    head(row, "default", voice);
+    head(row, Hashing::Default, voice);
     let alloc = line.home.alloc;
     let capacity = line.words.capacity();
     match kind {
@@ -141,19 +135,6 @@ fn is_right_alone(
     }
 }
 
-fn under_one<'f>(
-    row: Row<'f>,
-    hashing: Hashing,
-    line: &mut Line<'f>,
-    voice: Voice<'_>,
-) -> Result<Option<Wrong<'f>>, Stop> {
-    match hashing {
-        Hashing::Default => under::<DefaultHashBuilder>(row, "default", line, voice),
-        Hashing::SameHash => under::<SameHash>(row, "same_hash", line, voice),
-        Hashing::OddOrEven => under::<OddOrEven>(row, "odd_or_even", line, voice),
-    }
-}
-
 /// Under each hasher in turn.
 fn each<'f>(
     row: Row<'f>,
@@ -163,7 +144,7 @@ fn each<'f>(
     let words = line.words;
     for (_, hashing) in HASHERS {
         line.words = words;
-        if let Some(wrong) = under_one(row, hashing, line, voice)? {
+        if let Some(wrong) = under(row, hashing, line, voice)? {
             return Ok(Some(wrong));
         }
     }
@@ -171,22 +152,23 @@ fn each<'f>(
 }
 
 /// Under one hasher, of which the words say the container.
-fn under<'f, S: BuildHasher + Copy + Default + Drop>(
+fn under<'f>(
     row: Row<'f>,
-    hasher: &str,
+    hashing: Hashing,
     line: &mut Line<'f>,
     voice: Voice<'_>,
 ) -> Result<Option<Wrong<'f>>, Stop> {
-    head(row, hasher, voice);
+    head(row, hashing, voice);
+    line.home.hashing = hashing;
     match Called::read(&mut line.words)? {
-        Called::Map => speak::<Map<S>>(row, line, voice),
-        Called::Set => speak::<Set<S>>(row, line, voice),
-        Called::Cache => speak::<Cache<S>>(row, line, voice),
-        Called::Weighted => speak::<Weighted<S>>(row, line, voice),
-        Called::CopiedMap => speak::<LinkedHashMap<Name, Name, S>>(row, line, voice),
-        Called::CopiedSet => speak::<LinkedHashSet<Name, S>>(row, line, voice),
-        Called::Commands => list::<LinkedHashMap<u64, u64, S>>(row, line, voice),
-        Called::CacheCommands => list::<LruCache<u64, u64, S>>(row, line, voice),
+        Called::Map => speak::<Map>(row, line, voice),
+        Called::Set => speak::<Set>(row, line, voice),
+        Called::Cache => speak::<Cache>(row, line, voice),
+        Called::Weighted => speak::<Weighted>(row, line, voice),
+        Called::CopiedMap => speak::<LinkedHashMap<Name, Name, Hashing>>(row, line, voice),
+        Called::CopiedSet => speak::<LinkedHashSet<Name, Hashing>>(row, line, voice),
+        Called::Commands => list::<LinkedHashMap<u64, u64, Hashing>>(row, line, voice),
+        Called::CacheCommands => list::<LruCache<u64, u64, Hashing>>(row, line, voice),
     }
 }
 
@@ -199,8 +181,14 @@ fn list<'f, C: Listed + Drop>(
 ) -> Result<Option<Wrong<'f>>, Stop> {
     let capacity = line.words.capacity();
     let is_one = line.words.has("whole");
-    let alloc = line.home.alloc;
-    whole(are_runs_right::<C>(capacity, is_one, alloc, row.lines, &mut line.answers, voice))
+    whole(are_runs_right::<C>(
+        capacity,
+        is_one,
+        line.home,
+        row.lines,
+        &mut line.answers,
+        voice,
+    ))
 }
 
 fn whole<'f>(is_right: Result<bool, Stop>) -> Result<Option<Wrong<'f>>, Stop> {
@@ -273,7 +261,7 @@ impl<C: Spoken> Speech<C> {
             line.words = Words { n, ..words };
             line.answers.words.clear();
             match self.call(line) {
-                Err(Stop::Unread) => return Ok(Some(Wrong::Unread(number, text))),
+                Err(Stop::Unread) => return Ok(Some(Wrong::Line(number, text, Why::Unread))),
                 called => called?,
             }
             self.say(&line.answers, voice);
@@ -292,10 +280,10 @@ impl<C: Spoken> Speech<C> {
         line: &mut Line<'_>,
     ) -> Option<Wrong<'f>> {
         if !self.is_written(wanted, &mut line.answers) {
-            return Some(Wrong::Line(number, text));
+            return Some(Wrong::Line(number, text, Why::Answer));
         }
         if line.home.living() != self.count_items() {
-            return Some(Wrong::Living(number, text));
+            return Some(Wrong::Line(number, text, Why::Living));
         }
         None
     }

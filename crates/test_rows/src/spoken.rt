@@ -6,7 +6,6 @@ use crate::calls::{
 use crate::items::{Home, Line, Named, Stop, Word};
 use hashlink::weighted::WeightedCache;
 use hashlink::{LinkedHashMap, LinkedHashSet, LruCache, linked_hash_map, linked_hash_set};
-use std::hash::BuildHasher;
 
 /// Where it is said what comes and what stands: nowhere, unless the program is asked to.
 pub type Voice<'v> = Option<&'v HostRuntime>;
@@ -57,12 +56,12 @@ pub trait Spoken: Sized {
     fn stand(&self, rt: &HostRuntime);
 }
 
-impl<S: BuildHasher + Copy + Default + Drop> Spoken for Map<S> {
-    fn make(home: Home<'_>, _capacity: usize) -> Map<S> {
-        LinkedHashMap::with_hasher(home.alloc, S::default())
+impl Spoken for Map {
+    fn make(home: Home<'_>, _capacity: usize) -> Map {
+        LinkedHashMap::with_hasher(home.alloc, home.hashing)
     }
 
-    fn call(&mut self, other: &Map<S>, line: &mut Line<'_>) -> Result<(), Stop> {
+    fn call(&mut self, other: &Map, line: &mut Line<'_>) -> Result<(), Stop> {
         if line.words.has("both") {
             return compare(self, other, line);
         }
@@ -79,12 +78,12 @@ impl<S: BuildHasher + Copy + Default + Drop> Spoken for Map<S> {
     }
 }
 
-impl<S: BuildHasher + Copy + Default + Drop> Spoken for Set<S> {
-    fn make(home: Home<'_>, _capacity: usize) -> Set<S> {
-        LinkedHashSet::with_hasher(home.alloc, S::default())
+impl Spoken for Set {
+    fn make(home: Home<'_>, _capacity: usize) -> Set {
+        LinkedHashSet::with_hasher(home.alloc, home.hashing)
     }
 
-    fn call(&mut self, other: &Set<S>, line: &mut Line<'_>) -> Result<(), Stop> {
+    fn call(&mut self, other: &Set, line: &mut Line<'_>) -> Result<(), Stop> {
         if line.words.has("both") {
             return call_sets(self, other, line);
         }
@@ -101,12 +100,12 @@ impl<S: BuildHasher + Copy + Default + Drop> Spoken for Set<S> {
     }
 }
 
-impl<S: BuildHasher + Copy + Default + Drop> Spoken for Cache<S> {
-    fn make(home: Home<'_>, capacity: usize) -> Cache<S> {
-        LruCache::with_hasher(home.alloc, capacity, S::default())
+impl Spoken for Cache {
+    fn make(home: Home<'_>, capacity: usize) -> Cache {
+        LruCache::with_hasher(home.alloc, capacity, home.hashing)
     }
 
-    fn call(&mut self, _other: &Cache<S>, line: &mut Line<'_>) -> Result<(), Stop> {
+    fn call(&mut self, _other: &Cache, line: &mut Line<'_>) -> Result<(), Stop> {
         call_cache(self, line)
     }
 
@@ -120,12 +119,12 @@ impl<S: BuildHasher + Copy + Default + Drop> Spoken for Cache<S> {
     }
 }
 
-impl<S: BuildHasher + Default> Spoken for Weighted<S> {
-    fn make(home: Home<'_>, capacity: usize) -> Weighted<S> {
-        WeightedCache::with_hasher(home.alloc, capacity as u64, S::default())
+impl Spoken for Weighted {
+    fn make(home: Home<'_>, capacity: usize) -> Weighted {
+        WeightedCache::with_hasher(home.alloc, capacity as u64, home.hashing)
     }
 
-    fn call(&mut self, _other: &Weighted<S>, line: &mut Line<'_>) -> Result<(), Stop> {
+    fn call(&mut self, _other: &Weighted, line: &mut Line<'_>) -> Result<(), Stop> {
         call_weighted(self, line)
     }
 

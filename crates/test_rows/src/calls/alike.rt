@@ -15,7 +15,7 @@ pub fn say_steps<'s, I: Iterator<Item = &'s Item> + Clone>(
         return say_all(&mut first, line);
     };
     for _ in 0..steps.group {
-        say_step(&mut first, line)?;
+        line.say_all(&next_step(&mut first))?;
     }
     Ok(())
 }
@@ -26,7 +26,9 @@ fn say_all<'s, I: Iterator<Item = &'s Item> + Clone>(
 ) -> Result<(), Stop>
     requires { (s : I) → I.can_next s }
 {
-    if say_step(first, line)? == Word::Nothing {
+    let step = next_step(first);
+    line.say_all(&step)?;
+    if step[2] == Word::Nothing {
         return say_end(first, line);
     }
     let mut clone = first.clone()?;
@@ -41,12 +43,12 @@ fn say_alike<'s, I: Iterator<Item = &'s Item>>(
     requires { (s : I) → I.can_next s }
 {
     for _ in 0..64 {
-        let left = first.size_hint();
-        let came = say_step(first, line)?;
-        if clone.size_hint() != left || lent_item(clone.next()) != came {
+        let step = next_step(first);
+        line.say_all(&step)?;
+        if next_step(clone) != step {
             line.say(Word::Wrong)?;
         }
-        if came == Word::Nothing {
+        if step[2] == Word::Nothing {
             return say_end(first, line);
         }
     }
@@ -63,17 +65,11 @@ fn say_end<'s, I: Iterator<Item = &'s Item>>(walk: &mut I, line: &mut Line<'_>) 
     line.say(Word::Wrong)
 }
 
-/// Says the bounds of how many are left, and then what comes, which it returns.
-fn say_step<'s, I: Iterator<Item = &'s Item>>(
-    walk: &mut I,
-    line: &mut Line<'_>,
-) -> Result<Word, Stop>
+/// The bounds of how many are left, and then what comes.
+fn next_step<'s, I: Iterator<Item = &'s Item>>(walk: &mut I) -> [Word; 3]
     requires { (s : I) → I.can_next s }
 {
     let (least, most) = walk.size_hint();
-    line.say(Word::count(least))?;
-    line.say(most.map_or(Word::Nothing, Word::count))?;
-    let came = lent_item(walk.next());
-    line.say(came)?;
-    Ok(came)
+    let most = most.map_or(Word::Nothing, Word::count);
+    [Word::count(least), most, lent_item(walk.next())]
 }

@@ -1,14 +1,15 @@
 //! Lines that speak to a cache, and need one entry of it at most. The others are in `cache_many`.
 use crate::calls::cache_many::call_many;
+use crate::calls::called::{LooksUp, TakesPair, look_up, put_pair};
 use crate::calls::entries::not_made;
+use crate::hashers::Hashing;
 use crate::items::{
-    Answer, Item, Line, Stop, Word, Words, given, given_item, lent, lent_item, made, no_memory,
-    put, write, write_item,
+    Answer, Item, Line, Name, Stop, Word, Words, given, given_item, lent, lent_item, made,
+    no_memory, put, write, write_item,
 };
 use hashlink_lru::LruCache;
-use std::hash::BuildHasher;
 
-pub type Cache<S> = LruCache<Item, Item, S>;
+pub type Cache = LruCache<Item, Item, Hashing>;
 
 /// A call, by what follows its name.
 #[derive(Clone, Copy)]
@@ -19,11 +20,9 @@ enum CacheCall {
     End(EndCall),
     /// A key, and after a call that lends the value for writing what is then written to it.
     Key(KeyCall),
-    /// A pair.
+    /// A pair, and after a call that lends the value for writing what is then written to it.
     Pair(PairCall),
-    /// A key, what is made where it is absent, and what is then written to the value.
-    GetOrInsertWith,
-    /// The same, or why nothing is made.
+    /// A key, and the same of its value, or why none is made.
     GetOrTryInsertWith,
     /// A number.
     SetCapacity,
@@ -49,7 +48,10 @@ const CALLS: [(&str, CacheCall); 22] = [
     ("peek_mut", CacheCall::Key(KeyCall::PeekMut)),
     ("insert", CacheCall::Pair(PairCall::Insert)),
     ("push", CacheCall::Pair(PairCall::Push)),
-    ("get_or_insert_with", CacheCall::GetOrInsertWith),
+    (
+        "get_or_insert_with",
+        CacheCall::Pair(PairCall::GetOrInsertWith),
+    ),
     ("get_or_try_insert_with", CacheCall::GetOrTryInsertWith),
     ("set_capacity", CacheCall::SetCapacity),
 ];
@@ -62,16 +64,12 @@ impl CacheCall {
 }
 
 /// Makes the call that a line says.
-pub fn call_cache<S: BuildHasher + Copy + Default + Drop>(
-    cache: &mut Cache<S>,
-    line: &mut Line<'_>,
-) -> Result<(), Stop> {
+pub fn call_cache(cache: &mut Cache, line: &mut Line<'_>) -> Result<(), Stop> {
     match CacheCall::known(&mut line.words) {
         Some(CacheCall::Read(call)) => line.say(read(cache, call)),
         Some(CacheCall::End(call)) => line.say(call_at_end(cache, call)),
         Some(CacheCall::Key(call)) => look_up(cache, call, line),
         Some(CacheCall::Pair(call)) => put_pair(cache, call, line),
-        Some(CacheCall::GetOrInsertWith) => get_or_insert(cache, line),
         Some(CacheCall::GetOrTryInsertWith) => get_or_try_insert(cache, line),
         Some(CacheCall::SetCapacity) => {
             cache.set_capacity(line.words.size());
@@ -90,7 +88,7 @@ enum ReadCall {
     Back,
 }
 
-fn read<S: BuildHasher>(cache: &Cache<S>, call: ReadCall) -> Word {
+fn read(cache: &Cache, call: ReadCall) -> Word {
     match call {
         ReadCall::Len => Word::count(cache.len()),
         ReadCall::IsEmpty => Word::Is(cache.is_empty()),
@@ -108,7 +106,7 @@ enum EndCall {
     Clone,
 }
 
-fn call_at_end<S: BuildHasher + Copy + Drop>(cache: &mut Cache<S>, call: EndCall) -> Word {
+fn call_at_end(cache: &mut Cache, call: EndCall) -> Word {
     match call {
         EndCall::MakeRoom => {
             cache.make_room();
@@ -138,40 +136,37 @@ enum KeyCall {
     PeekMut,
 }
 
-fn look_up<S: BuildHasher>(
-    cache: &mut Cache<S>,
-    call: KeyCall,
-    line: &mut Line<'_>,
-) -> Result<(), Stop> {
-    let (key, new) = line.lent_item()?;
-    line.say(match call {
-        KeyCall::Get => lent_item(cache.get(&key)),
-        KeyCall::Peek => lent_item(cache.peek(&key)),
-        KeyCall::ContainsKey => Word::Is(cache.contains_key(&key)),
-        KeyCall::EvictedBy => lent(cache.evicted_by(&key)),
-        KeyCall::Remove => given_item(cache.remove(&key)),
-        KeyCall::RemoveEntry => given(cache.remove_entry(&key)),
-        KeyCall::GetMut => write(cache.get_mut(&key), new),
-        KeyCall::PeekMut => write(cache.peek_mut(&key), new),
-    })
+impl LooksUp<KeyCall> for Cache {
+    fn find_by(&mut self, call: KeyCall, key: &Item, new: Option<Name>) -> Word {
+        match call {
+            KeyCall::Get => lent_item(self.get(key)),
+            KeyCall::Peek => lent_item(self.peek(key)),
+            KeyCall::ContainsKey => Word::Is(self.contains_key(key)),
+            KeyCall::EvictedBy => lent(self.evicted_by(key)),
+            KeyCall::Remove => given_item(self.remove(key)),
+            KeyCall::RemoveEntry => given(self.remove_entry(key)),
+            KeyCall::GetMut => write(self.get_mut(key), new),
+            KeyCall::PeekMut => write(self.peek_mut(key), new),
+        }
+    }
 }
 
 #[derive(Clone, Copy)]
 enum PairCall {
     Insert,
     Push,
+    /// The value is made where the key is absent.
+    GetOrInsertWith,
 }
 
-fn put_pair<S: BuildHasher>(
-    cache: &mut Cache<S>,
-    call: PairCall,
-    line: &mut Line<'_>,
-) -> Result<(), Stop> {
-    let (key, value) = line.pair()?;
-    line.give(match call {
-        PairCall::Insert => put(cache.insert(key, value)),
-        PairCall::Push => pushed(cache.push(key, value)),
-    })
+impl TakesPair<PairCall> for Cache {
+    fn put_by(&mut self, call: PairCall, (key, value): (Item, Item), new: Option<Name>) -> Answer {
+        match call {
+            PairCall::Insert => put(self.insert(key, value)),
+            PairCall::Push => pushed(self.push(key, value)),
+            PairCall::GetOrInsertWith => get_or_insert(self, key, value, new),
+        }
+    }
 }
 
 /// The pair that left, or the one that is handed back for want of memory.
@@ -182,19 +177,14 @@ fn pushed(left: Result<Option<(Item, Item)>, (Item, Item)>) -> Answer {
     }
 }
 
-fn get_or_insert<S: BuildHasher>(cache: &mut Cache<S>, line: &mut Line<'_>) -> Result<(), Stop> {
-    let (key, value) = line.pair()?;
-    let new = line.words.optional();
-    line.give(match cache.get_or_insert_with(key, || value) {
+fn get_or_insert(cache: &mut Cache, key: Item, value: Item, new: Option<Name>) -> Answer {
+    match cache.get_or_insert_with(key, || value) {
         Ok(lent) => Answer::Word(write_item(lent, new)),
         Err(pair) => no_memory(pair),
-    })
+    }
 }
 
-fn get_or_try_insert<S: BuildHasher>(
-    cache: &mut Cache<S>,
-    line: &mut Line<'_>,
-) -> Result<(), Stop> {
+fn get_or_try_insert(cache: &mut Cache, line: &mut Line<'_>) -> Result<(), Stop> {
     let key = line.item()?;
     let (made, new) = line.tried()?;
     line.give(match cache.get_or_try_insert_with(key, || made) {

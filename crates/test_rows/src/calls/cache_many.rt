@@ -1,16 +1,15 @@
 //! Lines that speak to a cache about many pairs, or by its map, an iterator or an entry.
 use crate::calls::cache_calls::Cache;
 use crate::calls::entries::call_entry;
-use crate::calls::extended::{Kept, extended, extended_by_trait, say_kept};
+use crate::calls::extended::{Extension, TakesMany, extended, extended_by_trait, put_rest};
 use crate::calls::map_calls::call_map;
 use crate::calls::raw_entries::{call_found, put_found};
 use crate::items::{
-    EntryCall, Item, Keep, Line, RawCall, RawGive, Stop, Word, Words, is_even, is_raised, lent,
-    rest_of, walk_and_clone, walk_whole,
+    Answer, EntryCall, Item, Keep, Line, RawCall, RawGive, Stop, Word, Words, is_even, is_raised,
+    lent, walk_and_clone, walk_whole,
 };
 use hashlink_lru::LruCache;
 use std::alloc::Global;
-use std::hash::BuildHasher;
 use std::mem;
 use std::vec::IntoIter;
 
@@ -18,7 +17,7 @@ use std::vec::IntoIter;
 #[derive(Clone, Copy)]
 enum ManyCall {
     /// Pairs.
-    Pairs(PairsCall),
+    Extend(Extension),
     /// What is kept. Whether it is `retain_from`, of a closure that is lent.
     Retain(bool),
     /// Steps of an iterator.
@@ -30,13 +29,10 @@ enum ManyCall {
 }
 
 const CALLS: [(&str, ManyCall); 16] = [
-    ("extend", ManyCall::Pairs(PairsCall::Extend)),
-    ("extend_from", ManyCall::Pairs(PairsCall::Kept(Kept::From))),
-    ("extend_kept", ManyCall::Pairs(PairsCall::Kept(Kept::Whole))),
-    (
-        "extend_by_trait",
-        ManyCall::Pairs(PairsCall::Kept(Kept::ByTrait)),
-    ),
+    ("extend", ManyCall::Extend(Extension::Whole)),
+    ("extend_from", ManyCall::Extend(Extension::From)),
+    ("extend_kept", ManyCall::Extend(Extension::Kept)),
+    ("extend_by_trait", ManyCall::Extend(Extension::ByTrait)),
     ("retain", ManyCall::Retain(false)),
     ("retain_from", ManyCall::Retain(true)),
     ("iter", ManyCall::Walk(WalkCall::Iter)),
@@ -59,12 +55,9 @@ impl ManyCall {
 }
 
 /// Makes the call that a line says, if it is one of these.
-pub fn call_many<S: BuildHasher + Copy + Default + Drop>(
-    cache: &mut Cache<S>,
-    line: &mut Line<'_>,
-) -> Result<(), Stop> {
+pub fn call_many(cache: &mut Cache, line: &mut Line<'_>) -> Result<(), Stop> {
     match ManyCall::read(&mut line.words)? {
-        ManyCall::Pairs(call) => put_all(cache, call, line),
+        ManyCall::Extend(call) => put_rest(cache, call, line),
         ManyCall::Retain(is_lent) => retain(cache, is_lent, line),
         ManyCall::Walk(call) => walk_cache(cache, call, line),
         ManyCall::Inside => call_map(cache.map_mut(), line),
@@ -72,48 +65,22 @@ pub fn call_many<S: BuildHasher + Copy + Default + Drop>(
     }
 }
 
-#[derive(Clone, Copy)]
-enum PairsCall {
-    Extend,
-    Kept(Kept),
-}
-
-fn put_all<S: BuildHasher>(
-    cache: &mut Cache<S>,
-    call: PairsCall,
-    line: &mut Line<'_>,
-) -> Result<(), Stop> {
-    let pairs = rest_of(line)?;
-    match call {
-        PairsCall::Extend => line.give(extended(cache.extend(pairs))),
-        PairsCall::Kept(call) => extend_kept(cache, call, &mut pairs.into_iter(), line),
+impl TakesMany<(Item, Item)> for Cache {
+    fn extend_by(&mut self, call: Extension, pairs: &mut IntoIter<(Item, Item)>) -> Answer {
+        match call {
+            Extension::Whole | Extension::Kept => extended(self.extend(&mut *pairs)),
+            Extension::From => extended(self.extend_from(&mut *pairs)),
+            Extension::ByTrait => extended_by_trait(self, pairs),
+        }
     }
 }
 
-fn extend_kept<S: BuildHasher>(
-    cache: &mut Cache<S>,
-    call: Kept,
-    pairs: &mut IntoIter<(Item, Item)>,
-    line: &mut Line<'_>,
-) -> Result<(), Stop> {
-    let answer = match call {
-        Kept::Whole => extended(cache.extend(&mut *pairs)),
-        Kept::From => extended(cache.extend_from(&mut *pairs)),
-        Kept::ByTrait => extended_by_trait(cache, pairs),
-    };
-    say_kept(answer, pairs.len(), line)
-}
-
-fn retain<S: BuildHasher>(
-    cache: &mut Cache<S>,
-    is_lent: bool,
-    line: &mut Line<'_>,
-) -> Result<(), Stop> {
+fn retain(cache: &mut Cache, is_lent: bool, line: &mut Line<'_>) -> Result<(), Stop> {
     let keep = Keep::read(&mut line.words)?;
     line.say(keep_some(cache, is_lent, keep))
 }
 
-fn keep_some<S: BuildHasher>(cache: &mut Cache<S>, is_lent: bool, keep: Keep) -> Word {
+fn keep_some(cache: &mut Cache, is_lent: bool, keep: Keep) -> Word {
     match (keep, is_lent) {
         (Keep::Even, false) => cache.retain(is_even),
         (Keep::Even, true) => cache.retain_from(&mut is_even),
@@ -134,11 +101,7 @@ enum WalkCall {
     IntoIter,
 }
 
-fn walk_cache<S: BuildHasher + Copy + Drop>(
-    cache: &mut Cache<S>,
-    call: WalkCall,
-    line: &mut Line<'_>,
-) -> Result<(), Stop> {
+fn walk_cache(cache: &mut Cache, call: WalkCall, line: &mut Line<'_>) -> Result<(), Stop> {
     match call {
         WalkCall::Iter => walk_and_clone(cache.iter(), line),
         WalkCall::Keys => walk_and_clone(cache.keys(), line),
@@ -150,7 +113,7 @@ fn walk_cache<S: BuildHasher + Copy + Drop>(
 }
 
 /// The cache, in whose place stands an empty one.
-fn take<S: BuildHasher + Copy + Drop>(cache: &mut Cache<S>, alloc: Global) -> Cache<S> {
+fn take(cache: &mut Cache, alloc: Global) -> Cache {
     let empty = LruCache::with_hasher(alloc, cache.capacity(), *cache.hasher());
     mem::replace(cache, empty)
 }
@@ -166,11 +129,7 @@ enum EntryWord {
     RawRead,
 }
 
-fn call_of_entry<S: BuildHasher>(
-    cache: &mut Cache<S>,
-    call: EntryWord,
-    line: &mut Line<'_>,
-) -> Result<(), Stop> {
+fn call_of_entry(cache: &mut Cache, call: EntryWord, line: &mut Line<'_>) -> Result<(), Stop> {
     match call {
         EntryWord::Entry => call_entry_of(cache, line),
         EntryWord::Raw => call_raw(cache, line),
@@ -179,13 +138,13 @@ fn call_of_entry<S: BuildHasher>(
 }
 
 /// Makes the call of the entry of a key that the words say.
-fn call_entry_of<S: BuildHasher>(cache: &mut Cache<S>, line: &mut Line<'_>) -> Result<(), Stop> {
+fn call_entry_of(cache: &mut Cache, line: &mut Line<'_>) -> Result<(), Stop> {
     let (key, call) = EntryCall::of_key(line)?;
     call_entry(cache.entry(key), call, line)
 }
 
 /// Makes the call of a raw entry that the words say.
-fn call_raw<S: BuildHasher>(cache: &mut Cache<S>, line: &mut Line<'_>) -> Result<(), Stop> {
+fn call_raw(cache: &mut Cache, line: &mut Line<'_>) -> Result<(), Stop> {
     let _way = line.words.word();
     let (key, call) = RawCall::of_key(line)?;
     let entries = cache.raw_entry_mut();
@@ -198,7 +157,7 @@ fn call_raw<S: BuildHasher>(cache: &mut Cache<S>, line: &mut Line<'_>) -> Result
 }
 
 /// Reads the pair of a key.
-fn read_raw<S: BuildHasher>(cache: &Cache<S>, line: &mut Line<'_>) -> Result<(), Stop> {
+fn read_raw(cache: &Cache, line: &mut Line<'_>) -> Result<(), Stop> {
     let _way = line.words.word();
     let key = line.item()?;
     line.say(lent(cache.raw_entry().from_key(&key)))

@@ -1,35 +1,31 @@
 //! Calls of the entry of a key that is in hand, of a map and of a cache.
 use crate::calls::map_calls::Map;
 use crate::calls::map_cursors::take_all_steps;
+use crate::hashers::Hashing;
 use crate::items::{
     Answer, Ask, EndedCall, EntryCall, Give, Item, Line, Make, Name, Put, PutVacant, Stop, There,
     Vacant, Word, no_memory, set, shown, taken, taken_pair, write_item,
 };
 use hashlink_map::{Entry, TryInsertError};
-use std::hash::BuildHasher;
 
-type InHand<'m, S> = Entry<'m, Item, Item, S>;
+type InHand<'m> = Entry<'m, Item, Item, Hashing>;
 
 /// Makes the call of the entry of a map's key that the words say.
-pub fn call_entry_of<S: BuildHasher>(map: &mut Map<S>, line: &mut Line<'_>) -> Result<(), Stop> {
+pub fn call_entry_of(map: &mut Map, line: &mut Line<'_>) -> Result<(), Stop> {
     let (key, call) = EntryCall::of_key(line)?;
     call_entry(map.entry(key), call, line)
 }
 
 /// Makes a call of an entry, which may have steps of a cursor behind it. One of an occupied entry answers
 /// nothing where the key is absent, and one of a vacant entry nothing where it is there.
-pub fn call_entry<S: BuildHasher>(
-    entry: InHand<'_, S>,
-    call: EntryCall,
-    line: &mut Line<'_>,
-) -> Result<(), Stop> {
+pub fn call_entry(entry: InHand<'_>, call: EntryCall, line: &mut Line<'_>) -> Result<(), Stop> {
     match call {
         EntryCall::Cursor => steps_of(entry, line),
         EntryCall::Ended(call) => line.give(answer_at(entry, call)),
     }
 }
 
-fn answer_at<S: BuildHasher>(entry: InHand<'_, S>, call: EndedCall) -> Answer {
+fn answer_at(entry: InHand<'_>, call: EndedCall) -> Answer {
     match call {
         EndedCall::Ask(call, new) => Answer::Word(ask_at(entry, call, new)),
         EndedCall::Give(Give::Make(make), value, new) => make_at(entry, make, value, new),
@@ -39,7 +35,7 @@ fn answer_at<S: BuildHasher>(entry: InHand<'_, S>, call: EndedCall) -> Answer {
     }
 }
 
-fn ask_at<S: BuildHasher>(entry: InHand<'_, S>, call: Ask, new: Option<Name>) -> Word {
+fn ask_at(entry: InHand<'_>, call: Ask, new: Option<Name>) -> Word {
     match call {
         Ask::Key => Word::item(entry.key().name()),
         Ask::Modify => modify(entry, new),
@@ -48,7 +44,7 @@ fn ask_at<S: BuildHasher>(entry: InHand<'_, S>, call: Ask, new: Option<Name>) ->
     }
 }
 
-fn ask_there<S: BuildHasher>(entry: InHand<'_, S>, call: There, new: Option<Name>) -> Word {
+fn ask_there(entry: InHand<'_>, call: There, new: Option<Name>) -> Word {
     match entry {
         Entry::Occupied(mut entry) => match call {
             There::Get => shown((entry.key(), entry.get())),
@@ -72,14 +68,14 @@ fn ask_there<S: BuildHasher>(entry: InHand<'_, S>, call: There, new: Option<Name
 }
 
 /// Writes the value where the key is there.
-fn modify<S: BuildHasher>(entry: InHand<'_, S>, new: Option<Name>) -> Word {
+fn modify(entry: InHand<'_>, new: Option<Name>) -> Word {
     match entry.and_modify(|lent| set(lent, new)) {
         Entry::Occupied(entry) => Word::item(entry.get().name()),
         Entry::Vacant(_vacant) => Word::Nothing,
     }
 }
 
-fn ask_vacant<S: BuildHasher>(entry: InHand<'_, S>, call: Vacant) -> Word {
+fn ask_vacant(entry: InHand<'_>, call: Vacant) -> Word {
     match entry {
         Entry::Occupied(_occupied) => Word::Nothing,
         Entry::Vacant(entry) => match call {
@@ -89,12 +85,7 @@ fn ask_vacant<S: BuildHasher>(entry: InHand<'_, S>, call: Vacant) -> Word {
     }
 }
 
-fn make_at<S: BuildHasher>(
-    entry: InHand<'_, S>,
-    make: Make,
-    value: Item,
-    new: Option<Name>,
-) -> Answer {
+fn make_at(entry: InHand<'_>, make: Make, value: Item, new: Option<Name>) -> Answer {
     let lent = match make {
         Make::OrInsert => entry.or_insert(value),
         Make::OrInsertWith => entry.or_insert_with(|| value),
@@ -105,11 +96,7 @@ fn make_at<S: BuildHasher>(
     }
 }
 
-fn try_make_at<S: BuildHasher>(
-    entry: InHand<'_, S>,
-    made: Result<Item, Item>,
-    new: Option<Name>,
-) -> Answer {
+fn try_make_at(entry: InHand<'_>, made: Result<Item, Item>, new: Option<Name>) -> Answer {
     match entry.or_try_insert_with(|| made) {
         Ok(lent) => Answer::Word(write_item(lent, new)),
         Err(error) => not_made(error),
@@ -124,7 +111,7 @@ pub fn not_made(error: TryInsertError<Item, Item, Item>) -> Answer {
     }
 }
 
-fn put_at<S: BuildHasher>(entry: InHand<'_, S>, put: Put, value: Item) -> Word {
+fn put_at(entry: InHand<'_>, put: Put, value: Item) -> Word {
     match entry {
         Entry::Occupied(mut entry) => match put {
             Put::Insert => taken(entry.insert(value)),
@@ -136,12 +123,7 @@ fn put_at<S: BuildHasher>(entry: InHand<'_, S>, put: Put, value: Item) -> Word {
     }
 }
 
-fn put_vacant<S: BuildHasher>(
-    entry: InHand<'_, S>,
-    put: PutVacant,
-    value: Item,
-    new: Option<Name>,
-) -> Answer {
+fn put_vacant(entry: InHand<'_>, put: PutVacant, value: Item, new: Option<Name>) -> Answer {
     match put {
         PutVacant::Insert => insert(entry, value, new),
         PutVacant::InsertEntry => insert_entry(entry, value, false),
@@ -149,7 +131,7 @@ fn put_vacant<S: BuildHasher>(
     }
 }
 
-fn insert<S: BuildHasher>(entry: InHand<'_, S>, value: Item, new: Option<Name>) -> Answer {
+fn insert(entry: InHand<'_>, value: Item, new: Option<Name>) -> Answer {
     match entry {
         Entry::Occupied(_occupied) => Answer::Word(Word::Nothing),
         Entry::Vacant(entry) => match entry.insert(value) {
@@ -159,7 +141,7 @@ fn insert<S: BuildHasher>(entry: InHand<'_, S>, value: Item, new: Option<Name>) 
     }
 }
 
-fn insert_entry<S: BuildHasher>(entry: InHand<'_, S>, value: Item, is_taken: bool) -> Answer {
+fn insert_entry(entry: InHand<'_>, value: Item, is_taken: bool) -> Answer {
     match entry {
         Entry::Occupied(_occupied) => Answer::Word(Word::Nothing),
         Entry::Vacant(entry) => match entry.insert_entry(value) {
@@ -174,7 +156,7 @@ fn insert_entry<S: BuildHasher>(entry: InHand<'_, S>, value: Item, is_taken: boo
 }
 
 /// Steps of a cursor that starts at the entry.
-fn steps_of<S: BuildHasher>(entry: InHand<'_, S>, line: &mut Line<'_>) -> Result<(), Stop> {
+fn steps_of(entry: InHand<'_>, line: &mut Line<'_>) -> Result<(), Stop> {
     match entry {
         Entry::Occupied(entry) => take_all_steps(&mut entry.cursor_mut(), line),
         Entry::Vacant(_vacant) => line.say(Word::Nothing),
@@ -182,7 +164,7 @@ fn steps_of<S: BuildHasher>(entry: InHand<'_, S>, line: &mut Line<'_>) -> Result
 }
 
 /// Steps of a cursor that starts at the key of the line.
-pub fn call_cursor_of<S: BuildHasher>(map: &mut Map<S>, line: &mut Line<'_>) -> Result<(), Stop> {
+pub fn call_cursor_of(map: &mut Map, line: &mut Line<'_>) -> Result<(), Stop> {
     let key = line.item()?;
     steps_of(map.entry(key), line)
 }

@@ -1,20 +1,61 @@
 //! How extensions of containers go, also by std's `Extend`.
 ghost use Rattle.std.specs.Prelude.{List};
 
-use crate::items::{Answer, Item, Line, Stop, Word, no_memory_after};
+use crate::items::{Answer, Item, Line, Read, Stop, Word, done, made, no_memory_after, rest_of};
 use hashlink_map::ExtendError;
-use std::alloc::AllocError;
+use std::alloc::Global;
 use std::vec::IntoIter;
 
-/// An extension by an iterator that is kept.
+/// A call that puts many items in.
 #[derive(Clone, Copy)]
-pub enum Kept {
+pub enum Extension {
     /// `extend`.
     Whole,
-    /// `extend_from`.
+    /// `extend`, after which it is said how many items its iterator has left.
+    Kept,
+    /// `extend_from`, and the same.
     From,
-    /// std's `Extend`.
+    /// std's `Extend`, and the same.
     ByTrait,
+}
+
+/// A container into which many items are put.
+pub trait TakesMany<T> {
+    fn extend_by(&mut self, call: Extension, items: &mut IntoIter<T>) -> Answer;
+}
+
+/// Puts in what the rest of the line names.
+pub fn put_rest<T: Read + Drop, C: TakesMany<T>>(
+    container: &mut C,
+    call: Extension,
+    line: &mut Line<'_>,
+) -> Result<(), Stop> {
+    let items = &mut rest_of(line)?.into_iter();
+    let answer = container.extend_by(call, items);
+    say_extension(call, answer, items.len(), line)
+}
+
+fn say_extension(
+    call: Extension,
+    answer: Answer,
+    left: usize,
+    line: &mut Line<'_>,
+) -> Result<(), Stop> {
+    match call {
+        Extension::Whole => line.give(answer),
+        _ => say_kept(answer, left, line),
+    }
+}
+
+/// Makes the container anew of what the rest of the line names.
+pub fn make_of_rest<T: Read + Drop, C: FromIterator<T, Alloc = Global> + Drop>(
+    container: &mut C,
+    line: &mut Line<'_>,
+) -> Result<(), Stop>
+    requires { (items : List T) → C.can_from_iter items }
+{
+    let items: Vec<T> = rest_of(line)?;
+    line.say(made(container, C::from_iter(line.home.alloc, items)))
 }
 
 /// That all pairs went in, or how many did before the one that is handed back.
@@ -32,10 +73,7 @@ pub fn extended_by_trait<T: Drop, C: Extend<T>>(
 ) -> Answer
     requires { (c : C) → (items : List T) → C.can_extend c items }
 {
-    match container.extend(items) {
-        Ok(()) => Answer::Word(Word::Done),
-        Err(AllocError) => Answer::Word(Word::Memory),
-    }
+    Answer::Word(done(container.extend(items)))
 }
 
 /// Says how an extension went, and how many items its iterator, which was kept, has left.

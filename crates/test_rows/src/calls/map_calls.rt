@@ -1,14 +1,14 @@
 //! Lines that speak to a map, and need one entry of it at most. The others are in `map_many`.
+use crate::calls::called::{LooksUp, TakesPair, look_up, put_pair};
 use crate::calls::map_many::call_many;
+use crate::hashers::Hashing;
 use crate::items::{
-    Answer, Asked, Item, Line, Name, Stop, Word, Words, given, given_item, has_room, lent,
-    lent_item, made, no_memory, put, room, write, write_item,
+    Answer, Asked, Item, Line, Name, Stop, Word, Words, done, given, given_item, has_room, lent,
+    lent_item, made, made_with_room, no_memory, put, room, write, write_item,
 };
 use hashlink_map::LinkedHashMap;
-use std::alloc::{AllocError, Global};
-use std::hash::BuildHasher;
 
-pub type Map<S> = LinkedHashMap<Item, Item, S>;
+pub type Map = LinkedHashMap<Item, Item, Hashing>;
 
 /// A call, by what follows its name.
 #[derive(Clone, Copy)]
@@ -21,9 +21,7 @@ enum MapCall {
     Key(KeyCall),
     /// What is then written to the value.
     LendBack,
-    /// A key, what is made where it is absent, and what is then written to the value.
-    GetOrInsertWith,
-    /// A pair.
+    /// A pair, and after a call that lends the value for writing what is then written to it.
     Pair(PairCall),
     /// A number.
     Size(SizeCall),
@@ -50,7 +48,10 @@ const CALLS: [(&str, MapCall); 30] = [
     ("to_back", MapCall::Key(KeyCall::ToBack)),
     ("index_mut", MapCall::Key(KeyCall::IndexMut)),
     ("back_value_mut", MapCall::LendBack),
-    ("get_or_insert_with", MapCall::GetOrInsertWith),
+    (
+        "get_or_insert_with",
+        MapCall::Pair(PairCall::GetOrInsertWith),
+    ),
     ("insert", MapCall::Pair(PairCall::Insert)),
     ("insert_front", MapCall::Pair(PairCall::InsertFront)),
     ("replace", MapCall::Pair(PairCall::Replace)),
@@ -70,10 +71,7 @@ impl MapCall {
 }
 
 /// Makes the call that a line says.
-pub fn call_map<S: BuildHasher + Copy + Default + Drop>(
-    map: &mut Map<S>,
-    line: &mut Line<'_>,
-) -> Result<(), Stop> {
+pub fn call_map(map: &mut Map, line: &mut Line<'_>) -> Result<(), Stop> {
     match MapCall::known(&mut line.words) {
         Some(MapCall::Read(call)) => line.say(read(map, call)),
         Some(MapCall::End(call)) => line.say(call_at_end(map, call)),
@@ -82,7 +80,6 @@ pub fn call_map<S: BuildHasher + Copy + Default + Drop>(
             let new = line.words.optional();
             line.say(write(map.back_value_mut(), new))
         }
-        Some(MapCall::GetOrInsertWith) => get_or_insert(map, line),
         Some(MapCall::Pair(call)) => put_pair(map, call, line),
         Some(MapCall::Size(call)) => ask_room(map, call, line),
         None => call_many(map, line),
@@ -97,7 +94,7 @@ enum ReadCall {
     IsEmpty,
 }
 
-fn read<S: BuildHasher>(map: &Map<S>, call: ReadCall) -> Word {
+fn read(map: &Map, call: ReadCall) -> Word {
     match call {
         ReadCall::Front => lent(map.front()),
         ReadCall::Back => lent(map.back()),
@@ -115,7 +112,7 @@ enum EndCall {
     Clone,
 }
 
-fn call_at_end<S: BuildHasher + Copy + Drop>(map: &mut Map<S>, call: EndCall) -> Word {
+fn call_at_end(map: &mut Map, call: EndCall) -> Word {
     match call {
         EndCall::PopFront => given(map.pop_front()),
         EndCall::PopBack => given(map.pop_back()),
@@ -123,10 +120,7 @@ fn call_at_end<S: BuildHasher + Copy + Drop>(map: &mut Map<S>, call: EndCall) ->
             map.clear();
             Word::Done
         }
-        EndCall::Shrink => match map.shrink_to_fit() {
-            Ok(()) => Word::Done,
-            Err(AllocError) => Word::Memory,
-        },
+        EndCall::Shrink => done(map.shrink_to_fit()),
         EndCall::Clone => {
             let clone = map.clone();
             made(map, clone)
@@ -148,47 +142,35 @@ enum KeyCall {
     IndexMut,
 }
 
-fn look_up<S: BuildHasher>(
-    map: &mut Map<S>,
-    call: KeyCall,
-    line: &mut Line<'_>,
-) -> Result<(), Stop> {
-    let (key, new) = line.lent_item()?;
-    line.say(match call {
-        KeyCall::Get => lent_item(map.get(&key)),
-        KeyCall::ContainsKey => Word::Is(map.contains_key(&key)),
-        KeyCall::GetKeyValue => lent(map.get_key_value(&key)),
-        KeyCall::Index => index(map, &key),
-        KeyCall::Remove => given_item(map.remove(&key)),
-        KeyCall::RemoveEntry => given(map.remove_entry(&key)),
-        KeyCall::GetMut => write(map.get_mut(&key), new),
-        KeyCall::ToFront => write(map.to_front(&key), new),
-        KeyCall::ToBack => write(map.to_back(&key), new),
-        KeyCall::IndexMut => index_mut(map, &key, new),
-    })
+impl LooksUp<KeyCall> for Map {
+    fn find_by(&mut self, call: KeyCall, key: &Item, new: Option<Name>) -> Word {
+        match call {
+            KeyCall::Get => lent_item(self.get(key)),
+            KeyCall::ContainsKey => Word::Is(self.contains_key(key)),
+            KeyCall::GetKeyValue => lent(self.get_key_value(key)),
+            KeyCall::Index => index(self, key),
+            KeyCall::Remove => given_item(self.remove(key)),
+            KeyCall::RemoveEntry => given(self.remove_entry(key)),
+            KeyCall::GetMut => write(self.get_mut(key), new),
+            KeyCall::ToFront => write(self.to_front(key), new),
+            KeyCall::ToBack => write(self.to_back(key), new),
+            KeyCall::IndexMut => index_mut(self, key, new),
+        }
+    }
 }
 
-fn index<S: BuildHasher>(map: &Map<S>, key: &Item) -> Word {
+fn index(map: &Map, key: &Item) -> Word {
     if map.contains_key(key) {
         return Word::item(map[key].name());
     }
     Word::Nothing
 }
 
-fn index_mut<S: BuildHasher>(map: &mut Map<S>, key: &Item, new: Option<Name>) -> Word {
+fn index_mut(map: &mut Map, key: &Item, new: Option<Name>) -> Word {
     if map.contains_key(key) {
         return write_item(&mut map[key], new);
     }
     Word::Nothing
-}
-
-fn get_or_insert<S: BuildHasher>(map: &mut Map<S>, line: &mut Line<'_>) -> Result<(), Stop> {
-    let (key, value) = line.pair()?;
-    let new = line.words.optional();
-    line.give(match map.get_or_insert_with(key, || value) {
-        Ok(lent) => Answer::Word(write_item(lent, new)),
-        Err(pair) => no_memory(pair),
-    })
 }
 
 #[derive(Clone, Copy)]
@@ -196,19 +178,26 @@ enum PairCall {
     Insert,
     InsertFront,
     Replace,
+    /// The value is made where the key is absent.
+    GetOrInsertWith,
 }
 
-fn put_pair<S: BuildHasher>(
-    map: &mut Map<S>,
-    call: PairCall,
-    line: &mut Line<'_>,
-) -> Result<(), Stop> {
-    let (key, value) = line.pair()?;
-    line.give(put(match call {
-        PairCall::Insert => map.insert(key, value),
-        PairCall::InsertFront => map.insert_front(key, value),
-        PairCall::Replace => map.replace(key, value),
-    }))
+impl TakesPair<PairCall> for Map {
+    fn put_by(&mut self, call: PairCall, (key, value): (Item, Item), new: Option<Name>) -> Answer {
+        put(match call {
+            PairCall::Insert => self.insert(key, value),
+            PairCall::InsertFront => self.insert_front(key, value),
+            PairCall::Replace => self.replace(key, value),
+            PairCall::GetOrInsertWith => return get_or_insert(self, key, value, new),
+        })
+    }
+}
+
+fn get_or_insert(map: &mut Map, key: Item, value: Item, new: Option<Name>) -> Answer {
+    match map.get_or_insert_with(key, || value) {
+        Ok(lent) => Answer::Word(write_item(lent, new)),
+        Err(pair) => no_memory(pair),
+    }
 }
 
 #[derive(Clone, Copy)]
@@ -219,27 +208,15 @@ enum SizeCall {
     WithCapacity,
 }
 
-fn ask_room<S: BuildHasher + Copy + Drop>(
-    map: &mut Map<S>,
-    call: SizeCall,
-    line: &mut Line<'_>,
-) -> Result<(), Stop> {
+fn ask_room(map: &mut Map, call: SizeCall, line: &mut Line<'_>) -> Result<(), Stop> {
     let size = line.words.size();
     line.say(match call {
         SizeCall::Reserve => room(map.reserve(size)),
         SizeCall::TryReserve => room(map.try_reserve(size)),
         SizeCall::Has(asked) => has_room(asked, map.capacity(), map.len(), size),
-        SizeCall::WithCapacity => with_capacity(map, line.home.alloc, size),
+        SizeCall::WithCapacity => {
+            let new = LinkedHashMap::with_capacity_and_hasher(line.home.alloc, size, *map.hasher());
+            made_with_room(map, new)
+        }
     })
-}
-
-fn with_capacity<S: BuildHasher + Copy + Drop>(
-    map: &mut Map<S>,
-    alloc: Global,
-    size: usize,
-) -> Word {
-    match LinkedHashMap::with_capacity_and_hasher(alloc, size, *map.hasher()) {
-        Ok(new) => made(map, Ok(new)),
-        Err(refused) => room(Err(refused)),
-    }
 }

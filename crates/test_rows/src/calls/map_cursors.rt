@@ -1,13 +1,13 @@
 //! Lines that speak to a cursor.
 use crate::calls::map_calls::Map;
 use crate::calls::map_many::AtEnd;
+use crate::hashers::Hashing;
 use crate::items::{
     Answer, Item, Line, Name, Stop, Word, Words, lent, put, shown, taken_pair, write, write_pair,
 };
 use hashlink_map::CursorMut;
-use std::hash::BuildHasher;
 
-type Cursor<'m, S> = CursorMut<'m, Item, Item, S>;
+type Cursor<'m> = CursorMut<'m, Item, Item, Hashing>;
 
 /// What is done with the cursor after its steps.
 #[derive(Clone, Copy)]
@@ -96,7 +96,7 @@ impl AtEnd {
 }
 
 /// Steps of a cursor that starts at an end.
-pub fn call_cursor<S: BuildHasher>(map: &mut Map<S>, line: &mut Line<'_>) -> Result<(), Stop> {
+pub fn call_cursor(map: &mut Map, line: &mut Line<'_>) -> Result<(), Stop> {
     let end = AtEnd::read(&mut line.words)?;
     let mut cursor = cursor_at(map, end);
     let Some(last) = take_steps(&mut cursor, line)? else {
@@ -118,7 +118,7 @@ pub fn call_cursor<S: BuildHasher>(map: &mut Map<S>, line: &mut Line<'_>) -> Res
     })
 }
 
-fn cursor_at<'m, S: BuildHasher>(map: &'m mut Map<S>, end: AtEnd) -> Cursor<'m, S> {
+fn cursor_at<'m>(map: &'m mut Map, end: AtEnd) -> Cursor<'m> {
     match end {
         AtEnd::Front => map.cursor_front_mut(),
         AtEnd::Back => map.cursor_back_mut(),
@@ -126,10 +126,7 @@ fn cursor_at<'m, S: BuildHasher>(map: &'m mut Map<S>, end: AtEnd) -> Cursor<'m, 
 }
 
 /// Takes the steps, after which the cursor is left.
-pub fn take_all_steps<S: BuildHasher>(
-    cursor: &mut Cursor<'_, S>,
-    line: &mut Line<'_>,
-) -> Result<(), Stop> {
+pub fn take_all_steps(cursor: &mut Cursor<'_>, line: &mut Line<'_>) -> Result<(), Stop> {
     match take_steps(cursor, line)? {
         Some(_last) => Err(Stop::Unread),
         None => Ok(()),
@@ -137,10 +134,7 @@ pub fn take_all_steps<S: BuildHasher>(
 }
 
 /// Takes the steps, and returns what is done then, if anything is.
-fn take_steps<S: BuildHasher>(
-    cursor: &mut Cursor<'_, S>,
-    line: &mut Line<'_>,
-) -> Result<Option<Last>, Stop> {
+fn take_steps(cursor: &mut Cursor<'_>, line: &mut Line<'_>) -> Result<Option<Last>, Stop> {
     for _ in 0..64 {
         match next_step(line)? {
             Coming::Step(step) => line.give(take_step(cursor, step))?,
@@ -168,7 +162,7 @@ fn next_step(line: &mut Line<'_>) -> Result<Coming, Stop> {
     }))
 }
 
-fn take_step<S: BuildHasher>(cursor: &mut Cursor<'_, S>, step: CursorStep) -> Answer {
+fn take_step(cursor: &mut Cursor<'_>, step: CursorStep) -> Answer {
     match step {
         CursorStep::Next => {
             cursor.move_next();
@@ -185,7 +179,7 @@ fn take_step<S: BuildHasher>(cursor: &mut Cursor<'_, S>, step: CursorStep) -> An
 }
 
 /// The entries before the cursor, at it and after it.
-fn around<S: BuildHasher>(cursor: &Cursor<'_, S>) -> [Word; 3] {
+fn around(cursor: &Cursor<'_>) -> [Word; 3] {
     [
         lent(cursor.prev_pair()),
         lent(cursor.current_pair()),
@@ -193,19 +187,14 @@ fn around<S: BuildHasher>(cursor: &Cursor<'_, S>) -> [Word; 3] {
     ]
 }
 
-fn put_at<S: BuildHasher>(
-    cursor: &mut Cursor<'_, S>,
-    place: PutAt,
-    key: Item,
-    value: Item,
-) -> Answer {
+fn put_at(cursor: &mut Cursor<'_>, place: PutAt, key: Item, value: Item) -> Answer {
     put(match place {
         PutAt::Before => cursor.insert_before(key, value),
         PutAt::After => cursor.insert_after(key, value),
     })
 }
 
-fn write_at<S: BuildHasher>(cursor: &mut Cursor<'_, S>, place: WriteAt, new: Name) -> Word {
+fn write_at(cursor: &mut Cursor<'_>, place: WriteAt, new: Name) -> Word {
     match place {
         WriteAt::Here => write(cursor.current_value(), Some(new)),
         WriteAt::Pair => write_pair(cursor.current(), Some(new)),

@@ -1,16 +1,18 @@
 //! Lines that speak to a map about many pairs, or by an iterator, a cursor or an entry.
 use crate::calls::entries::{call_cursor_of, call_entry_of};
-use crate::calls::extended::{Kept, extended, extended_by_trait, say_kept};
+use crate::calls::extended::{
+    Extension, TakesMany, extended, extended_by_trait, make_of_rest, put_rest,
+};
 use crate::calls::map_calls::Map;
 use crate::calls::map_cursors::call_cursor;
 use crate::calls::raw_entries::{call_end, call_raw, read_raw};
+use crate::hashers::Hashing;
 use crate::items::{
-    Item, Keep, Line, Retain, Stop, Word, Words, made, read_keep, rest_of, shown, walk_and_clone,
+    Answer, Item, Keep, Line, Retain, Stop, Word, Words, made, read_keep, shown, walk_and_clone,
     walk_or_forget, walk_whole,
 };
-use hashlink_map::LinkedHashMap;
+use hashlink_map::{IterFrom, LinkedHashMap};
 use std::alloc::Global;
-use std::hash::BuildHasher;
 use std::mem;
 use std::vec::IntoIter;
 
@@ -18,7 +20,9 @@ use std::vec::IntoIter;
 #[derive(Clone, Copy)]
 enum ManyCall {
     /// Pairs.
-    Pairs(PairsCall),
+    Extend(Extension),
+    /// Pairs.
+    FromIter,
     /// What is kept.
     Retain(Retain),
     /// Steps of an iterator.
@@ -51,14 +55,11 @@ pub enum AtEnd {
 }
 
 const CALLS: [(&str, ManyCall); 25] = [
-    ("extend", ManyCall::Pairs(PairsCall::Extend)),
-    ("extend_from", ManyCall::Pairs(PairsCall::Kept(Kept::From))),
-    ("extend_kept", ManyCall::Pairs(PairsCall::Kept(Kept::Whole))),
-    (
-        "extend_by_trait",
-        ManyCall::Pairs(PairsCall::Kept(Kept::ByTrait)),
-    ),
-    ("from_iter", ManyCall::Pairs(PairsCall::FromIter)),
+    ("extend", ManyCall::Extend(Extension::Whole)),
+    ("extend_from", ManyCall::Extend(Extension::From)),
+    ("extend_kept", ManyCall::Extend(Extension::Kept)),
+    ("extend_by_trait", ManyCall::Extend(Extension::ByTrait)),
+    ("from_iter", ManyCall::FromIter),
     ("retain", ManyCall::Retain(Retain::Any)),
     ("retain_with_order", ManyCall::Retain(Retain::WithOrder)),
     ("retain_from", ManyCall::Retain(Retain::From)),
@@ -89,23 +90,17 @@ impl ManyCall {
 }
 
 /// Makes the call that a line says, if it is one of these.
-pub fn call_many<S: BuildHasher + Copy + Default + Drop>(
-    map: &mut Map<S>,
-    line: &mut Line<'_>,
-) -> Result<(), Stop> {
+pub fn call_many(map: &mut Map, line: &mut Line<'_>) -> Result<(), Stop> {
     match ManyCall::read(&mut line.words)? {
-        ManyCall::Pairs(call) => put_all(map, call, line),
+        ManyCall::Extend(call) => put_rest(map, call, line),
+        ManyCall::FromIter => make_of_rest(map, line),
         ManyCall::Retain(call) => retain(map, call, line),
         ManyCall::Walk(call) => walk_map(map, call, line),
         ManyCall::Entry(call) => call_of_entry(map, call, line),
     }
 }
 
-fn call_of_entry<S: BuildHasher + Copy>(
-    map: &mut Map<S>,
-    call: EntryWord,
-    line: &mut Line<'_>,
-) -> Result<(), Stop> {
+fn call_of_entry(map: &mut Map, call: EntryWord, line: &mut Line<'_>) -> Result<(), Stop> {
     match call {
         EntryWord::Cursor => call_cursor(map, line),
         EntryWord::CursorOf => call_cursor_of(map, line),
@@ -116,50 +111,23 @@ fn call_of_entry<S: BuildHasher + Copy>(
     }
 }
 
-#[derive(Clone, Copy)]
-enum PairsCall {
-    Extend,
-    Kept(Kept),
-    FromIter,
-}
-
-fn put_all<S: BuildHasher + Copy + Default + Drop>(
-    map: &mut Map<S>,
-    call: PairsCall,
-    line: &mut Line<'_>,
-) -> Result<(), Stop> {
-    let pairs = rest_of(line)?;
-    match call {
-        PairsCall::Extend => line.give(extended(map.extend(pairs))),
-        PairsCall::Kept(call) => extend_kept(map, call, &mut pairs.into_iter(), line),
-        PairsCall::FromIter => line.say(made(
-            map,
-            LinkedHashMap::from_iter(line.home.alloc, pairs),
-        )),
+impl TakesMany<(Item, Item)> for Map {
+    fn extend_by(&mut self, call: Extension, pairs: &mut IntoIter<(Item, Item)>) -> Answer {
+        match call {
+            Extension::Whole | Extension::Kept => extended(self.extend(&mut *pairs)),
+            Extension::From => extended(self.extend_from(&mut *pairs)),
+            Extension::ByTrait => extended_by_trait(self, pairs),
+        }
     }
 }
 
-fn extend_kept<S: BuildHasher>(
-    map: &mut Map<S>,
-    call: Kept,
-    pairs: &mut IntoIter<(Item, Item)>,
-    line: &mut Line<'_>,
-) -> Result<(), Stop> {
-    let answer = match call {
-        Kept::Whole => extended(map.extend(&mut *pairs)),
-        Kept::From => extended(map.extend_from(&mut *pairs)),
-        Kept::ByTrait => extended_by_trait(map, pairs),
-    };
-    say_kept(answer, pairs.len(), line)
-}
-
-fn retain<S: BuildHasher>(map: &mut Map<S>, call: Retain, line: &mut Line<'_>) -> Result<(), Stop> {
+fn retain(map: &mut Map, call: Retain, line: &mut Line<'_>) -> Result<(), Stop> {
     let keep = read_keep(map.len(), line)?;
     keep_some(map, call, keep, &mut line.answers.words);
     line.say(Word::Done)
 }
 
-fn keep_some<S: BuildHasher>(map: &mut Map<S>, call: Retain, keep: Keep, met: &mut Vec<Word>) {
+fn keep_some(map: &mut Map, call: Retain, keep: Keep, met: &mut Vec<Word>) {
     let mut keep = |key: &Item, value: &mut Item| keep.keeps(key, value, met);
     match call {
         Retain::Any => map.retain(keep),
@@ -184,11 +152,7 @@ enum WalkCall {
     Collect,
 }
 
-fn walk_map<S: BuildHasher + Copy + Default + Drop>(
-    map: &mut Map<S>,
-    call: WalkCall,
-    line: &mut Line<'_>,
-) -> Result<(), Stop> {
+fn walk_map(map: &mut Map, call: WalkCall, line: &mut Line<'_>) -> Result<(), Stop> {
     match call {
         WalkCall::Iter => walk_and_clone(map.iter(), line),
         WalkCall::Keys => walk_and_clone(map.keys(), line),
@@ -203,22 +167,26 @@ fn walk_map<S: BuildHasher + Copy + Default + Drop>(
 }
 
 /// Says the pairs from the entry of a key on, and then that no more comes.
-fn walk_from<S: BuildHasher>(map: &Map<S>, line: &mut Line<'_>) -> Result<(), Stop> {
+fn walk_from(map: &Map, line: &mut Line<'_>) -> Result<(), Stop> {
     let key = line.item()?;
-    for pair in map.iter_from(&key) {
+    say_all(map.iter_from(&key), line)
+}
+
+fn say_all(pairs: IterFrom<'_, Item, Item, Hashing>, line: &mut Line<'_>) -> Result<(), Stop> {
+    for pair in pairs {
         line.say(shown(pair))?;
     }
     line.say(Word::Nothing)
 }
 
 /// Makes the map anew of its own pairs.
-fn collect<S: BuildHasher + Copy + Default + Drop>(map: &mut Map<S>, alloc: Global) -> Word {
+fn collect(map: &mut Map, alloc: Global) -> Word {
     let own = take(map, alloc);
     made(map, LinkedHashMap::from_iter(alloc, own))
 }
 
 /// The map, in whose place stands an empty one.
-fn take<S: BuildHasher + Copy + Drop>(map: &mut Map<S>, alloc: Global) -> Map<S> {
+fn take(map: &mut Map, alloc: Global) -> Map {
     let empty = LinkedHashMap::with_hasher(alloc, *map.hasher());
     mem::replace(map, empty)
 }

@@ -2,6 +2,7 @@
 use crate::calls::map_calls::Map;
 use crate::calls::map_cursors::take_all_steps;
 use crate::calls::map_many::AtEnd;
+use crate::hashers::Hashing;
 use crate::items::{
     Answer, Item, Line, Make, Name, RawAsk, RawCall, RawGive, RawPut, RawThere, Stop, Word, Words,
     lent, no_memory, set, shown, taken, taken_pair, write_item, write_pair,
@@ -9,11 +10,11 @@ use crate::items::{
 use hashlink_map::{RawEntryBuilderMut, RawEntryMut, RawOccupiedEntryMut};
 use std::hash::BuildHasher;
 
-type Raw<'m, S> = RawEntryMut<'m, Item, Item, S>;
+type Raw<'m> = RawEntryMut<'m, Item, Item, Hashing>;
 
-type Entries<'m, S> = RawEntryBuilderMut<'m, Item, Item, S>;
+type Entries<'m> = RawEntryBuilderMut<'m, Item, Item, Hashing>;
 
-type Occupied<'m, S> = RawOccupiedEntryMut<'m, Item, Item, S>;
+type Occupied<'m> = RawOccupiedEntryMut<'m, Item, Item, Hashing>;
 
 /// A way to look a key up.
 #[derive(Clone, Copy)]
@@ -43,14 +44,14 @@ impl Way {
 }
 
 /// Reads the pair of a key in the way that the words say.
-pub fn read_raw<S: BuildHasher>(map: &Map<S>, line: &mut Line<'_>) -> Result<(), Stop> {
+pub fn read_raw(map: &Map, line: &mut Line<'_>) -> Result<(), Stop> {
     let way = Way::read(&mut line.words)?;
     let key = line.item()?;
     line.say(read_at(map, way, &key))
 }
 
 /// The pair of a key. Where the way takes the hash, that is asked for first.
-fn read_at<S: BuildHasher>(map: &Map<S>, way: Way, key: &Item) -> Word {
+fn read_at(map: &Map, way: Way, key: &Item) -> Word {
     match way {
         Way::Key | Way::OfKey => lent(map.raw_entry().from_key(key)),
         Way::Hash | Way::OfHash => {
@@ -65,7 +66,7 @@ fn read_at<S: BuildHasher>(map: &Map<S>, way: Way, key: &Item) -> Word {
 }
 
 /// The raw entry of a key. Where the way takes the hash, that is asked for first.
-fn raw_of<'m, S: BuildHasher>(map: &'m mut Map<S>, way: Way, key: &Item) -> Raw<'m, S> {
+fn raw_of<'m>(map: &'m mut Map, way: Way, key: &Item) -> Raw<'m> {
     match way {
         Way::Key => map.raw_entry_mut().from_key(key),
         Way::OfKey => map.raw_entry_of(key),
@@ -74,7 +75,7 @@ fn raw_of<'m, S: BuildHasher>(map: &'m mut Map<S>, way: Way, key: &Item) -> Raw<
     }
 }
 
-fn raw_of_hash<'m, S: BuildHasher>(map: &'m mut Map<S>, way: Way, key: &Item) -> Raw<'m, S> {
+fn raw_of_hash<'m>(map: &'m mut Map, way: Way, key: &Item) -> Raw<'m> {
     let hash = map.hasher().hash_one(key);
     match way {
         Way::Hash => map.raw_entry_mut().from_key_hashed_nocheck(hash, key),
@@ -82,7 +83,7 @@ fn raw_of_hash<'m, S: BuildHasher>(map: &'m mut Map<S>, way: Way, key: &Item) ->
     }
 }
 
-fn raw_of_test<'m, S: BuildHasher>(map: &'m mut Map<S>, way: Way, key: &Item) -> Raw<'m, S> {
+fn raw_of_test<'m>(map: &'m mut Map, way: Way, key: &Item) -> Raw<'m> {
     let hash = map.hasher().hash_one(key);
     let is_equal = |stored: &Item| *stored == *key;
     match way {
@@ -93,7 +94,7 @@ fn raw_of_test<'m, S: BuildHasher>(map: &'m mut Map<S>, way: Way, key: &Item) ->
 
 /// Makes the call of a raw entry of a map that the words say: the way, the key and the call. One that puts an
 /// absent key has another name than one that needs an entry.
-pub fn call_raw<S: BuildHasher + Copy>(map: &mut Map<S>, line: &mut Line<'_>) -> Result<(), Stop> {
+pub fn call_raw(map: &mut Map, line: &mut Line<'_>) -> Result<(), Stop> {
     let way = Way::read(&mut line.words)?;
     let (key, call) = RawCall::of_key(line)?;
     match call {
@@ -103,26 +104,16 @@ pub fn call_raw<S: BuildHasher + Copy>(map: &mut Map<S>, line: &mut Line<'_>) ->
     }
 }
 
-fn give_at<S: BuildHasher + Copy>(
-    map: &mut Map<S>,
-    call: RawGive,
-    key: Item,
-    value: Item,
-    new: Option<Name>,
-) -> Answer {
+fn give_at(map: &mut Map, call: RawGive, key: Item, value: Item, new: Option<Name>) -> Answer {
     match call {
         RawGive::Make(make) => put_found(map.raw_entry_mut(), make, key, value, new),
-        RawGive::Put(put) => put_absent(map, put, false, key, value),
-        RawGive::PutEntry(put) => put_absent(map, put, true, key, value),
+        RawGive::Put(put) => put_lent(map, put, key, value, new),
+        RawGive::PutEntry(put) => put_entry(map, put, key, value, new),
     }
 }
 
 /// Makes a call of a raw entry that needs one that is there.
-pub fn call_found<S: BuildHasher>(
-    entry: Raw<'_, S>,
-    call: RawCall,
-    line: &mut Line<'_>,
-) -> Result<(), Stop> {
+pub fn call_found(entry: Raw<'_>, call: RawCall, line: &mut Line<'_>) -> Result<(), Stop> {
     match call {
         RawCall::Ask(call, new) => line.say(ask_at(entry, call, new)),
         RawCall::ReplaceValue(value) => line.say(replace_at(entry, value)),
@@ -131,14 +122,14 @@ pub fn call_found<S: BuildHasher>(
     }
 }
 
-fn ask_at<S: BuildHasher>(entry: Raw<'_, S>, call: RawAsk, new: Option<Name>) -> Word {
+fn ask_at(entry: Raw<'_>, call: RawAsk, new: Option<Name>) -> Word {
     match call {
         RawAsk::Modify => modify(entry, new),
         RawAsk::There(call) => ask_there(entry, call, new),
     }
 }
 
-fn ask_there<S: BuildHasher>(entry: Raw<'_, S>, call: RawThere, new: Option<Name>) -> Word {
+fn ask_there(entry: Raw<'_>, call: RawThere, new: Option<Name>) -> Word {
     match entry {
         RawEntryMut::Occupied(mut entry) => match call {
             RawThere::Get => shown((entry.key(), entry.get())),
@@ -164,7 +155,7 @@ fn ask_there<S: BuildHasher>(entry: Raw<'_, S>, call: RawThere, new: Option<Name
 }
 
 /// Writes the value where the key is there.
-fn modify<S: BuildHasher>(entry: Raw<'_, S>, new: Option<Name>) -> Word {
+fn modify(entry: Raw<'_>, new: Option<Name>) -> Word {
     match entry.and_modify(|_, lent| set(lent, new)) {
         RawEntryMut::Occupied(entry) => shown(entry.get_key_value()),
         RawEntryMut::Vacant(_vacant) => Word::Nothing,
@@ -172,8 +163,8 @@ fn modify<S: BuildHasher>(entry: Raw<'_, S>, new: Option<Name>) -> Word {
 }
 
 /// Makes a call that puts a pair where its key is absent, and lends the pair that is there.
-pub fn put_found<S: BuildHasher>(
-    entries: Entries<'_, S>,
+pub fn put_found(
+    entries: Entries<'_>,
     make: Make,
     key: Item,
     value: Item,
@@ -190,14 +181,14 @@ pub fn put_found<S: BuildHasher>(
     }
 }
 
-fn replace_at<S: BuildHasher>(entry: Raw<'_, S>, value: Item) -> Word {
+fn replace_at(entry: Raw<'_>, value: Item) -> Word {
     match entry {
         RawEntryMut::Occupied(mut entry) => taken(entry.replace_value(value)),
         RawEntryMut::Vacant(_vacant) => Word::Nothing,
     }
 }
 
-fn steps_at<S: BuildHasher>(entry: Raw<'_, S>, line: &mut Line<'_>) -> Result<(), Stop> {
+fn steps_at(entry: Raw<'_>, line: &mut Line<'_>) -> Result<(), Stop> {
     match entry {
         RawEntryMut::Occupied(entry) => { take_all_steps(&mut entry.cursor_mut(), line) }
         RawEntryMut::Vacant(_vacant) => line.say(Word::Nothing),
@@ -205,11 +196,7 @@ fn steps_at<S: BuildHasher>(entry: Raw<'_, S>, line: &mut Line<'_>) -> Result<()
 }
 
 /// Makes a call of the entry at an end.
-pub fn call_end<S: BuildHasher>(
-    map: &mut Map<S>,
-    end: AtEnd,
-    line: &mut Line<'_>,
-) -> Result<(), Stop> {
+pub fn call_end(map: &mut Map, end: AtEnd, line: &mut Line<'_>) -> Result<(), Stop> {
     let call = RawCall::read(line)?;
     match entry_at_end(map, end) {
         Some(entry) => call_found(RawEntryMut::Occupied(entry), call, line),
@@ -217,51 +204,58 @@ pub fn call_end<S: BuildHasher>(
     }
 }
 
-fn entry_at_end<'m, S: BuildHasher>(map: &'m mut Map<S>, end: AtEnd) -> Option<Occupied<'m, S>> {
+fn entry_at_end<'m>(map: &'m mut Map, end: AtEnd) -> Option<Occupied<'m>> {
     match end {
         AtEnd::Front => map.front_entry(),
         AtEnd::Back => map.back_entry(),
     }
 }
 
-/// Makes a call that puts a pair whose key is absent, and lends the pair or makes it an entry.
-fn put_absent<S: BuildHasher + Copy>(
-    map: &mut Map<S>,
-    put: RawPut,
-    is_entry: bool,
-    key: Item,
-    value: Item,
-) -> Answer {
+/// Makes a call that puts a pair whose key is absent, and says the pair that is lent, which is then written.
+fn put_lent(map: &mut Map, put: RawPut, key: Item, value: Item, new: Option<Name>) -> Answer {
     let builder = *map.hasher();
     let hash = builder.hash_one(&key);
     let RawEntryMut::Vacant(entry) = map.raw_entry_hashed_nocheck(hash, &key) else {
         return Answer::Word(Word::Nothing);
     };
-    let hasher = |stored: &Item| builder.hash_one(stored);
-    if is_entry {
-        let new = match put {
-            RawPut::Insert => entry.insert_entry(key, value),
-            RawPut::InsertHashed => entry.insert_entry_hashed_nocheck(hash, key, value),
-            RawPut::InsertWithHasher => entry.insert_entry_with_hasher(hash, key, value, hasher),
-        };
-        return match new {
-            Ok(entry) => Answer::Word(shown((entry.key(), entry.get()))),
-            Err(pair) => no_memory(pair),
-        };
-    }
     let lent = match put {
         RawPut::Insert => entry.insert(key, value),
         RawPut::InsertHashed => entry.insert_hashed_nocheck(hash, key, value),
-        RawPut::InsertWithHasher => entry.insert_with_hasher(hash, key, value, hasher),
+        RawPut::InsertWithHasher => {
+            entry.insert_with_hasher(hash, key, value, |stored| builder.hash_one(stored))
+        }
     };
     match lent {
-        Ok(pair) => Answer::Word(write_pair(Some(pair), None)),
+        Ok(pair) => Answer::Word(write_pair(Some(pair), new)),
+        Err(pair) => no_memory(pair),
+    }
+}
+
+/// The same of a call that makes the pair an entry, which is written and then said.
+fn put_entry(map: &mut Map, put: RawPut, key: Item, value: Item, new: Option<Name>) -> Answer {
+    let builder = *map.hasher();
+    let hash = builder.hash_one(&key);
+    let RawEntryMut::Vacant(entry) = map.raw_entry_hashed_nocheck(hash, &key) else {
+        return Answer::Word(Word::Nothing);
+    };
+    let made = match put {
+        RawPut::Insert => entry.insert_entry(key, value),
+        RawPut::InsertHashed => entry.insert_entry_hashed_nocheck(hash, key, value),
+        RawPut::InsertWithHasher => {
+            entry.insert_entry_with_hasher(hash, key, value, |stored| builder.hash_one(stored))
+        }
+    };
+    match made {
+        Ok(mut entry) => {
+            set(entry.get_mut(), new);
+            Answer::Word(shown(entry.get_key_value()))
+        }
         Err(pair) => no_memory(pair),
     }
 }
 
 /// Says the key that was stored and its value, where the entry has the key of the line now.
-fn replace_key<S: BuildHasher>(map: &mut Map<S>, key: Item) -> Word {
+fn replace_key(map: &mut Map, key: Item) -> Word {
     match map.raw_entry_mut().from_key(&key) {
         RawEntryMut::Occupied(mut entry) if key == *entry.key() => {
             let old = entry.replace_key(key);

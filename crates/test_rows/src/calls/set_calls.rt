@@ -1,14 +1,14 @@
 //! Lines that speak to a set, and need one element of it at most. The others are in `set_many`.
+use crate::calls::called::{LooksUp, look_up};
 use crate::calls::set_many::call_many;
+use crate::hashers::Hashing;
 use crate::items::{
-    Answer, Asked, Item, Line, Stop, Word, Words, given_item, has_room, lent_item, made, room,
-    taken,
+    Answer, Asked, Item, Line, Name, Stop, Word, Words, done, given_item, has_room, lent_item,
+    made, made_with_room, room, taken,
 };
 use hashlink_set::LinkedHashSet;
-use std::alloc::{AllocError, Global};
-use std::hash::BuildHasher;
 
-pub type Set<S> = LinkedHashSet<Item, S>;
+pub type Set = LinkedHashSet<Item, Hashing>;
 
 /// A call, by what follows its name.
 #[derive(Clone, Copy)]
@@ -60,10 +60,7 @@ impl SetCall {
 }
 
 /// Makes the call that a line says.
-pub fn call_set<S: BuildHasher + Copy + Default + Drop>(
-    set: &mut Set<S>,
-    line: &mut Line<'_>,
-) -> Result<(), Stop> {
+pub fn call_set(set: &mut Set, line: &mut Line<'_>) -> Result<(), Stop> {
     match SetCall::known(&mut line.words) {
         Some(SetCall::Read(call)) => line.say(read(set, call)),
         Some(SetCall::End(call)) => line.say(call_at_end(set, call)),
@@ -82,7 +79,7 @@ enum ReadCall {
     IsEmpty,
 }
 
-fn read<S: BuildHasher>(set: &Set<S>, call: ReadCall) -> Word {
+fn read(set: &Set, call: ReadCall) -> Word {
     match call {
         ReadCall::Front => lent_item(set.front()),
         ReadCall::Back => lent_item(set.back()),
@@ -100,7 +97,7 @@ enum EndCall {
     Clone,
 }
 
-fn call_at_end<S: BuildHasher + Copy + Drop>(set: &mut Set<S>, call: EndCall) -> Word {
+fn call_at_end(set: &mut Set, call: EndCall) -> Word {
     match call {
         EndCall::PopFront => given_item(set.pop_front()),
         EndCall::PopBack => given_item(set.pop_back()),
@@ -108,10 +105,7 @@ fn call_at_end<S: BuildHasher + Copy + Drop>(set: &mut Set<S>, call: EndCall) ->
             set.clear();
             Word::Done
         }
-        EndCall::Shrink => match set.shrink_to_fit() {
-            Ok(()) => Word::Done,
-            Err(AllocError) => Word::Memory,
-        },
+        EndCall::Shrink => done(set.shrink_to_fit()),
         EndCall::Clone => {
             let clone = set.clone();
             made(set, clone)
@@ -129,20 +123,17 @@ enum ElementCall {
     Take,
 }
 
-fn look_up<S: BuildHasher>(
-    set: &mut Set<S>,
-    call: ElementCall,
-    line: &mut Line<'_>,
-) -> Result<(), Stop> {
-    let element = &line.item()?;
-    line.say(match call {
-        ElementCall::Contains => Word::Is(set.contains(element)),
-        ElementCall::Get => lent_item(set.get(element)),
-        ElementCall::ToFront => Word::Is(set.to_front(element)),
-        ElementCall::ToBack => Word::Is(set.to_back(element)),
-        ElementCall::Remove => Word::Is(set.remove(element)),
-        ElementCall::Take => given_item(set.take(element)),
-    })
+impl LooksUp<ElementCall> for Set {
+    fn find_by(&mut self, call: ElementCall, element: &Item, _new: Option<Name>) -> Word {
+        match call {
+            ElementCall::Contains => Word::Is(self.contains(element)),
+            ElementCall::Get => lent_item(self.get(element)),
+            ElementCall::ToFront => Word::Is(self.to_front(element)),
+            ElementCall::ToBack => Word::Is(self.to_back(element)),
+            ElementCall::Remove => Word::Is(self.remove(element)),
+            ElementCall::Take => given_item(self.take(element)),
+        }
+    }
 }
 
 #[derive(Clone, Copy)]
@@ -152,7 +143,7 @@ enum PutCall {
     GetOrInsert,
 }
 
-fn put<S: BuildHasher>(set: &mut Set<S>, call: PutCall, line: &mut Line<'_>) -> Result<(), Stop> {
+fn put(set: &mut Set, call: PutCall, line: &mut Line<'_>) -> Result<(), Stop> {
     let element = line.item()?;
     line.give(match call {
         PutCall::Insert => is_new_or_back(set.insert(element)),
@@ -198,27 +189,15 @@ enum SizeCall {
     WithCapacity,
 }
 
-fn ask_room<S: BuildHasher + Copy + Drop>(
-    set: &mut Set<S>,
-    call: SizeCall,
-    line: &mut Line<'_>,
-) -> Result<(), Stop> {
+fn ask_room(set: &mut Set, call: SizeCall, line: &mut Line<'_>) -> Result<(), Stop> {
     let size = line.words.size();
     line.say(match call {
         SizeCall::Reserve => room(set.reserve(size)),
         SizeCall::TryReserve => room(set.try_reserve(size)),
         SizeCall::Has(asked) => has_room(asked, set.capacity(), set.len(), size),
-        SizeCall::WithCapacity => with_capacity(set, line.home.alloc, size),
+        SizeCall::WithCapacity => {
+            let new = LinkedHashSet::with_capacity_and_hasher(line.home.alloc, size, *set.hasher());
+            made_with_room(set, new)
+        }
     })
-}
-
-fn with_capacity<S: BuildHasher + Copy + Drop>(
-    set: &mut Set<S>,
-    alloc: Global,
-    size: usize,
-) -> Word {
-    match LinkedHashSet::with_capacity_and_hasher(alloc, size, *set.hasher()) {
-        Ok(new) => made(set, Ok(new)),
-        Err(refused) => room(Err(refused)),
-    }
 }

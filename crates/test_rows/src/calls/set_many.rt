@@ -1,15 +1,14 @@
 //! Lines that speak to a set about many elements, by an iterator, or about an element that it makes.
 ghost use Rattle.std.specs.Prelude.{◌≡◌};
 
-use crate::calls::extended::{Kept, extended_by_trait, say_kept};
+use crate::calls::extended::{Extension, TakesMany, extended_by_trait, make_of_rest, put_rest};
 use crate::calls::set_calls::{Set, lent_or_back};
 use crate::items::{
-    Answer, Item, Keep, Line, Stop, Word, Words, is_other, made, read_keep_of, rest_of, taken,
-    walk_and_clone, walk_or_forget, walk_whole,
+    Answer, Item, Keep, Line, Stop, Word, Words, is_other, read_keep_of, taken, walk_and_clone,
+    walk_or_forget, walk_whole,
 };
 use hashlink_set::{ExtendError, LinkedHashSet};
 use std::alloc::Global;
-use std::hash::BuildHasher;
 use std::mem;
 use std::vec::IntoIter;
 
@@ -19,7 +18,9 @@ enum ManyCall {
     /// An element that is looked up, and made where it is absent.
     GetOrInsertWith,
     /// Elements.
-    Elements(ElementsCall),
+    Extend(Extension),
+    /// Elements.
+    FromIter,
     /// What is kept. Whether it is `retain_with_order`.
     Retain(bool),
     /// Steps of an iterator.
@@ -28,20 +29,11 @@ enum ManyCall {
 
 const CALLS: [(&str, ManyCall); 12] = [
     ("get_or_insert_with", ManyCall::GetOrInsertWith),
-    ("extend", ManyCall::Elements(ElementsCall::Extend)),
-    (
-        "extend_from",
-        ManyCall::Elements(ElementsCall::Kept(Kept::From)),
-    ),
-    (
-        "extend_kept",
-        ManyCall::Elements(ElementsCall::Kept(Kept::Whole)),
-    ),
-    (
-        "extend_by_trait",
-        ManyCall::Elements(ElementsCall::Kept(Kept::ByTrait)),
-    ),
-    ("from_iter", ManyCall::Elements(ElementsCall::FromIter)),
+    ("extend", ManyCall::Extend(Extension::Whole)),
+    ("extend_from", ManyCall::Extend(Extension::From)),
+    ("extend_kept", ManyCall::Extend(Extension::Kept)),
+    ("extend_by_trait", ManyCall::Extend(Extension::ByTrait)),
+    ("from_iter", ManyCall::FromIter),
     ("retain", ManyCall::Retain(false)),
     ("retain_with_order", ManyCall::Retain(true)),
     ("iter", ManyCall::Walk(WalkCall::Iter)),
@@ -58,19 +50,17 @@ impl ManyCall {
 }
 
 /// Makes the call that a line says, if it is one of these.
-pub fn call_many<S: BuildHasher + Copy + Default + Drop>(
-    set: &mut Set<S>,
-    line: &mut Line<'_>,
-) -> Result<(), Stop> {
+pub fn call_many(set: &mut Set, line: &mut Line<'_>) -> Result<(), Stop> {
     match ManyCall::read(&mut line.words)? {
         ManyCall::GetOrInsertWith => put_made(set, line),
-        ManyCall::Elements(call) => put_all(set, call, line),
+        ManyCall::Extend(call) => put_rest(set, call, line),
+        ManyCall::FromIter => make_of_rest(set, line),
         ManyCall::Retain(is_ordered) => retain(set, is_ordered, line),
         ManyCall::Walk(call) => walk_set(set, call, line),
     }
 }
 
-fn put_made<S: BuildHasher>(set: &mut Set<S>, line: &mut Line<'_>) -> Result<(), Stop> {
+fn put_made(set: &mut Set, line: &mut Line<'_>) -> Result<(), Stop> {
     let name = line.words.name();
     let element = Item::new(line.home, name)?;
     let made = Item::new(line.home, name)?;
@@ -78,11 +68,7 @@ fn put_made<S: BuildHasher>(set: &mut Set<S>, line: &mut Line<'_>) -> Result<(),
 }
 
 /// What is lent if the made element is inserted when its equal is absent.
-fn get_or_make<'s, S: BuildHasher>(
-    set: &'s mut Set<S>,
-    element: &Item,
-    made: Item,
-) -> Result<&'s Item, Item>
+fn get_or_make<'s>(set: &'s mut Set, element: &Item, made: Item) -> Result<&'s Item, Item>
     requires { made.group ≡ element.now.group }
 {
     set.get_or_insert_with(
@@ -93,41 +79,14 @@ fn get_or_make<'s, S: BuildHasher>(
     )
 }
 
-#[derive(Clone, Copy)]
-enum ElementsCall {
-    Extend,
-    Kept(Kept),
-    FromIter,
-}
-
-fn put_all<S: BuildHasher + Copy + Default + Drop>(
-    set: &mut Set<S>,
-    call: ElementsCall,
-    line: &mut Line<'_>,
-) -> Result<(), Stop> {
-    let elements = rest_of(line)?;
-    match call {
-        ElementsCall::Extend => line.give(extended(set.extend(elements))),
-        ElementsCall::Kept(call) => extend_kept(set, call, &mut elements.into_iter(), line),
-        ElementsCall::FromIter => line.say(made(
-            set,
-            LinkedHashSet::from_iter(line.home.alloc, elements),
-        )),
+impl TakesMany<Item> for Set {
+    fn extend_by(&mut self, call: Extension, elements: &mut IntoIter<Item>) -> Answer {
+        match call {
+            Extension::Whole | Extension::Kept => extended(self.extend(&mut *elements)),
+            Extension::From => extended(self.extend_from(&mut *elements)),
+            Extension::ByTrait => extended_by_trait(self, elements),
+        }
     }
-}
-
-fn extend_kept<S: BuildHasher>(
-    set: &mut Set<S>,
-    call: Kept,
-    elements: &mut IntoIter<Item>,
-    line: &mut Line<'_>,
-) -> Result<(), Stop> {
-    let answer = match call {
-        Kept::Whole => extended(set.extend(&mut *elements)),
-        Kept::From => extended(set.extend_from(&mut *elements)),
-        Kept::ByTrait => extended_by_trait(set, elements),
-    };
-    say_kept(answer, elements.len(), line)
 }
 
 fn extended(answer: Result<(), ExtendError<Item, ()>>) -> Answer {
@@ -140,11 +99,7 @@ fn extended(answer: Result<(), ExtendError<Item, ()>>) -> Answer {
 /// What a retain of a set keeps. It has no values that could be even.
 const KEEPS: [(&str, Keep); 2] = [("odd", Keep::Odd), ("others", Keep::Others)];
 
-fn retain<S: BuildHasher>(
-    set: &mut Set<S>,
-    is_ordered: bool,
-    line: &mut Line<'_>,
-) -> Result<(), Stop> {
+fn retain(set: &mut Set, is_ordered: bool, line: &mut Line<'_>) -> Result<(), Stop> {
     let keep = read_keep(set.len(), line)?;
     keep_some(set, is_ordered, keep, &mut line.answers.words);
     line.say(Word::Done)
@@ -155,7 +110,7 @@ fn read_keep(len: usize, line: &mut Line<'_>) -> Result<Keep, Stop> {
     read_keep_of(&KEEPS, len, line)
 }
 
-fn keep_some<S: BuildHasher>(set: &mut Set<S>, is_ordered: bool, keep: Keep, met: &mut Vec<Word>) {
+fn keep_some(set: &mut Set, is_ordered: bool, keep: Keep, met: &mut Vec<Word>) {
     let keep = |element: &Item| is_kept(element, keep, met);
     if is_ordered {
         set.retain_with_order(keep);
@@ -180,11 +135,7 @@ enum WalkCall {
     IntoIter,
 }
 
-fn walk_set<S: BuildHasher + Copy + Drop>(
-    set: &mut Set<S>,
-    call: WalkCall,
-    line: &mut Line<'_>,
-) -> Result<(), Stop> {
+fn walk_set(set: &mut Set, call: WalkCall, line: &mut Line<'_>) -> Result<(), Stop> {
     match call {
         WalkCall::Iter => walk_and_clone(set.iter(), line),
         WalkCall::Drain(is_forgotten) => { walk_or_forget(set.drain(), is_forgotten, line) }
@@ -193,7 +144,7 @@ fn walk_set<S: BuildHasher + Copy + Drop>(
 }
 
 /// The set, in whose place stands an empty one.
-fn take<S: BuildHasher + Copy + Drop>(set: &mut Set<S>, alloc: Global) -> Set<S> {
+fn take(set: &mut Set, alloc: Global) -> Set {
     let empty = LinkedHashSet::with_hasher(alloc, *set.hasher());
     mem::replace(set, empty)
 }

@@ -1,7 +1,7 @@
 //! The iterators of sets by steps from both ends.
+use crate::hashers::Hashing;
 use crate::items::{Item, Step, Walk, Word, given_item, hinted, lent_item};
 use hashlink_set::{Drain, IntoIter, Iter};
-use std::hash::BuildHasher;
 
 impl Walk for Iter<'_, Item> {
     fn step(&mut self, step: Step) -> Word {
@@ -17,7 +17,7 @@ impl Walk for Iter<'_, Item> {
     }
 }
 
-impl<S: BuildHasher + Drop> Walk for IntoIter<Item, S> {
+impl Walk for IntoIter<Item, Hashing> {
     fn step(&mut self, step: Step) -> Word {
         given_item(if step.is_back {
             self.next_back()
@@ -31,7 +31,7 @@ impl<S: BuildHasher + Drop> Walk for IntoIter<Item, S> {
     }
 }
 
-impl<S: BuildHasher> Walk for Drain<'_, Item, S> {
+impl Walk for Drain<'_, Item, Hashing> {
     fn step(&mut self, step: Step) -> Word {
         given_item(if step.is_back {
             self.next_back()

@@ -3,7 +3,6 @@ use crate::calls::alike::say_steps;
 use crate::calls::compared::{equal, hashed_alike};
 use crate::calls::set_calls::Set;
 use crate::items::{Line, Stop, Word, Words, made};
-use std::hash::BuildHasher;
 
 /// A call of two sets.
 #[derive(Clone, Copy)]
@@ -41,11 +40,7 @@ impl SetsCall {
 
 /// Makes the call of two sets that the words say. The row goes on with what an operator makes as its first
 /// set.
-pub fn call_sets<S: BuildHasher + Copy + Default + Drop>(
-    set: &mut Set<S>,
-    other: &Set<S>,
-    line: &mut Line<'_>,
-) -> Result<(), Stop> {
+pub fn call_sets(set: &mut Set, other: &Set, line: &mut Line<'_>) -> Result<(), Stop> {
     match SetsCall::read(&mut line.words)? {
         SetsCall::Ask(call) => line.say(ask_of_two(set, other, call)),
         SetsCall::Iterate(call) => iterate(set, other, call, line),
@@ -62,7 +57,7 @@ enum AskOfTwo {
     IsSuperset,
 }
 
-fn ask_of_two<S: BuildHasher>(set: &Set<S>, other: &Set<S>, call: AskOfTwo) -> Word {
+fn ask_of_two(set: &Set, other: &Set, call: AskOfTwo) -> Word {
     match call {
         AskOfTwo::Eq => equal(set, other),
         AskOfTwo::Hash => hashed_alike(set, other),
@@ -80,12 +75,7 @@ enum IterateTwo {
     SymmetricDifference,
 }
 
-fn iterate<S: BuildHasher>(
-    set: &Set<S>,
-    other: &Set<S>,
-    call: IterateTwo,
-    line: &mut Line<'_>,
-) -> Result<(), Stop> {
+fn iterate(set: &Set, other: &Set, call: IterateTwo, line: &mut Line<'_>) -> Result<(), Stop> {
     let steps = line.words.optional();
     match call {
         IterateTwo::Union => say_steps(set.union(other), steps, line),
@@ -105,11 +95,7 @@ enum Operator {
     Sub,
 }
 
-fn operate<S: BuildHasher + Copy + Default + Drop>(
-    set: &mut Set<S>,
-    other: &Set<S>,
-    operator: Operator,
-) -> Word {
+fn operate(set: &mut Set, other: &Set, operator: Operator) -> Word {
     let new = match operator {
         Operator::Or => &*set | other,
         Operator::And => &*set & other,

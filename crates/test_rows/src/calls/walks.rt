@@ -1,7 +1,7 @@
 //! The iterators of maps by steps from both ends.
+use crate::hashers::Hashing;
 use crate::items::{Item, Step, Walk, Word, given, hinted, lent, lent_item, write, write_pair};
 use hashlink_map::{Drain, IntoIter, Iter, IterMut, Keys, Values, ValuesMut};
-use std::hash::BuildHasher;
 
 impl Walk for Iter<'_, Item, Item> {
     fn step(&mut self, step: Step) -> Word {
@@ -45,7 +45,7 @@ impl Walk for Values<'_, Item, Item> {
     }
 }
 
-impl<S: BuildHasher> Walk for IterMut<'_, Item, Item, S> {
+impl Walk for IterMut<'_, Item, Item, Hashing> {
     fn step(&mut self, step: Step) -> Word {
         if step.is_peek {
             lent(self.peek())
@@ -62,7 +62,7 @@ impl<S: BuildHasher> Walk for IterMut<'_, Item, Item, S> {
     }
 }
 
-fn step_by_value<S: BuildHasher>(pairs: &mut IterMut<'_, Item, Item, S>, step: Step) -> Word {
+fn step_by_value(pairs: &mut IterMut<'_, Item, Item, Hashing>, step: Step) -> Word {
     let value = if step.is_back {
         pairs.next_value_back()
     } else {
@@ -71,7 +71,7 @@ fn step_by_value<S: BuildHasher>(pairs: &mut IterMut<'_, Item, Item, S>, step: S
     write(value, step.written)
 }
 
-fn step_by_pair<S: BuildHasher>(pairs: &mut IterMut<'_, Item, Item, S>, step: Step) -> Word {
+fn step_by_pair(pairs: &mut IterMut<'_, Item, Item, Hashing>, step: Step) -> Word {
     let pair = if step.is_back {
         pairs.next_back()
     } else {
@@ -80,7 +80,7 @@ fn step_by_pair<S: BuildHasher>(pairs: &mut IterMut<'_, Item, Item, S>, step: St
     write_pair(pair, step.written)
 }
 
-impl<S: BuildHasher> Walk for ValuesMut<'_, Item, Item, S> {
+impl Walk for ValuesMut<'_, Item, Item, Hashing> {
     fn step(&mut self, step: Step) -> Word {
         let value = if step.is_back {
             self.next_back()
@@ -96,7 +96,7 @@ impl<S: BuildHasher> Walk for ValuesMut<'_, Item, Item, S> {
     }
 }
 
-impl<S: BuildHasher + Drop> Walk for IntoIter<Item, Item, S> {
+impl Walk for IntoIter<Item, Item, Hashing> {
     fn step(&mut self, step: Step) -> Word {
         given(if step.is_back {
             self.next_back()
@@ -110,7 +110,7 @@ impl<S: BuildHasher + Drop> Walk for IntoIter<Item, Item, S> {
     }
 }
 
-impl<S: BuildHasher> Walk for Drain<'_, Item, Item, S> {
+impl Walk for Drain<'_, Item, Item, Hashing> {
     fn step(&mut self, step: Step) -> Word {
         given(if step.is_back {
             self.next_back()

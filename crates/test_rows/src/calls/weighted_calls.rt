@@ -1,12 +1,13 @@
 //! Lines that speak to a cache with a budget.
+use crate::calls::called::{LooksUp, look_up};
+use crate::hashers::Hashing;
 use crate::items::{
-    Answer, Item, Line, Step, Stop, Walk, Word, Words, given_item, hinted, lent_item, no_memory,
-    shown, taken_pair, walk_and_clone,
+    Answer, Item, Line, Name, Step, Stop, Walk, Word, Words, given_item, hinted, lent_item,
+    no_memory, shown, taken_pair, walk_and_clone,
 };
 use hashlink_weighted::{WeightError, WeightedCache, WeightedIter};
-use std::hash::BuildHasher;
 
-pub type Weighted<S> = WeightedCache<Item, Item, S>;
+pub type Weighted = WeightedCache<Item, Item, Hashing>;
 
 #[derive(Clone, Copy)]
 enum ReadCall {
@@ -59,10 +60,7 @@ impl WeightedCall {
 }
 
 /// Makes the call that a line says. The number of a value is its weight.
-pub fn call_weighted<S: BuildHasher>(
-    cache: &mut Weighted<S>,
-    line: &mut Line<'_>,
-) -> Result<(), Stop> {
+pub fn call_weighted(cache: &mut Weighted, line: &mut Line<'_>) -> Result<(), Stop> {
     match WeightedCall::read(&mut line.words)? {
         WeightedCall::Read(call) => line.say(read(cache, call)),
         WeightedCall::Key(call) => look_up(cache, call, line),
@@ -72,7 +70,7 @@ pub fn call_weighted<S: BuildHasher>(
     }
 }
 
-fn read<S: BuildHasher>(cache: &Weighted<S>, call: ReadCall) -> Word {
+fn read(cache: &Weighted, call: ReadCall) -> Word {
     match call {
         ReadCall::Len => Word::count(cache.len()),
         ReadCall::IsEmpty => Word::Is(cache.is_empty()),
@@ -81,31 +79,28 @@ fn read<S: BuildHasher>(cache: &Weighted<S>, call: ReadCall) -> Word {
     }
 }
 
-fn look_up<S: BuildHasher>(
-    cache: &mut Weighted<S>,
-    call: KeyCall,
-    line: &mut Line<'_>,
-) -> Result<(), Stop> {
-    let key = &line.item()?;
-    line.say(match call {
-        KeyCall::Get => lent_item(cache.get(key)),
-        KeyCall::Peek => lent_item(cache.peek(key)),
-        KeyCall::Remove => given_item(cache.remove(key)),
-    })
+impl LooksUp<KeyCall> for Weighted {
+    fn find_by(&mut self, call: KeyCall, key: &Item, _new: Option<Name>) -> Word {
+        match call {
+            KeyCall::Get => lent_item(self.get(key)),
+            KeyCall::Peek => lent_item(self.peek(key)),
+            KeyCall::Remove => given_item(self.remove(key)),
+        }
+    }
 }
 
-fn put_pair<S: BuildHasher>(cache: &mut Weighted<S>, line: &mut Line<'_>) -> Result<(), Stop> {
+fn put_pair(cache: &mut Weighted, line: &mut Line<'_>) -> Result<(), Stop> {
     let (key, value) = line.pair()?;
     line.give(insert(cache, key, value))
 }
 
-fn insert<S: BuildHasher>(cache: &mut Weighted<S>, key: Item, value: Item) -> Answer {
+fn insert(cache: &mut Weighted, key: Item, value: Item) -> Answer {
     let weight = value.name().number;
     inserted(cache.insert(key, value, weight))
 }
 
 /// Puts a pair, with room for what is said of each pair that it may evict.
-fn put_evicting<S: BuildHasher>(cache: &mut Weighted<S>, line: &mut Line<'_>) -> Result<(), Stop> {
+fn put_evicting(cache: &mut Weighted, line: &mut Line<'_>) -> Result<(), Stop> {
     line.answers.words.reserve(cache.len())?;
     let (key, value) = line.pair()?;
     let answer = insert_evicting(cache, key, value, &mut line.answers.words);
@@ -113,8 +108,8 @@ fn put_evicting<S: BuildHasher>(cache: &mut Weighted<S>, line: &mut Line<'_>) ->
 }
 
 /// Says each pair that is evicted, in turn.
-fn insert_evicting<S: BuildHasher>(
-    cache: &mut Weighted<S>,
+fn insert_evicting(
+    cache: &mut Weighted,
     key: Item,
     value: Item,
     evicted: &mut Vec<Word>,

@@ -213,10 +213,10 @@ pub struct Answers {
 }
 
 impl Answers {
-    pub fn new(alloc: Global) -> Result<Answers, AllocError> {
+    pub fn new(alloc: Global, tally: Tally) -> Result<Answers, AllocError> {
         Ok(Answers {
             words: Vec::with_capacity(alloc, 64)?,
-            tally: Tally::default(),
+            tally,
         })
     }
 

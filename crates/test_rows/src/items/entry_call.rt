@@ -159,7 +159,7 @@ impl EntryCall {
 
 fn read_name(line: &mut Line<'_>) -> Result<Named, Stop> {
     if line.words.has("vacant") {
-        return line.named(&VACANT);
+        return line.words.named(&VACANT);
     }
-    line.named(&CALLS)
+    line.words.named(&CALLS)
 }

@@ -4,18 +4,20 @@ ghost use Rattle.std.proofs.Common.{rules};
 ghost use Rattle.std.specs.Cmp.Rules.{comparing, hashing};
 ghost use Rattle.std.specs.Hash as fed;
 
+use crate::hashers::Hashing;
 use crate::items::answers::{Name, Named, Pair, Stop};
 use crate::items::counts::Counts;
 use std::alloc::{AllocError, Global};
 use std::hash::{Hash, Hasher};
 use std::rc::Rc;
 
-/// Where items are made: the memory, and what each of them has a share of, so that the shares tell how many
-/// live.
+/// Where items and containers are made: the memory, what each item has a share of, so that the shares tell
+/// how many live, and how the containers hash.
 #[derive(Clone, Copy)]
 pub struct Home<'h> {
     pub alloc: Global,
     pub counts: &'h Rc<Counts>,
+    pub hashing: Hashing,
 }
 
 impl Home<'_> {

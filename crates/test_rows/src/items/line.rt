@@ -15,11 +15,6 @@ pub struct Line<'l> {
 }
 
 impl Line<'_> {
-    /// What the next word stands for in a table.
-    pub fn named<T: Copy>(&mut self, table: &[(&str, T)]) -> Result<T, Stop> {
-        self.words.named(table)
-    }
-
     /// The item that the next word names.
     pub fn item(&mut self) -> Result<Item, Stop> {
         self.home.item(self.words.name())

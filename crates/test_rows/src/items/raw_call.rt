@@ -131,7 +131,7 @@ impl RawCall {
 
     /// The call that the next words say.
     pub fn read(line: &mut Line<'_>) -> Result<RawCall, Stop> {
-        match line.named(&CALLS)? {
+        match line.words.named(&CALLS)? {
             Named::Ask(call) => Ok(RawCall::Ask(call, line.words.optional())),
             Named::Give(call) => {
                 let (value, new) = line.lent_item()?;

@@ -103,6 +103,14 @@ pub fn no_memory_after(pair: (Item, Item), taken: u64) -> Answer {
     Answer::BackAfter(taken_pair(pair), taken)
 }
 
+/// That it is done, or that there was no memory for it.
+pub fn done(is_done: Result<(), AllocError>) -> Word {
+    match is_done {
+        Ok(()) => Word::Done,
+        Err(AllocError) => Word::Memory,
+    }
+}
+
 /// The row goes on with the container that was made.
 pub fn made<C: Drop>(container: &mut C, made: Result<C, AllocError>) -> Word {
     match made {
@@ -111,6 +119,17 @@ pub fn made<C: Drop>(container: &mut C, made: Result<C, AllocError>) -> Word {
             Word::Done
         }
         Err(AllocError) => Word::Memory,
+    }
+}
+
+/// The same of a container that was asked for with room.
+pub fn made_with_room<C: Drop>(container: &mut C, made: Result<C, TryReserveError>) -> Word {
+    match made {
+        Ok(new) => {
+            *container = new;
+            Word::Done
+        }
+        Err(refused) => room(Err(refused)),
     }
 }
 

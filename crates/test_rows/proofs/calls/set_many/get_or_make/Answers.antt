@@ -33,7 +33,7 @@ absent_too x made ys same absent =
 
 pub get_or_insert_with-requires : goal.get_or_insert_with-requires
 unfolding same_group
-get_or_insert_with-requires g c absent = (
+get_or_insert_with-requires c absent = (
   (λ p is. tt),
   λ x made. absent_too c.args.element.now x (keys_of c.args.set.now.entries)
       (ap (λ i. i.group) made.1 ∙ c.requires) absent,
