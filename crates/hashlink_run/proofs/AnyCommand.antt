@@ -1,23 +1,20 @@
 -- What holds of a step, whatever the command: each lemma has a line for each, or one for all that are alike.
-use Rattle.std.proofs.Common.{◌≡◌, ◌≤◌, Bool, true, false, List, [], ◌∷◌, length, refl, sym, ap, ◌∙◌, subst}
-use Rattle.std.proofs.Common.{Option, Result, Ok, Err, arith}
-use Rattle.std.specs.Map.{lookup_entry}
+use Rattle.hashlink_run.proofs.Names.{◌≡◌, ◌≤◌, Bool, true, false, List, [], ◌∷◌, length, refl, sym, ap, ◌∙◌}
+use Rattle.hashlink_run.proofs.Names.{subst, Option, Result, Ok, Err, arith, lookup_entry, Length, MapState}
+use Rattle.hashlink_run.proofs.Names.{KeepsNodes, first_of, kept-inserts, kept-moves, kept-removes_key}
+use Rattle.hashlink_run.proofs.Names.{kept-pops_front, Reply, Seen, insert_reply, is_refused, first_place}
+use Rattle.hashlink_run.proofs.Names.{Step}
 use Rattle.std.specs.declared.alloc.AllocError.{AllocError}
-use Rattle.hashlink_history.specs.Peak.{Length, Passes}
+use Rattle.hashlink_history.specs.Peak.{Passes}
 use Rattle.hashlink_history.proofs.Peaks.{passes-kept, passes-clears, passes-shrinks}
-use Rattle.hashlink_model.specs.MapState.{MapState, KeepsNodes}
 use Rattle.hashlink_model.specs.Steps.{Replaces}
-use Rattle.hashlink_model.specs.Walk.{first_of, last_of}
-use Rattle.hashlink_model.proofs.KeptNodes.{kept-inserts, kept-replaces, kept-moves, kept-removes_key}
-use Rattle.hashlink_model.proofs.KeptNodes.{kept-pops_front, kept-pops_back, kept-keeps}
+use Rattle.hashlink_model.specs.Walk.{last_of}
+use Rattle.hashlink_model.proofs.KeptNodes.{kept-replaces, kept-pops_back, kept-keeps}
 use Rattle.hashlink_run.specs.declared.commands.Command.{Command}
 use Rattle.hashlink_run.specs.declared.commands.Command.TheVariants as command
-use Rattle.hashlink_run.specs.declared.replies.Reply.{Reply}
-use Rattle.hashlink_run.specs.declared.replies.Reply.TheVariants.{Seen, AtPlace}
-use Rattle.hashlink_run.specs.CallReplies.{insert_reply, shrink_reply, is_refused}
-use Rattle.hashlink_run.specs.CursorSteps.{first_place}
+use Rattle.hashlink_run.specs.declared.replies.Reply.TheVariants.{AtPlace}
+use Rattle.hashlink_run.specs.CallReplies.{shrink_reply}
 use Rattle.hashlink_run.specs.Run.{passed_at, keeps_nodes}
-use Rattle.hashlink_run.specs.Step.{Step}
 use Rattle.hashlink_run.proofs.CursorNodes.{cursor-keeps, inserts-taken, walk-taken}
 use Rattle.hashlink_run.proofs.EntryNodes.{kept_unchanged, entry-leaves}
 use Rattle.hashlink_run.proofs.Kept.{keeps_where-wider}

@@ -1,21 +1,18 @@
 -- What is done through an entry is a step at the place of its key.
-use Rattle.std.proofs.Common.{◌≡◌, ℕ, ◌-◌, Bool, List, [], ◌∷◌, ◌++◌, length, slice_get, Option, None, Some}
-use Rattle.std.proofs.Common.{refl, sym, ap, ap₂, ◌∙◌, subst, arith, length-append, true, false, nat_lt}
-use Rattle.std.proofs.Common.{if◌then◌else◌, unwrap_or}
-use Rattle.std.specs.Map.{lookup_entry}
-use Rattle.std.specs.Option.{option_map}
+use Rattle.hashlink_run.proofs.Names.{◌≡◌, ℕ, ◌-◌, Bool, List, [], ◌∷◌, ◌++◌, length, slice_get, Option, None}
+use Rattle.hashlink_run.proofs.Names.{Some, refl, sym, ap, ap₂, ◌∙◌, subst, arith, true, false, lookup_entry}
+use Rattle.hashlink_run.proofs.Names.{option_map, same_Some, place_of, MapState, none_from_lookup, EntryStep}
+use Rattle.hashlink_run.proofs.Names.{Reply, OccupiedStep, VacantStep, EntrySteps}
+use Rattle.std.proofs.Common.{length-append, nat_lt, if◌then◌else◌, unwrap_or}
 use Rattle.std.specs.Prelude.{insert, remove}
-use Rattle.std.proofs.lemmas.Option.{none-some, same_Some}
-use Rattle.hashlink_model.specs.Entries.{place_of, moved_at}
+use Rattle.std.proofs.lemmas.Option.{none-some}
+use Rattle.hashlink_model.specs.Entries.{moved_at}
 use Rattle.hashlink_model.specs.Entry.{EntryState, entry_of, key_at, value_at, TakesEntry}
-use Rattle.hashlink_model.specs.MapState.{MapState, AddsEntry, MovesAt, RemovesAt}
+use Rattle.hashlink_model.specs.MapState.{AddsEntry, MovesAt, RemovesAt}
 use Rattle.hashlink_model.proofs.ByPlace.{moved_at-last}
 use Rattle.hashlink_model.proofs.Places.{split_at, slice_get_here}
 use Rattle.hashlink_model.proofs.Puts.{put_back_absent}
-use Rattle.hashlink_model.proofs.Splits.{stands_from_place, lookup_entry-here, none_from_lookup}
-use Rattle.hashlink_run.specs.declared.commands.EntryStep.{EntryStep}
-use Rattle.hashlink_run.specs.declared.replies.Reply.{Reply}
-use Rattle.hashlink_run.specs.EntrySteps.{OccupiedStep, VacantStep, EntrySteps}
+use Rattle.hashlink_model.proofs.Splits.{stands_from_place, lookup_entry-here}
 use Rattle.hashlink_run.proofs.Moved.{lookup_entry-absent}
 
 module _ {K V B S : Type 0} (eq : K → K → Bool) (Says : K → V → B → Type 0) {m : MapState K V S} {k : K}

@@ -1,21 +1,16 @@
 -- Along the steps of a cache: how much longer than its capacity it is.
-use Rattle.std.proofs.Common.{◌≡◌, ℕ, ◌+◌, ◌-◌, ◌≤◌, Bool, true, List, length, Some, ◌⊎◌, inl, inr}
-use Rattle.std.proofs.Common.{⊎_elim, refl, sym, ap, subst, arith}
-use Rattle.std.specs.Map.{lookup_entry}
-use Rattle.hashlink_model.specs.Cache.{CacheState, IsWithin, EvictsFront}
-use Rattle.hashlink_model.specs.MapState.{MapState}
-use Rattle.hashlink_model.specs.Walk.{first_of}
+use Rattle.hashlink_run.proofs.Names.{◌≡◌, ℕ, ◌+◌, ◌-◌, ◌≤◌, Bool, true, List, length, Some, inl, inr, ⊎_elim}
+use Rattle.hashlink_run.proofs.Names.{refl, sym, ap, subst, arith, lookup_entry, CacheState, EvictsFront}
+use Rattle.hashlink_run.proofs.Names.{MapState, first_of, CacheCommand, EntryStep, Reply, CacheStep, CacheRun}
+use Rattle.hashlink_run.proofs.Names.{Answered, EntrySteps}
+use Rattle.std.proofs.Common.{◌⊎◌}
+use Rattle.hashlink_model.specs.Cache.{IsWithin}
 use Rattle.hashlink_model.proofs.CacheBounds.{within-inserts, within-gets, within-removes, within-sets}
 use Rattle.hashlink_model.proofs.CacheBounds.{within-clears, within-pops_front}
 use Rattle.hashlink_model.proofs.Caches.{front_evicted-at_most}
-use Rattle.hashlink_run.specs.declared.cache_commands.CacheCommand.{CacheCommand}
 use Rattle.hashlink_run.specs.declared.cache_commands.CacheCommand.TheVariants as cache
-use Rattle.hashlink_run.specs.declared.commands.EntryStep.{EntryStep}
-use Rattle.hashlink_run.specs.declared.replies.Reply.{Reply}
 use Rattle.hashlink_run.specs.CacheRun.{names_no_entry, KeepsBounds, StaysBounded}
-use Rattle.hashlink_run.specs.CacheStep.{CacheStep, CacheRun, CacheRuns}
-use Rattle.hashlink_run.specs.Chain.{Answered}
-use Rattle.hashlink_run.specs.EntrySteps.{EntrySteps}
+use Rattle.hashlink_run.specs.CacheStep.{CacheRuns}
 use Rattle.hashlink_run.proofs.CachePuts.{use_cases}
 use Rattle.hashlink_run.proofs.Chained.{Chain-between, Chain-keeps}
 use Rattle.hashlink_run.proofs.EntryNodes.{entry-leaves}

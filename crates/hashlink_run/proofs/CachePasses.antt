@@ -1,24 +1,17 @@
 -- The nodes along the steps of a cache.
-use Rattle.std.proofs.Common.{◌≡◌, Bool, List, [], ◌∷◌, ◌++◌, length, take, Option, Result, Ok}
-use Rattle.std.proofs.Common.{Err, MatchResult, ⊎_elim, append_assoc, arith, max, refl, sym, ap, ◌∙◌}
-use Rattle.std.proofs.Common.{subst}
-use Rattle.std.specs.Map.{lookup, lookup_entry}
-use Rattle.hashlink_model.specs.Cache.{CacheState, CacheInserts, CacheUses, EvictsFront}
-use Rattle.hashlink_history.specs.Peak.{Passed, Length, Passes, PassesInTurn}
-use Rattle.hashlink_model.specs.MapState.{MapState, node_count, KeepsNodes}
-use Rattle.hashlink_model.proofs.KeptNodes.{kept-inserts, kept-keeps, kept-moves, kept-removes_key}
-use Rattle.hashlink_model.proofs.KeptNodes.{kept-pops_front}
+use Rattle.hashlink_run.proofs.Names.{◌≡◌, Bool, List, [], ◌∷◌, ◌++◌, length, take, Option, Result, Ok, Err}
+use Rattle.hashlink_run.proofs.Names.{MatchResult, ⊎_elim, append_assoc, arith, refl, sym, ap, ◌∙◌, subst}
+use Rattle.hashlink_run.proofs.Names.{lookup, lookup_entry, CacheState, CacheInserts, CacheUses, EvictsFront}
+use Rattle.hashlink_run.proofs.Names.{Passed, Length, PassesInTurn, MapState, node_count, KeepsNodes}
+use Rattle.hashlink_run.proofs.Names.{kept-inserts, kept-moves, kept-removes_key, kept-pops_front}
+use Rattle.hashlink_run.proofs.Names.{within_the_peak, CacheCommand, Reply, Refused, Seen, CacheStep}
+use Rattle.hashlink_run.proofs.Names.{CacheRun, insert_reply, Answered, state_after, after, Replies}
+use Rattle.std.proofs.Common.{max}
+use Rattle.hashlink_history.specs.Peak.{Passes}
+use Rattle.hashlink_model.proofs.KeptNodes.{kept-keeps}
 use Rattle.hashlink_history.proofs.Peaks.{passes-cache_insert, passes-clears, passes_in_parts}
-use Rattle.hashlink_history.proofs.Peaks.{within_the_peak}
-use Rattle.hashlink_run.specs.declared.cache_commands.CacheCommand.{CacheCommand}
 use Rattle.hashlink_run.specs.declared.cache_commands.CacheCommand.TheVariants as cache
-use Rattle.hashlink_run.specs.declared.replies.Reply.{Reply}
-use Rattle.hashlink_run.specs.declared.replies.Reply.TheVariants.{Refused, Seen}
 use Rattle.hashlink_run.specs.CacheRun.{command_put, cache_passed, CacheWithinPeak}
-use Rattle.hashlink_run.specs.CacheStep.{CacheStep, CacheRun}
-use Rattle.hashlink_run.specs.CallReplies.{insert_reply}
-use Rattle.hashlink_run.specs.Chain.{Answered, state_after, after}
-use Rattle.hashlink_run.specs.Reads.{Replies}
 use Rattle.hashlink_run.proofs.CachePuts.{use_cases}
 use Rattle.hashlink_run.proofs.Called.{passed_one, used}
 use Rattle.hashlink_run.proofs.Chained.{Chain-take}

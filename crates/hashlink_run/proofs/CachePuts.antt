@@ -1,25 +1,18 @@
 -- A command to a cache that passes a length before anything is dropped has put a pair in: it is an insert, or
 -- a use that missed, and was not refused.
-use Rattle.std.proofs.Common.{◌≡◌, ℕ, Bool, List, [], ◌∷◌, length, Option, None, Some}
-use Rattle.std.proofs.Common.{Result, Ok, Err, MatchOption, MatchResult, cond, ap, subst}
-use Rattle.std.proofs.Common.{◌⊎◌, inl, inr}
-use Rattle.std.specs.Map.{lookup, lookup_entry}
+use Rattle.hashlink_run.proofs.Names.{◌≡◌, ℕ, Bool, List, [], ◌∷◌, length, Option, None, Some, Result, Ok}
+use Rattle.hashlink_run.proofs.Names.{Err, MatchOption, MatchResult, ap, subst, inl, inr, lookup}
+use Rattle.hashlink_run.proofs.Names.{lookup_entry, CacheState, CacheInserts, CacheGets, CacheUses, Passed}
+use Rattle.hashlink_run.proofs.Names.{Length, CacheCommand, Reply, Refused, Seen, CacheStep, CacheRun}
+use Rattle.hashlink_run.proofs.Names.{insert_reply, is_refused, Answered, after, Replies}
+use Rattle.std.proofs.Common.{cond, ◌⊎◌}
 use Rattle.std.specs.Option.{option_map_or}
-use Rattle.hashlink_model.specs.Cache.{CacheState, CacheInserts, CacheGets, CacheUses}
 use Rattle.hashlink_history.specs.CacheRuns as event
 use Rattle.hashlink_model.specs.Entries.{put}
-use Rattle.hashlink_history.specs.Peak.{Passed, Length}
 use Rattle.hashlink_model.proofs.CacheBounds.{within-inserted}
-use Rattle.hashlink_run.specs.declared.cache_commands.CacheCommand.{CacheCommand}
 use Rattle.hashlink_run.specs.declared.cache_commands.CacheCommand.TheVariants.{Insert, Use}
-use Rattle.hashlink_run.specs.declared.replies.Reply.{Reply}
-use Rattle.hashlink_run.specs.declared.replies.Reply.TheVariants.{Refused, Seen}
 use Rattle.hashlink_run.specs.CacheCalls.{put_passed}
 use Rattle.hashlink_run.specs.CacheRun.{command_put, InsertsFit}
-use Rattle.hashlink_run.specs.CacheStep.{CacheStep, CacheRun}
-use Rattle.hashlink_run.specs.CallReplies.{insert_reply, is_refused}
-use Rattle.hashlink_run.specs.Chain.{Answered, after}
-use Rattle.hashlink_run.specs.Reads.{Replies}
 use Rattle.hashlink_run.proofs.Chained.{step_of}
 
 -- a use is an insert, or a `get` of what is there

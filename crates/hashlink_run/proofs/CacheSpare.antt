@@ -1,23 +1,17 @@
 -- Along the steps of a cache: a spare node that stays, so that nothing is refused.
-use Rattle.std.proofs.Common.{◌≡◌, ℕ, ◌≤◌, ◌<◌, Bool, true, false, List, [], ◌∷◌, length, Option, None, Some}
-use Rattle.std.proofs.Common.{Result, Ok, Err, MatchResult, ⊎_elim, sym, ap, subst, arith}
-use Rattle.std.specs.Map.{lookup_entry}
-use Rattle.hashlink_model.specs.Cache.{CacheState, HasNodeToSpare, EvictsFront, CacheInserts}
-use Rattle.hashlink_model.specs.Cache.{CacheGets, CacheUses}
-use Rattle.hashlink_model.specs.MapState.{MapState}
+use Rattle.hashlink_run.proofs.Names.{◌≡◌, ℕ, ◌≤◌, ◌<◌, Bool, true, false, List, [], ◌∷◌, length, Option}
+use Rattle.hashlink_run.proofs.Names.{None, Some, Result, Ok, Err, MatchResult, ⊎_elim, sym, ap, subst, arith}
+use Rattle.hashlink_run.proofs.Names.{lookup_entry, CacheState, EvictsFront, CacheInserts, CacheGets}
+use Rattle.hashlink_run.proofs.Names.{CacheUses, MapState, kept-moves, kept-removes_key, kept-pops_front}
+use Rattle.hashlink_run.proofs.Names.{CacheCommand, Reply, Refused, Seen, CacheStep, CacheRun, insert_reply}
+use Rattle.hashlink_run.proofs.Names.{is_refused, Answered, after, Replies}
+use Rattle.hashlink_model.specs.Cache.{HasNodeToSpare}
 use Rattle.hashlink_model.specs.Steps.{RemovesKey, PopsFront}
 use Rattle.hashlink_model.proofs.CacheBounds.{to_spare-kept, to_spare-dropped, to_spare-inserts}
-use Rattle.hashlink_model.proofs.KeptNodes.{kept-moves, kept-removes_key, kept-pops_front, kept-never_fall}
+use Rattle.hashlink_model.proofs.KeptNodes.{kept-never_fall}
 use Rattle.hashlink_model.proofs.NodeCounts.{moves_length}
-use Rattle.hashlink_run.specs.declared.cache_commands.CacheCommand.{CacheCommand}
 use Rattle.hashlink_run.specs.declared.cache_commands.CacheCommand.TheVariants as cache
-use Rattle.hashlink_run.specs.declared.replies.Reply.{Reply}
-use Rattle.hashlink_run.specs.declared.replies.Reply.TheVariants.{Refused, Seen}
 use Rattle.hashlink_run.specs.CacheRun.{leaves_spare, DropsPair, TakesAllAfterADrop}
-use Rattle.hashlink_run.specs.CacheStep.{CacheStep, CacheRun}
-use Rattle.hashlink_run.specs.CallReplies.{insert_reply, is_refused}
-use Rattle.hashlink_run.specs.Chain.{Answered, after}
-use Rattle.hashlink_run.specs.Reads.{Replies}
 use Rattle.hashlink_run.proofs.CachePuts.{step-puts, use_cases}
 use Rattle.hashlink_run.proofs.Chained.{Chain-from, step_at, step_of}
 use Rattle.hashlink_run.proofs.EntryNodes.{entry-leaves}

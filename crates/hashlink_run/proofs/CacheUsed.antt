@@ -1,13 +1,8 @@
 -- A use of a cache by a `get` and, where it misses, an insert.
-use Rattle.std.proofs.Common.{◌≡◌, Bool, [], ◌∷◌, Option, None, Some, Result, Ok, Err, MatchOption, refl}
-use Rattle.std.proofs.Common.{ap₂, subst}
-use Rattle.std.specs.Map.{lookup, lookup_entry}
-use Rattle.std.specs.Option.{option_map}
-use Rattle.hashlink_model.specs.Cache.{CacheState, CacheInserts, CacheGets}
-use Rattle.hashlink_model.proofs.Finds.{lookup_is}
+use Rattle.hashlink_run.proofs.Names.{◌≡◌, Bool, [], ◌∷◌, Option, None, Some, Result, Ok, Err, MatchOption}
+use Rattle.hashlink_run.proofs.Names.{refl, ap₂, subst, lookup, lookup_entry, option_map, CacheState}
+use Rattle.hashlink_run.proofs.Names.{CacheInserts, CacheGets, lookup_is, Seen, Refused, CacheStep}
 use Rattle.hashlink_run.specs.declared.cache_commands.CacheCommand.TheVariants.{Use}
-use Rattle.hashlink_run.specs.declared.replies.Reply.TheVariants.{Seen, Refused}
-use Rattle.hashlink_run.specs.CacheStep.{CacheStep}
 use Rattle.hashlink_run.specs.Reads.{SaysOf}
 
 module _ {K V B S : Type 0} (eq : K → K → Bool) (Says : K → V → B → Type 0) (old : CacheState K V S) (k : K)

@@ -1,17 +1,12 @@
 -- What one closure says of a pair that a cache read, another may say that says at least that.
-use Rattle.std.proofs.Common.{Bool, List, Option, Result, Ok, Err, MatchResult, ◌≡◌, [], ◌∷◌}
-use Rattle.std.specs.Map.{lookup_entry}
-use Rattle.hashlink_model.specs.Cache.{CacheState}
-use Rattle.hashlink_run.specs.declared.cache_commands.CacheCommand.{CacheCommand}
+use Rattle.hashlink_run.proofs.Names.{Bool, List, Option, Result, Ok, Err, MatchResult, ◌≡◌, [], ◌∷◌}
+use Rattle.hashlink_run.proofs.Names.{lookup_entry, CacheState, CacheCommand, Reply, Refused, Seen, CacheStep}
+use Rattle.hashlink_run.proofs.Names.{Replies}
 use Rattle.hashlink_run.specs.declared.cache_commands.CacheCommand.TheVariants as cache
-use Rattle.hashlink_run.specs.declared.replies.Reply.{Reply}
 use Rattle.hashlink_run.specs.declared.cache_commands.WeightedCommand.{WeightedCommand}
 use Rattle.hashlink_run.specs.declared.cache_commands.WeightedCommand.TheVariants as weighted
-use Rattle.hashlink_run.specs.declared.replies.Reply.TheVariants.{Refused, Seen}
 use Rattle.hashlink_run.specs.WeightedStep.{WeightedStep, named_pair}
 use Rattle.hashlink_model.specs.Weights.{WeightedState}
-use Rattle.hashlink_run.specs.CacheStep.{CacheStep}
-use Rattle.hashlink_run.specs.Reads.{Replies}
 use Rattle.hashlink_run.proofs.Wider.{replies-wider, entry-wider}
 
 module _ {K V B : Type 0} (P Q : K → V → B → Type 0) (wider : (k : K) (v : V) (b : B) → P k v b → Q k v b)

@@ -1,23 +1,22 @@
 -- One call of a cache that was not refused, and calls in turn: what they leave is what is computed.
-use Rattle.std.proofs.Common.{◌≡◌, ℕ, Bool, List, [], ◌∷◌, ◌++◌, length, Option, None, Some, Result, Ok, ◌+◌}
-use Rattle.std.proofs.Common.{◌<◌, add-one, take, drop, drop-cons, get_or, map, MatchOption, append_assoc}
-use Rattle.std.proofs.Common.{refl, sym, ap, ap₂, ◌∙◌, subst}
-use Rattle.std.specs.Map.{lookup, lookup_entry}
-use Rattle.std.specs.Option.{option_map, option_map_or}
-use Rattle.hashlink_model.specs.Cache.{CacheState, CacheInserts, CacheGets}
+use Rattle.hashlink_run.proofs.Names.{◌≡◌, ℕ, Bool, List, [], ◌∷◌, ◌++◌, length, Option, None, Some, Result}
+use Rattle.hashlink_run.proofs.Names.{Ok, ◌+◌, ◌<◌, take, drop, map, MatchOption, append_assoc, refl, sym, ap}
+use Rattle.hashlink_run.proofs.Names.{ap₂, ◌∙◌, subst, lookup, lookup_entry, option_map, CacheState}
+use Rattle.hashlink_run.proofs.Names.{CacheInserts, CacheGets, Passed, Length, PassesInTurn, MapState}
+use Rattle.hashlink_run.proofs.Names.{KeepsNodes, within_the_peak, lookup_is, none_from_lookup, kept-moves}
+use Rattle.hashlink_run.proofs.Names.{kept-removes_key, empty_cache, Answered, Chain, state_after, replies_of}
+use Rattle.hashlink_run.proofs.Names.{EventStep}
+use Rattle.std.proofs.Common.{add-one, drop-cons, get_or}
+use Rattle.std.specs.Option.{option_map_or}
 use Rattle.hashlink_history.specs.CacheRuns.{CacheEvent, Insert, Use, Remove, Peek, answer_to, after_event}
 use Rattle.hashlink_history.specs.CacheRuns.{after_events, answers}
 use Rattle.hashlink_model.specs.Entries.{put, without}
-use Rattle.hashlink_history.specs.Peak.{Passed, Length, PassesInTurn}
-use Rattle.hashlink_model.specs.MapState.{MapState, Removes, KeepsNodes}
-use Rattle.hashlink_history.proofs.Peaks.{passes-cache_insert, passes-kept, passes_in_parts, within_the_peak}
+use Rattle.hashlink_model.specs.MapState.{Removes}
+use Rattle.hashlink_history.proofs.Peaks.{passes-cache_insert, passes-kept, passes_in_parts}
 use Rattle.hashlink_model.proofs.CacheSteps.{inserts_answer, inserts_entries, uses_entries}
-use Rattle.hashlink_model.proofs.Finds.{lookup_is}
-use Rattle.hashlink_model.proofs.Splits.{none_from_lookup, remove_entry-none}
-use Rattle.hashlink_model.proofs.KeptNodes.{kept-moves, kept-removes_key}
-use Rattle.hashlink_lru.specs.Cached.{empty_cache}
-use Rattle.hashlink_run.specs.Chain.{Answered, Chain, Chained, state_after, replies_of}
-use Rattle.hashlink_run.specs.CacheCalls.{EventStep, put_passed, events_passed, RunsFromEmpty}
+use Rattle.hashlink_model.proofs.Splits.{remove_entry-none}
+use Rattle.hashlink_run.specs.Chain.{Chained}
+use Rattle.hashlink_run.specs.CacheCalls.{put_passed, events_passed, RunsFromEmpty}
 use Rattle.hashlink_run.proofs.Chained.{Chain-take}
 use Rattle.hashlink_run.proofs.EntryNodes.{kept_unchanged}
 

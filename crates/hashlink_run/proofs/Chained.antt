@@ -1,11 +1,10 @@
 -- Chains of steps: how they grow, their parts, and what is kept along them.
-use Rattle.std.proofs.Common.{◌≡◌, ℕ, zero, suc, ◌≤◌, ◌<◌, Bool, true, List, [], ◌∷◌, ◌++◌, take, drop, refl}
-use Rattle.std.proofs.Common.{slice_get, Some, sym, ap, ◌∙◌, subst, append-nil, arith}
+use Rattle.hashlink_run.proofs.Names.{◌≡◌, ℕ, zero, suc, ◌≤◌, ◌<◌, Bool, true, List, [], ◌∷◌, ◌++◌, take}
+use Rattle.hashlink_run.proofs.Names.{drop, refl, slice_get, Some, sym, ap, ◌∙◌, subst, append-nil, arith}
+use Rattle.hashlink_run.proofs.Names.{same_Some, Answered, Chain, replies_of, state_after, after}
 use Rattle.std.specs.List.{AllPass}
 use Rattle.std.proofs.lemmas.List.Concat.{flat_map-append}
 use Rattle.std.proofs.lemmas.List.Elements.{All-head, All-tail}
-use Rattle.std.proofs.lemmas.Option.{same_Some}
-use Rattle.hashlink_run.specs.Chain.{Answered, Chain, replies_of, state_after, after}
 
 module _ {R M : Type 0} where
   pub replies_of-more : (xs : List (Answered R M)) (x : Answered R M)

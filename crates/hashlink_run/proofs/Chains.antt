@@ -1,16 +1,12 @@
 -- Chains of a map's steps: the nodes along them, and that none hands a pair back while a node is spare.
-use Rattle.std.proofs.Common.{◌≡◌, ℕ, ◌≤◌, ◌<◌, Bool, true, List, [], ◌∷◌, length, take, refl, sym, arith}
+use Rattle.hashlink_run.proofs.Names.{◌≡◌, ℕ, ◌≤◌, ◌<◌, Bool, true, List, [], ◌∷◌, length, take, refl, sym}
+use Rattle.hashlink_run.proofs.Names.{arith, MapState, node_count, PassesInTurn, within_the_peak, Reply}
+use Rattle.hashlink_run.proofs.Names.{Answered, state_after, after, Step}
 use Rattle.std.proofs.Common.{le_refl}
 use Rattle.std.specs.List.{AllPass}
-use Rattle.hashlink_model.specs.MapState.{MapState, node_count}
-use Rattle.hashlink_history.specs.Peak.{PassesInTurn}
 use Rattle.hashlink_model.proofs.KeptNodes.{kept-never_fall, spare_where_shorter}
-use Rattle.hashlink_history.proofs.Peaks.{within_the_peak}
 use Rattle.hashlink_run.specs.declared.commands.Command.{Command}
-use Rattle.hashlink_run.specs.declared.replies.Reply.{Reply}
-use Rattle.hashlink_run.specs.Chain.{Answered, state_after, after}
 use Rattle.hashlink_run.specs.Run.{Run, Runs, keeps_nodes, passed_by, StaysWithinPeak, TakesKeysWhereShorter}
-use Rattle.hashlink_run.specs.Step.{Step}
 use Rattle.hashlink_run.proofs.Chained.{Chain-take, Chain-keeps, Chain-between, step_at}
 use Rattle.hashlink_run.proofs.AnyCommand.{map_step-taken, step-nodes}
 

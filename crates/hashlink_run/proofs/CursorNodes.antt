@@ -1,15 +1,13 @@
 -- Steps of a cursor: every node is kept, no entry leaves, and while a node is spare no pair is handed back.
-use Rattle.std.proofs.Common.{◌≡◌, ℕ, ◌≤◌, Bool, false, List, [], ◌∷◌, ◌++◌, length, Option, None, Some}
-use Rattle.std.proofs.Common.{Result, Ok, Err, refl, ap, ◌∙◌, arith}
-use Rattle.hashlink_model.specs.Cursor.{CursorState, place_next}
-use Rattle.hashlink_model.specs.MapState.{MapState, Inserts, KeepsNodes}
-use Rattle.hashlink_model.proofs.KeptNodes.{kept-inserts}
+use Rattle.hashlink_run.proofs.Names.{◌≡◌, ℕ, ◌≤◌, Bool, false, List, [], ◌∷◌, ◌++◌, length, Option, None}
+use Rattle.hashlink_run.proofs.Names.{Some, Result, Ok, Err, refl, ap, ◌∙◌, arith, CursorState, MapState}
+use Rattle.hashlink_run.proofs.Names.{KeepsNodes, kept-inserts, CursorStep, Reply, insert_reply, is_refused}
+use Rattle.hashlink_run.proofs.Names.{CursorStepped, CursorWalks, first_place}
+use Rattle.hashlink_model.specs.Cursor.{place_next}
+use Rattle.hashlink_model.specs.MapState.{Inserts}
 use Rattle.hashlink_model.proofs.NodeCounts.{node_count-puts}
-use Rattle.hashlink_run.specs.declared.commands.CursorStep.{CursorStep}
 use Rattle.hashlink_run.specs.declared.commands.CursorStep.TheVariants as cursor
-use Rattle.hashlink_run.specs.declared.replies.Reply.{Reply}
-use Rattle.hashlink_run.specs.CallReplies.{insert_reply, is_refused}
-use Rattle.hashlink_run.specs.CursorSteps.{CursorStepped, CursorWalks, CursorSteps, first_place}
+use Rattle.hashlink_run.specs.CursorSteps.{CursorSteps}
 use Rattle.hashlink_run.proofs.EntryNodes.{kept_unchanged}
 
 -- every node is kept, and no entry left

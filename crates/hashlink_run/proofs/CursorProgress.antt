@@ -1,11 +1,8 @@
 -- A cursor that has done some of its steps.
-use Rattle.std.proofs.Common.{ℕ, Bool, List, [], ◌∷◌, ◌++◌, ◌≡◌, refl, sym, ap₂, subst, append_assoc}
-use Rattle.std.proofs.Common.{append-nil, length, arith}
-use Rattle.hashlink_model.specs.Cursor.{CursorState}
-use Rattle.hashlink_model.specs.MapState.{MapState}
-use Rattle.hashlink_run.specs.declared.commands.CursorStep.{CursorStep}
-use Rattle.hashlink_run.specs.declared.replies.Reply.{Reply}
-use Rattle.hashlink_run.specs.CursorSteps.{CursorStepped, CursorWalks, ReadOnWalk, first_place}
+use Rattle.hashlink_run.proofs.Names.{ℕ, Bool, List, [], ◌∷◌, ◌++◌, ◌≡◌, refl, sym, ap₂, subst, append_assoc}
+use Rattle.hashlink_run.proofs.Names.{append-nil, length, arith, CursorState, MapState, CursorStep, Reply}
+use Rattle.hashlink_run.proofs.Names.{CursorStepped, CursorWalks, first_place}
+use Rattle.hashlink_run.specs.CursorSteps.{ReadOnWalk}
 
 at_first : {K V S : Type 0} (m : MapState K V S) (now : CursorState K V S) → now.map ≡ m → now.place ≡ 0
     → now ≡ first_place m

@@ -1,20 +1,19 @@
 -- What a step on an entry leaves.
-use Rattle.std.proofs.Common.{◌≡◌, ℕ, zero, suc, ◌+◌, ◌≤◌, Bool, false, List, [], ◌∷◌, length, refl}
-use Rattle.std.proofs.Common.{Option, None, Some, Result, Ok, Err, ap, ◌∙◌, arith, MatchOption, MatchResult}
+use Rattle.hashlink_run.proofs.Names.{◌≡◌, ℕ, zero, suc, ◌+◌, ◌≤◌, Bool, false, List, [], ◌∷◌, length, refl}
+use Rattle.hashlink_run.proofs.Names.{Option, None, Some, Result, Ok, Err, ap, ◌∙◌, arith, MatchOption}
+use Rattle.hashlink_run.proofs.Names.{MatchResult, place_of, MapState, node_count, KeepsNodes, kept-inserts}
+use Rattle.hashlink_run.proofs.Names.{EntryStep, Reply, Inserted, Refused, is_refused, OccupiedStep}
+use Rattle.hashlink_run.proofs.Names.{VacantStep, EntrySteps}
 use Rattle.std.specs.Result.{result_map_both}
-use Rattle.hashlink_model.specs.Entries.{place_of, set_key_at}
+use Rattle.hashlink_model.specs.Entries.{set_key_at}
 use Rattle.hashlink_model.specs.Entry.{VacantInserts}
-use Rattle.hashlink_model.specs.MapState.{MapState, Changes, Removes, node_count, KeepsNodes}
-use Rattle.hashlink_model.proofs.KeptNodes.{kept-changes, kept-inserts}
+use Rattle.hashlink_model.specs.MapState.{Changes, Removes}
+use Rattle.hashlink_model.proofs.KeptNodes.{kept-changes}
 use Rattle.hashlink_model.proofs.NodeCounts.{node_count-removes}
 use Rattle.hashlink_model.proofs.Occupied.{length-moved_at, length-insert_value, length-insert_entry}
 use Rattle.hashlink_model.proofs.Occupied.{length-replace_entry}
-use Rattle.hashlink_run.specs.declared.commands.EntryStep.{EntryStep}
 use Rattle.hashlink_run.specs.declared.commands.EntryStep.TheVariants as step
-use Rattle.hashlink_run.specs.declared.replies.Reply.{Reply}
-use Rattle.hashlink_run.specs.declared.replies.Reply.TheVariants.{Inserted, Refused}
-use Rattle.hashlink_run.specs.CallReplies.{reply_or_refused, is_refused}
-use Rattle.hashlink_run.specs.EntrySteps.{OccupiedStep, VacantStep, EntrySteps}
+use Rattle.hashlink_run.specs.CallReplies.{reply_or_refused}
 
 length_set_key : {K V : Type 0} (es : List (K × V)) (j : ℕ) (k : K) → length (set_key_at es j k) ≡ length es
 length_set_key [] j k = refl

@@ -1,4 +1,5 @@
 -- Lemmas on runs of commands.
+pub mod Names
 pub mod AtEntry
 pub mod CursorProgress
 pub mod Kept

@@ -1,8 +1,7 @@
 -- What a call of a closure returned may be said of the pair that it was shown.
-use Rattle.std.proofs.Common.{refl}
+use Rattle.hashlink_run.proofs.Names.{refl, ClosureSays}
 use Rattle.std.specs.Borrow.{Bor}
 use Rattle.std.specs.Fn.{Shared, FnReturns}
-use Rattle.hashlink_run.specs.Reads.{ClosureSays}
 
 pub said_by : {F K V B : Type 0} {g : Shared F (Bor K × (Bor V × Unit {0})) B} {f : F} {b : B} (key : Bor K)
     (value : Bor V) → FnReturns g f (key, (value, tt)) b → ClosureSays g f key.now value.now b

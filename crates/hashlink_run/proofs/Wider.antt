@@ -1,18 +1,14 @@
 -- What one closure says of a pair that a map read, another may say that says at least that.
-use Rattle.std.proofs.Common.{ℕ, ◌≡◌, Bool, List, [], ◌∷◌, slice_get, Option, None, Some, MatchOption, Result}
-use Rattle.std.proofs.Common.{Ok, Err, MatchResult}
-use Rattle.hashlink_model.specs.Cursor.{CursorState, entry_in, place_next, place_previous}
-use Rattle.hashlink_model.specs.Entries.{place_of}
-use Rattle.hashlink_model.specs.MapState.{MapState}
-use Rattle.hashlink_run.specs.declared.commands.CursorStep.{CursorStep}
+use Rattle.hashlink_run.proofs.Names.{ℕ, ◌≡◌, Bool, List, [], ◌∷◌, slice_get, Option, None, Some, MatchOption}
+use Rattle.hashlink_run.proofs.Names.{Result, Ok, Err, MatchResult, CursorState, place_of, MapState}
+use Rattle.hashlink_run.proofs.Names.{CursorStep, EntryStep, Reply, Seen, Inserted, Refused, CursorStepped}
+use Rattle.hashlink_run.proofs.Names.{CursorWalks, first_place, OccupiedStep, VacantStep, EntrySteps, Replies}
+use Rattle.hashlink_model.specs.Cursor.{entry_in, place_next, place_previous}
 use Rattle.hashlink_run.specs.declared.commands.CursorStep.TheVariants as cursor
-use Rattle.hashlink_run.specs.declared.commands.EntryStep.{EntryStep}
 use Rattle.hashlink_run.specs.declared.commands.EntryStep.TheVariants as step
-use Rattle.hashlink_run.specs.declared.replies.Reply.{Reply}
-use Rattle.hashlink_run.specs.declared.replies.Reply.TheVariants.{Seen, Inserted, AtPlace, Refused}
-use Rattle.hashlink_run.specs.CursorSteps.{CursorStepped, CursorWalks, CursorSteps, first_place}
-use Rattle.hashlink_run.specs.EntrySteps.{OccupiedStep, VacantStep, EntrySteps}
-use Rattle.hashlink_run.specs.Reads.{SaysOf, Replies, Reads}
+use Rattle.hashlink_run.specs.declared.replies.Reply.TheVariants.{AtPlace}
+use Rattle.hashlink_run.specs.CursorSteps.{CursorSteps}
+use Rattle.hashlink_run.specs.Reads.{SaysOf, Reads}
 
 module _ {K V B : Type 0} (P Q : K → V → B → Type 0)
     (wider : (k : K) (v : V) (b : B) → P k v b → Q k v b) where

@@ -1,7 +1,5 @@
-use Rattle.std.proofs.Common.{inl, inr, ap, sym, ◌∙◌, arith, length}
-use Rattle.std.specs.Vec.Iter.{into_iter_items}
-use Rattle.hashlink_run.specs.CacheStep.{CacheStep}
-use Rattle.hashlink_run.specs.Reads.{ClosureSays}
+use Rattle.hashlink_run.proofs.Names.{inl, inr, ap, sym, ◌∙◌, arith, length, into_iter_items, CacheStep}
+use Rattle.hashlink_run.proofs.Names.{ClosureSays}
 use Rattle.hashlink_run.proofs.Answering.{HasAnswered-none, HasAnswered-more, HasAnswered-all}
 use Rattle.hashlink_run.proofs.CacheLengths.{keeps_bounds, stays_bounded}
 use Rattle.hashlink_run.proofs.CachePasses.{cache_within_peak}

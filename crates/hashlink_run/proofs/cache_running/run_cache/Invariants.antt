@@ -1,9 +1,7 @@
-use Rattle.std.proofs.Common.{◌+◌, ◌≤◌, length, vec_len, vec_capacity}
-use Rattle.std.specs.Vec.Iter.{into_iter_items}
+use Rattle.hashlink_run.proofs.Names.{◌+◌, ◌≤◌, length, vec_len, vec_capacity, into_iter_items, CacheStep}
+use Rattle.hashlink_run.proofs.Names.{CallableOn, ClosureSays}
 use Rattle.hashlink_lru.specs.Cached.{state_of}
 use Rattle.hashlink_run.specs.CacheRun.{ShownByCache}
-use Rattle.hashlink_run.specs.CacheStep.{CacheStep}
-use Rattle.hashlink_run.specs.Reads.{CallableOn, ClosureSays}
 use Rattle.hashlink_run.proofs.Answering.{HasAnswered}
 use Rattle.hashlink_run.proofs.cache_running.run_cache.Given as goal
 

@@ -1,9 +1,6 @@
-use Rattle.std.proofs.Common.{◌≡◌, Bool, ap, subst, sym, ◌∙◌}
-use Rattle.std.specs.Map.{lookup_entry}
-use Rattle.hashlink_core.specs.Keyed.{entries_of}
-use Rattle.hashlink_run.specs.declared.cache_commands.CacheCommand.{CacheCommand}
+use Rattle.hashlink_run.proofs.Names.{◌≡◌, Bool, ap, subst, sym, ◌∙◌, lookup_entry, entries_of, CacheCommand}
+use Rattle.hashlink_run.proofs.Names.{CacheState}
 use Rattle.hashlink_lru.specs.Cached.{state_of}
-use Rattle.hashlink_model.specs.Cache.{CacheState}
 use Rattle.hashlink_run.specs.CacheStep.{CommandReads, ReadFromCache}
 use Rattle.hashlink_run.proofs.cache_steps.answer_cache.Goals as goal
 

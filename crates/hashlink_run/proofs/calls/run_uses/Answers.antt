@@ -1,6 +1,5 @@
-use Rattle.std.proofs.Common.{length, map}
+use Rattle.hashlink_run.proofs.Names.{length, map, refl, EventStep, use_of}
 use Rattle.std.proofs.lemmas.List.{at_drop_all}
-use Rattle.hashlink_run.specs.CacheCalls.{EventStep, use_of}
 use Rattle.hashlink_run.proofs.Called.{rest_from, runs_from_empty}
 use Rattle.hashlink_run.proofs.CallLaws.{ran-follows, ran-distinct, misses_of_history, bears_comparison}
 use Rattle.hashlink_run.proofs.Answering.{HasAnswered-none, HasAnswered-more, HasAnswered-all}
@@ -37,3 +36,6 @@ returns-clause-misses g c =
 pub returns-clause-comparison : goal.returns-clause-comparison
 returns-clause-comparison g c =
     bears_comparison g.K.PartialEq.eq g.met.K.Eq.laws _ c.args.pairs.now _ (returns-clause-ran g c).answered
+
+pub returns-clause-none : goal.returns-clause-none
+returns-clause-none g c = λ none. refl

@@ -1,7 +1,6 @@
-use Rattle.std.proofs.Common.{drop, map}
+use Rattle.hashlink_run.proofs.Names.{drop, map, empty_cache, EventStep, use_of}
 use Rattle.hashlink_core.specs.Hashing.{default_builder}
-use Rattle.hashlink_lru.specs.Cached.{empty_cache, state_of}
-use Rattle.hashlink_run.specs.CacheCalls.{EventStep, use_of}
+use Rattle.hashlink_lru.specs.Cached.{state_of}
 use Rattle.hashlink_run.proofs.Answering.{HasAnswered}
 use Rattle.hashlink_run.proofs.calls.run_uses.Given as goal
 

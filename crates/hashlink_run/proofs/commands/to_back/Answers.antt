@@ -1,5 +1,4 @@
-use Rattle.std.proofs.Common.{sym, ◌∙◌, refl}
-use Rattle.hashlink_core.specs.Keyed.{entries_of}
+use Rattle.hashlink_run.proofs.Names.{sym, ◌∙◌, refl, entries_of}
 use Rattle.hashlink_run.proofs.Moved.{moves_and_left, last_of-new, lookup_entry-absent}
 use Rattle.hashlink_run.proofs.commands.to_back.Goals as goal
 

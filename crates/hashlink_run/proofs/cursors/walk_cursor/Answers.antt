@@ -1,6 +1,5 @@
-use Rattle.std.proofs.Common.{[], ◌∷◌, ◌++◌, length, refl, sym, ap, ◌∙◌, append-nil, append_assoc, arith}
-use Rattle.std.proofs.Common.{rules, inl, inr}
-use Rattle.std.specs.Vec.Iter.{into_iter_items}
+use Rattle.hashlink_run.proofs.Names.{[], ◌∷◌, ◌++◌, length, refl, sym, ap, ◌∙◌, append-nil, append_assoc}
+use Rattle.hashlink_run.proofs.Names.{arith, rules, inl, inr, into_iter_items}
 use Rattle.hashlink_core.specs.Keyed.{state_of}
 use Rattle.hashlink_map.specs.Cursor.{cursor_state}
 use Rattle.hashlink_run.proofs.CursorProgress.{WalksOn-first, WalksOn-step, WalksOn-end, read_from_first}

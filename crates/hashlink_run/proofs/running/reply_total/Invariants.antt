@@ -1,5 +1,4 @@
-use Rattle.std.proofs.Common.{◌≡◌, ◌+◌, drop}
-use Rattle.hashlink_run.specs.Run.{reply_total}
+use Rattle.hashlink_run.proofs.Names.{◌≡◌, ◌+◌, drop, reply_total}
 use Rattle.hashlink_run.proofs.running.reply_total.Given as goal
 
 abbrev pub invariant-loop-command : goal.invariant-loop-command

@@ -1,6 +1,4 @@
-use Rattle.std.proofs.Common.{inl, inr, ap, sym, ◌∙◌, arith}
-use Rattle.std.specs.Vec.Iter.{into_iter_items}
-use Rattle.hashlink_run.specs.Run.{reply_total}
+use Rattle.hashlink_run.proofs.Names.{inl, inr, ap, sym, ◌∙◌, arith, into_iter_items, reply_total}
 use Rattle.hashlink_run.proofs.Chains.{spare_at_the_end, stays_within_peak, takes_keys_where_shorter}
 use Rattle.hashlink_run.proofs.Answering.{HasAnswered-none, HasAnswered-more, HasAnswered-all}
 use Rattle.hashlink_run.proofs.running.run.Goals as goal

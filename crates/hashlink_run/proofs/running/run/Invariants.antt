@@ -1,9 +1,7 @@
-use Rattle.std.proofs.Common.{◌+◌, ◌≤◌, vec_len, vec_capacity}
-use Rattle.std.specs.Vec.Iter.{into_iter_items}
+use Rattle.hashlink_run.proofs.Names.{◌+◌, ◌≤◌, vec_len, vec_capacity, into_iter_items, CallableOn}
+use Rattle.hashlink_run.proofs.Names.{ClosureSays, reply_total, Step}
 use Rattle.hashlink_core.specs.Keyed.{state_of}
-use Rattle.hashlink_run.specs.Reads.{CallableOn, ClosureSays}
-use Rattle.hashlink_run.specs.Run.{ShownBy, reply_total}
-use Rattle.hashlink_run.specs.Step.{Step}
+use Rattle.hashlink_run.specs.Run.{ShownBy}
 use Rattle.hashlink_run.proofs.Answering.{HasAnswered}
 use Rattle.hashlink_run.proofs.running.run.Given as goal
 

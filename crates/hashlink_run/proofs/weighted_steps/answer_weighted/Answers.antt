@@ -1,5 +1,4 @@
-use Rattle.std.proofs.Common.{ap, sym, ◌∙◌}
-use Rattle.std.specs.Option.{option_map}
+use Rattle.hashlink_run.proofs.Names.{ap, sym, ◌∙◌, option_map}
 use Rattle.hashlink_run.proofs.weighted_steps.answer_weighted.Goals as goal
 
 pub said_of_value-requires : goal.said_of_value-requires
