@@ -18,9 +18,9 @@ pub fn iter_eq<K: PartialEq, V: PartialEq>(
     if left.len() != right.len() {
         return false;
     }
-    while let Some((key, value)) = left.next() {
-        let (other_key, other_value) = right.next().unwrap();
-        if !pair_eq(key, value, other_key, other_value) {
+    while let Some(pair) = left.next() {
+        let other = right.next().unwrap();
+        if pair != other {
             return false;
         }
     }
@@ -35,17 +35,13 @@ pub fn iter_partial_cmp<K: PartialOrd, V: PartialOrd>(
 ) -> Option<Ordering>
     ensures { result ≡ entries_partial_cmp K.partial_cmp V.partial_cmp left.entry right.entry }
 {
-    while let Some((key, value)) = left.next() {
-        let Some((other_key, other_value)) = right.next() else {
+    while let Some(pair) = left.next() {
+        let Some(other) = right.next() else {
             return Some(Ordering::Greater);
         };
-        match pair_partial_cmp(key, value, other_key, other_value) {
-            Some(found) => match found {
-                Ordering::Equal => {}
-                Ordering::Less => return Some(Ordering::Less),
-                Ordering::Greater => return Some(Ordering::Greater),
-            },
-            None => return None,
+        match pair.partial_cmp(&other) {
+            Some(Ordering::Equal) => {}
+            unequal => return unequal,
         }
     }
     match right.next() {
@@ -58,52 +54,17 @@ pub fn iter_partial_cmp<K: PartialOrd, V: PartialOrd>(
 pub fn iter_cmp<K: Ord, V: Ord>(mut left: Iter<'_, K, V>, mut right: Iter<'_, K, V>) -> Ordering
     ensures { result ≡ entries_cmp K.cmp V.cmp left.entry right.entry }
 {
-    while let Some((key, value)) = left.next() {
-        let Some((other_key, other_value)) = right.next() else {
+    while let Some(pair) = left.next() {
+        let Some(other) = right.next() else {
             return Ordering::Greater;
         };
-        match pair_cmp(key, value, other_key, other_value) {
+        match pair.cmp(&other) {
             Ordering::Equal => {}
-            Ordering::Less => return Ordering::Less,
-            Ordering::Greater => return Ordering::Greater,
+            unequal => return unequal,
         }
     }
     match right.next() {
         Some(_) => Ordering::Less,
         None => Ordering::Equal,
-    }
-}
-
-// Returns whether both the keys and the values are equal.
-fn pair_eq<K: PartialEq, V: PartialEq>(key: &K, value: &V, other_key: &K, other_value: &V) -> bool
-    ensures { result ≡ (K.eq key.now other_key.now && V.eq value.now other_value.now) }
-{
-    *key == *other_key && *value == *other_value
-}
-
-// Compares the keys, and the values if the keys are equal.
-fn pair_partial_cmp<K: PartialOrd, V: PartialOrd>(
-    key: &K,
-    value: &V,
-    other_key: &K,
-    other_value: &V,
-) -> Option<Ordering>
-    ensures { result
-        ≡ partial_ordering_then (K.partial_cmp key.now other_key.now)
-        (V.partial_cmp value.now other_value.now) }
-{
-    match key.partial_cmp(other_key) {
-        Some(Ordering::Equal) => value.partial_cmp(other_value),
-        unequal => unequal,
-    }
-}
-
-// Does the same as `pair_partial_cmp` for keys and values that always compare.
-fn pair_cmp<K: Ord, V: Ord>(key: &K, value: &V, other_key: &K, other_value: &V) -> Ordering
-    ensures { result ≡ ordering_then (K.cmp key.now other_key.now) (V.cmp value.now other_value.now) }
-{
-    match key.cmp(other_key) {
-        Ordering::Equal => value.cmp(other_value),
-        unequal => unequal,
     }
 }

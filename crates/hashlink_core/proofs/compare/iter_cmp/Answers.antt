@@ -2,8 +2,5 @@
 use Rattle.std.proofs.Common.{rules}
 use Rattle.hashlink_core.proofs.compare.iter_cmp.Goals as goal
 
-pub returns-in-Less : goal.returns-in-Less
-returns-in-Less g c = search rules
-
-pub returns-in-Greater : goal.returns-in-Greater
-returns-in-Greater g c = search rules
+pub returns-in_default-cmp : goal.returns-in_default-cmp
+returns-in_default-cmp g c = search rules

@@ -2,8 +2,8 @@
 use Rattle.std.proofs.Common.{rules}
 use Rattle.hashlink_core.proofs.compare.iter_eq.Goals as goal
 
-pub returns-then-not-pair_eq : goal.returns-then-not-pair_eq
-returns-then-not-pair_eq g c = search rules
+pub returns-then-ne : goal.returns-then-ne
+returns-then-ne g c = search rules
 
-pub loop-key-preserved : goal.loop-key-preserved
-loop-key-preserved g c = search rules
+pub loop-pair-preserved : goal.loop-pair-preserved
+loop-pair-preserved g c = search rules

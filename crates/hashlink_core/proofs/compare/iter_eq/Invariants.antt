@@ -3,12 +3,12 @@ use Rattle.std.proofs.Common.{◌≡◌, length}
 use Rattle.hashlink_model.specs.Compare.{entries_eq}
 use Rattle.hashlink_core.proofs.compare.iter_eq.Given as goal
 
-abbrev pub invariant-loop-key : goal.invariant-loop-key
-invariant-loop-key g l = record {
+abbrev pub invariant-loop-pair : goal.invariant-loop-pair
+invariant-loop-pair g l = record {
   long : length l.left ≡ length l.right;
   same : entries_eq g.K.PartialEq.eq g.V.PartialEq.eq l.left l.right
       ≡ entries_eq g.K.PartialEq.eq g.V.PartialEq.eq l.initial.left l.initial.right;
 }
 
-abbrev pub decreases-loop-key : goal.decreases-loop-key
-decreases-loop-key g l = length l.left
+abbrev pub decreases-loop-pair : goal.decreases-loop-pair
+decreases-loop-pair g l = length l.left
