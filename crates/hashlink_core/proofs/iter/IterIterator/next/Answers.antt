@@ -1,5 +1,6 @@
 use Rattle.std.proofs.Common.{sym, ◌∙◌}
-use Rattle.hashlink_core.proofs.Walk.{first-holds, stands-next, gives-first}
+use Rattle.hashlink_core.proofs.Walk.{first-holds, stands-next, gives-first, progress}
+use Rattle.hashlink_core.proofs.Names.{Some, deref_pair}
 use Rattle.hashlink_core.proofs.iter.IterIterator.next.Goals as goal
 
 pub after-self-inside-requires : goal.after-self-inside-requires
@@ -16,3 +17,6 @@ pub returns-clause-steps : goal.returns-clause-steps
 returns-clause-steps g c =
     sym c.self.view_is ∙ gives-first c.self.invariant c.if-self-eq0.false _ c.after-self-inside.ensures.apart
     c.after-self-inside.result c.after-self-inside.ensures.next _ c.entry.ensures
+
+pub returns-clause-goes : goal.returns-clause-goes
+returns-clause-goes g c = progress deref_pair (Some _) (returns-clause-steps g c)
