@@ -1,5 +1,6 @@
 -- A walk along a ring, by where it stands at both ends.
 use Rattle.std.specs.Iterator.{MakesProgress, at_most}
+use Rattle.std.proofs.Common.{length-append}
 use Rattle.hashlink_core.proofs.Names.{◌≡◌, ℕ, zero, suc, ◌+◌, ◌-◌, ◌<◌, ◌≢◌, true, false, cond, List}
 use Rattle.hashlink_core.proofs.Names.{[], ◌∷◌, ◌++◌, length, take, drop, Option, None, Some, refl, ap, sym}
 use Rattle.hashlink_core.proofs.Names.{◌∙◌, arith, ⊎_elim, slice_get, is_some, unwrap_or, IfSome, IsDistinct}
@@ -19,11 +20,14 @@ in-order shows = from_front (TakesFirst shows) shows (λ s. s) (λ s t h. ap len
 pub in-reverse : {A X : Type 0} (shows : A → X) → ShowsInReverse shows
 in-reverse shows = from_back (TakesLast shows) shows (λ s. s) (λ s t h. ap length h.0) (λ s x t h. h)
 
--- a step that takes the first of what is left leaves less
-pub progress : {A X : Type 0} (shows : A → X) {s t : List X} (r : Option A) → TakesFirst shows s r t
-    → MakesProgress (λ _. Unit {0}) (λ l. at_most (length l)) s r t
-progress shows None h = record { on = λ _. tt; keeps = tt; rests = λ _. tt }
-progress shows (Some x) h = record { on = λ _. (tt, tt, omega (arith, ap length h)); keeps = tt; rests = λ _. tt }
+-- a step that leaves fewer comes to an end
+pub progress : {A X : Type 0} {s t : List X} (x : A) → length t < length s
+    → MakesProgress (λ _. Unit {0}) (λ l. at_most (length l)) s (Some x) t
+progress x fewer = record { on = λ _. (tt, tt, fewer); keeps = tt; rests = λ _. tt }
+
+pub progress-back : {A X : Type 0} (shows : A → X) {s t : List X} (x : A) → s ≡ t ++ shows x ∷ []
+    → MakesProgress (λ _. Unit {0}) (λ l. at_most (length l)) s (Some x) t
+progress-back shows {t = t} x is = progress x (omega (arith, ap length is, length-append t (shows x ∷ [])))
 
 module _ {X : Type 0} where
   -- no more than that are taken, so the place matters only where there are some

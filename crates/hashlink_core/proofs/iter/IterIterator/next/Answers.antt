@@ -1,6 +1,5 @@
-use Rattle.std.proofs.Common.{sym, ◌∙◌}
+use Rattle.std.proofs.Common.{ap, arith, length, sym, ◌∙◌}
 use Rattle.hashlink_core.proofs.Walk.{first-holds, stands-next, gives-first, progress}
-use Rattle.hashlink_core.proofs.Names.{Some, deref_pair}
 use Rattle.hashlink_core.proofs.iter.IterIterator.next.Goals as goal
 
 pub after-self-inside-requires : goal.after-self-inside-requires
@@ -19,4 +18,4 @@ returns-clause-steps g c =
     c.after-self-inside.result c.after-self-inside.ensures.next _ c.entry.ensures
 
 pub returns-clause-goes : goal.returns-clause-goes
-returns-clause-goes g c = progress deref_pair (Some _) (returns-clause-steps g c)
+returns-clause-goes g c = progress c.entry.result (omega (arith, ap length (returns-clause-steps g c)))
