@@ -58,7 +58,8 @@ pub fn iter_cmp<K: Ord, V: Ord>(mut left: Iter<'_, K, V>, mut right: Iter<'_, K,
         let Some(other) = right.next() else {
             return Ordering::Greater;
         };
-        match pair.cmp(&other) {
+        let order = pair.cmp(&other);
+        match order {
             Ordering::Equal => {}
             unequal => return unequal,
         }

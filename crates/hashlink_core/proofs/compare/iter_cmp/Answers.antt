@@ -2,5 +2,5 @@
 use Rattle.std.proofs.Common.{rules}
 use Rattle.hashlink_core.proofs.compare.iter_cmp.Goals as goal
 
-pub returns-in_default-cmp : goal.returns-in_default-cmp
-returns-in_default-cmp g c = search rules
+pub returns-in_default-order : goal.returns-in_default-order
+returns-in_default-order g c = search rules
