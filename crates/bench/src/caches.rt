@@ -4,7 +4,7 @@ use crate::plan::{Lists, Plan, Row, Turns};
 use crate::random::Choices;
 use hashlink::LruCache;
 use hashlink::weighted::WeightedCache;
-use std::alloc::{AllocError, Global};
+use std::alloc::AllocError;
 use std::io;
 
 /// A lookup of a key, and an insert where it is not there.
@@ -14,14 +14,12 @@ struct Uses {
 }
 
 impl Uses {
-    /// Of a cache that the keys went into, the first one last.
-    fn new(alloc: Global, capacity: usize, keys: &[u64]) -> Result<Self, AllocError> {
-        let cache = LruCache::new(alloc, capacity);
-        let mut uses = Uses { cache };
+    /// Uses each key, the first one last.
+    fn use_each(&mut self, keys: &[u64]) -> Result<(), AllocError> {
         for (place, key) in keys.iter().rev().enumerate() {
-            uses.call(place as u64, key)?;
+            self.call(place as u64, key)?;
         }
-        Ok(uses)
+        Ok(())
     }
 }
 
@@ -61,15 +59,17 @@ impl Row for WeightedUses {
     }
 }
 
-/// A row of a cache of that capacity.
-fn time_uses<L: Lists<u64>>(
+/// A row of a cache of that capacity, which the keys went into.
+fn time_uses<L: Lists<Uses>>(
     plan: &Plan<'_>,
     name: &str,
     capacity: usize,
     keys: &Keys,
     lists: &mut L,
 ) -> io::Result<()> {
-    let mut uses = Uses::new(keys.alloc, capacity, &keys.held)?;
+    let cache = LruCache::new(keys.alloc, capacity);
+    let mut uses = Uses { cache };
+    uses.use_each(&keys.held)?;
     plan.row(name, keys.held.len(), lists, &mut uses)
 }
 
@@ -84,20 +84,10 @@ fn time_choices(
     plan: &Plan<'_>,
     name: &str,
     keys: &Keys,
-    chosen: &mut Choices<'_>,
+    mut chosen: Choices<'_>,
 ) -> io::Result<()> {
     let half = (keys.held.len() / 2).max(1);
-    time_uses(plan, name, half, keys, chosen)
-}
-
-fn time_zipf(plan: &Plan<'_>, keys: &Keys) -> io::Result<()> {
-    let chosen = &mut Choices::zipf(keys.alloc, &keys.held);
-    time_choices(plan, "lru_zipf", keys, chosen)
-}
-
-fn time_uniform(plan: &Plan<'_>, keys: &Keys) -> io::Result<()> {
-    let chosen = &mut Choices::uniform(keys.alloc, &keys.held);
-    time_choices(plan, "lru_uniform", keys, chosen)
+    time_uses(plan, name, half, keys, &mut chosen)
 }
 
 /// Of a cache with a budget for about half of the keys, empty at first.
@@ -111,7 +101,17 @@ fn time_weighted(plan: &Plan<'_>, keys: &Keys) -> io::Result<()> {
 
 pub(crate) fn rows(plan: &Plan<'_>, keys: &Keys) -> io::Result<()> {
     time_hits(plan, keys)?;
-    time_zipf(plan, keys)?;
-    time_uniform(plan, keys)?;
+    time_choices(
+        plan,
+        "lru_zipf",
+        keys,
+        Choices::zipf(keys.alloc, &keys.held),
+    )?;
+    time_choices(
+        plan,
+        "lru_uniform",
+        keys,
+        Choices::uniform(keys.alloc, &keys.held),
+    )?;
     time_weighted(plan, keys)
 }

@@ -17,6 +17,12 @@ pub(crate) struct Keys {
     pub(crate) absent_mixed: Vec<u64>,
 }
 
+/// The keys that are held, for a row that begins with an empty container in each pass.
+#[derive(Drop)]
+pub(crate) struct Afresh<'a> {
+    pub(crate) keys: &'a Keys,
+}
+
 impl Keys {
     pub(crate) fn new(alloc: Global, size: usize) -> Result<Self, AllocError> {
         let mut random = Xorshift::new();

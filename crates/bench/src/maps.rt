@@ -1,6 +1,6 @@
 //! The rows of maps.
-use crate::keys::Keys;
-use crate::plan::{Plan, Row, Turns, fold};
+use crate::keys::{Afresh, Keys};
+use crate::plan::{Lists, Plan, Row, Turns, fold};
 use hashlink::LinkedHashMap;
 use std::alloc::{AllocError, Global};
 use std::io;
@@ -24,34 +24,22 @@ fn filled(alloc: Global, keys: &[u64]) -> Result<Map, AllocError> {
     Ok(map)
 }
 
-/// Inserts, into an empty map in each pass or into the same one. The growth of a map is timed, and its
-/// end is not.
+/// Inserts.
 #[derive(Drop)]
 struct Inserts {
-    alloc: Global,
     map: Map,
-    is_afresh: bool,
 }
 
-impl Inserts {
-    fn afresh(alloc: Global) -> Self {
-        Inserts {
-            alloc,
-            map: LinkedHashMap::new(alloc),
-            is_afresh: true,
-        }
+/// Into an empty map in each pass. The growth of a map is timed, and its end is not.
+impl Lists<Inserts> for Afresh<'_> {
+    fn list(&mut self, row: &mut Inserts) -> Result<&[u64], AllocError> {
+        row.map = LinkedHashMap::new(self.keys.alloc);
+        Ok(&self.keys.held)
     }
 }
 
 impl Row for Inserts {
     type Item = u64;
-
-    fn ready(&mut self) -> Result<(), AllocError> {
-        if self.is_afresh {
-            self.map = LinkedHashMap::new(self.alloc);
-        }
-        Ok(())
-    }
 
     #[inline]
     fn call(&mut self, place: u64, key: &u64) -> Result<u64, AllocError> {
@@ -139,19 +127,19 @@ fn pairs(alloc: Global, leave: &[u64], come: &[u64]) -> Result<Vec<(u64, u64)>, 
 }
 
 fn time_inserts(plan: &Plan<'_>, keys: &Keys) -> io::Result<()> {
-    let inserts = &mut Inserts::afresh(keys.alloc);
+    let map = LinkedHashMap::new(keys.alloc);
     plan.row(
         "insert",
         keys.held.len(),
-        &mut Turns::of(&keys.held),
-        inserts,
+        &mut Afresh { keys },
+        &mut Inserts { map },
     )
 }
 
 /// The longest insert, which is a growth.
 pub(crate) fn growth(plan: &Plan<'_>, keys: &Keys) -> io::Result<()> {
-    let inserts = &mut Inserts::afresh(keys.alloc);
-    plan.longest("insert_longest", &mut Turns::of(&keys.held), inserts)
+    let map = LinkedHashMap::new(keys.alloc);
+    plan.longest("insert_longest", &mut Afresh { keys }, &mut Inserts { map })
 }
 
 fn time_gets(plan: &Plan<'_>, name: &str, map: &Map, keys: &[u64]) -> io::Result<()> {
@@ -176,11 +164,8 @@ fn time_reads_of(plan: &Plan<'_>, keys: &Keys, map: &Map) -> io::Result<()> {
 
 /// Inserts of keys that are present, and an iterator after them: the entries' order is then random in memory.
 fn time_moves(plan: &Plan<'_>, keys: &Keys) -> io::Result<()> {
-    let mut updates = Inserts {
-        alloc: keys.alloc,
-        map: filled(keys.alloc, &keys.held)?,
-        is_afresh: false,
-    };
+    let map = filled(keys.alloc, &keys.held)?;
+    let mut updates = Inserts { map };
     time_updates(plan, keys, &mut updates)?;
     time_walks(plan, "iter_moved", &updates.map)
 }

@@ -12,19 +12,14 @@ pub(crate) trait Row {
     /// What a call is given.
     type Item;
 
-    /// Makes ready for a pass, which is not timed.
-    fn ready(&mut self) -> Result<(), AllocError> {
-        Ok(())
-    }
-
     /// The call that is timed, of an item and its place in the list. It returns the result as a number.
     fn call(&mut self, place: u64, item: &Self::Item) -> Result<u64, AllocError>;
 }
 
-/// The items of the passes.
-pub(crate) trait Lists<T> {
-    /// Those of the next pass.
-    fn list(&mut self) -> Result<&[T], AllocError>;
+/// The items of the passes of a row.
+pub(crate) trait Lists<W: Row> {
+    /// Makes the row ready for the next pass, which is not timed, and returns the items of that.
+    fn list(&mut self, row: &mut W) -> Result<&[W::Item], AllocError>;
 }
 
 /// Two lists by turns.
@@ -45,8 +40,8 @@ impl<'a, T> Turns<'a, T> {
     }
 }
 
-impl<T> Lists<T> for Turns<'_, T> {
-    fn list(&mut self) -> Result<&[T], AllocError> {
+impl<T, W: Row<Item = T>> Lists<W> for Turns<'_, T> {
+    fn list(&mut self, _row: &mut W) -> Result<&[T], AllocError> {
         (self.now, self.next) = (self.next, self.now);
         Ok(self.next)
     }
@@ -72,7 +67,7 @@ impl<'a> Plan<'a> {
     }
 
     /// Does a row and writes its line. Each pass makes so many calls.
-    pub(crate) fn row<W: Row, L: Lists<W::Item>>(
+    pub(crate) fn row<W: Row, L: Lists<W>>(
         &self,
         name: &str,
         calls: usize,
@@ -98,7 +93,7 @@ impl<'a> Plan<'a> {
     }
 
     /// Does a row and writes a line with the longest call of a pass, the least of the rounds.
-    pub(crate) fn longest<W: Row, L: Lists<W::Item>>(
+    pub(crate) fn longest<W: Row, L: Lists<W>>(
         &self,
         name: &str,
         lists: &mut L,
@@ -110,8 +105,8 @@ impl<'a> Plan<'a> {
         let mut least = u128::MAX;
         let mut sum: u64 = 0;
         for _ in 0..self.rounds {
-            row.ready()?;
-            let (answers, longest) = self.longest_call(row, lists.list()?)?;
+            let items = lists.list(row)?;
+            let (answers, longest) = self.longest_call(row, items)?;
             sum = answers;
             least = least.min(longest.as_nanos().saturating_mul(100));
         }
@@ -139,7 +134,7 @@ impl<'a> Plan<'a> {
     }
 
     /// Does so many passes.
-    fn round<W: Row, L: Lists<W::Item>>(
+    fn round<W: Row, L: Lists<W>>(
         &self,
         passes: usize,
         row: &mut W,
@@ -158,15 +153,14 @@ impl<'a> Plan<'a> {
         Ok((sum, spent))
     }
 
-    /// Makes ready, and returns the sum with the results and the time that they took.
-    fn pass<W: Row, L: Lists<W::Item>>(
+    /// Does a pass, and returns the sum with the results and the time that they took.
+    fn pass<W: Row, L: Lists<W>>(
         &self,
         row: &mut W,
         lists: &mut L,
         sum: u64,
     ) -> io::Result<(u64, Duration)> {
-        row.ready()?;
-        let items = lists.list()?;
+        let items = lists.list(row)?;
         let start = self.rt.monotonic()?;
         let sum = call_each(row, items, sum)?;
         let end = self.rt.monotonic()?;

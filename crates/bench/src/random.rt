@@ -1,5 +1,5 @@
 //! Numbers and choices that look random, the same in each run.
-use crate::plan::Lists;
+use crate::plan::{Lists, Row};
 use std::alloc::{AllocError, Global};
 
 /// Marsaglia's xorshift of 64 bits. Its numbers differ from each other over the whole period.
@@ -75,8 +75,8 @@ impl<'a> Choices<'a> {
     }
 }
 
-impl Lists<u64> for Choices<'_> {
-    fn list(&mut self) -> Result<&[u64], AllocError> {
+impl<W: Row<Item = u64>> Lists<W> for Choices<'_> {
+    fn list(&mut self, _row: &mut W) -> Result<&[u64], AllocError> {
         self.chosen.clear();
         for _ in self.keys {
             let mut part = self.keys.len() as u64;

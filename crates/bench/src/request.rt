@@ -43,10 +43,12 @@ pub(crate) struct Request {
 impl Request {
     /// Reads the arguments after the program's name, and returns `None` where they are none that it takes.
     pub(crate) fn read(alloc: Global, arguments: Args) -> Result<Option<Request>, AllocError> {
+        let mut arguments = arguments;
+        let _program = arguments.next();
         let mut kind = None;
         let mut rounds = None;
         let mut sizes = Vec::new(alloc);
-        for argument in arguments.skip(1) {
+        for argument in arguments {
             let word = argument.as_str();
             if kind.is_none() {
                 kind = Kind::named(word);

@@ -1,8 +1,8 @@
 //! The rows of sets.
-use crate::keys::Keys;
-use crate::plan::{Plan, Row, Turns, fold};
+use crate::keys::{Afresh, Keys};
+use crate::plan::{Lists, Plan, Row, Turns, fold};
 use hashlink::LinkedHashSet;
-use std::alloc::{AllocError, Global};
+use std::alloc::AllocError;
 use std::io;
 
 type Set = LinkedHashSet<u64>;
@@ -10,17 +10,18 @@ type Set = LinkedHashSet<u64>;
 /// Inserts of new elements, into an empty set in each pass.
 #[derive(Drop)]
 struct Inserts {
-    alloc: Global,
     set: Set,
+}
+
+impl Lists<Inserts> for Afresh<'_> {
+    fn list(&mut self, row: &mut Inserts) -> Result<&[u64], AllocError> {
+        row.set = LinkedHashSet::new(self.keys.alloc);
+        Ok(&self.keys.held)
+    }
 }
 
 impl Row for Inserts {
     type Item = u64;
-
-    fn ready(&mut self) -> Result<(), AllocError> {
-        self.set = LinkedHashSet::new(self.alloc);
-        Ok(())
-    }
 
     #[inline]
     fn call(&mut self, place: u64, key: &u64) -> Result<u64, AllocError> {
@@ -63,14 +64,12 @@ fn fill(set: &mut Set, even: &[u64], odd: &[u64]) -> Result<(), AllocError> {
 }
 
 fn time_inserts(plan: &Plan<'_>, keys: &Keys) -> io::Result<()> {
-    let alloc = keys.alloc;
-    let set = LinkedHashSet::new(alloc);
-    let lists = &mut Turns::of(&keys.held);
+    let set = LinkedHashSet::new(keys.alloc);
     plan.row(
         "set_insert",
         keys.held.len(),
-        lists,
-        &mut Inserts { alloc, set },
+        &mut Afresh { keys },
+        &mut Inserts { set },
     )
 }
 

@@ -1,5 +1,5 @@
 //! The rows of maps and caches whose keys are texts.
-use crate::keys::Keys;
+use crate::keys::{Afresh, Keys};
 use crate::plan::{Lists, Plan, Row, Turns, fold};
 use crate::random::Choices;
 use hashlink::{LinkedHashMap, LruCache};
@@ -18,21 +18,21 @@ fn insert_copy(map: &mut Map, text: &String, value: u64) -> Result<Option<u64>, 
 
 /// Inserts of new texts, into an empty map in each pass. The texts are made before.
 #[derive(Drop)]
-struct Inserts<'a> {
-    alloc: Global,
-    keys: &'a [u64],
+struct Inserts {
     coming: Vec<String>,
     map: Map,
 }
 
-impl Row for Inserts<'_> {
-    type Item = u64;
-
-    fn ready(&mut self) -> Result<(), AllocError> {
-        self.map = LinkedHashMap::new(self.alloc);
-        self.coming = texts(self.alloc, Form::Number, self.keys)?;
-        Ok(())
+impl Lists<Inserts> for Afresh<'_> {
+    fn list(&mut self, row: &mut Inserts) -> Result<&[u64], AllocError> {
+        row.map = LinkedHashMap::new(self.keys.alloc);
+        row.coming = texts(self.keys.alloc, Form::Number, &self.keys.held)?;
+        Ok(&self.keys.held)
     }
+}
+
+impl Row for Inserts {
+    type Item = u64;
 
     #[inline]
     fn call(&mut self, place: u64, key: &u64) -> Result<u64, AllocError> {
@@ -175,15 +175,13 @@ fn time_gets(plan: &Plan<'_>, keys: &Keys, map: &Map) -> io::Result<()> {
 /// The lookups are in the map that the last of the inserts have left.
 fn time_maps(plan: &Plan<'_>, keys: &Keys) -> io::Result<()> {
     let inserts = &mut Inserts {
-        alloc: keys.alloc,
-        keys: &keys.held,
         coming: Vec::new(keys.alloc),
         map: LinkedHashMap::new(keys.alloc),
     };
     plan.row(
         "text_insert",
         keys.held.len(),
-        &mut Turns::of(&keys.held),
+        &mut Afresh { keys },
         inserts,
     )?;
     time_gets(plan, keys, &inserts.map)
