@@ -19,10 +19,10 @@ mod two_sets;
 mod walks;
 mod weighted_calls;
 
-pub use cache_calls::{Cache, call_cache};
+pub use cache_calls::Cache;
 pub use compared::compare;
 pub use extended::say_kept;
 pub use map_calls::{Map, call_map};
 pub use set_calls::{Set, call_set};
 pub use two_sets::call_sets;
-pub use weighted_calls::{Weighted, call_weighted, weighed};
+pub use weighted_calls::{Weighted, weighed};

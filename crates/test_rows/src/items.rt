@@ -16,15 +16,13 @@ pub use answers::{Answer, Answers, Name, Named, Pair, Stop, Tally, Word, are_wri
 pub use counts::Counts;
 pub use entry_call::{Ask, EndedCall, EntryCall, Give, Make, Put, PutVacant, There, Vacant};
 pub use items::{Home, Item};
-pub use keep::{
-    Asked, Keep, Retain, has_room, is_even, is_other, is_raised, read_keep, read_keep_of,
-};
-pub use line::{Line, Read, push, push_rest, rest_of};
+pub use keep::{Asked, KEEPS, Keep, Retain, has_room, is_even, is_other, is_raised, read_keep};
+pub use line::{Line, Read, push, rest_of};
 pub use raw_call::{RawAsk, RawCall, RawGive, RawPut, RawThere};
 pub use said::{
     done, given, given_item, lent, lent_item, made, made_with_room, no_memory, no_memory_after,
     put, room, set, shown, taken, taken_pair, write, write_item, write_pair,
 };
-pub use steps::Step;
-pub use walk::{Walk, hinted, walk_and_clone, walk_or_forget, walk_whole};
+pub use steps::{Goes, Step};
+pub use walk::{Walk, walk_and_clone, walk_or_forget, walk_whole};
 pub use words::Words;

@@ -2,7 +2,7 @@
 use crate::hashers::Hashing;
 use crate::items::{Answer, Answers, Home, Name, Stop, Word, Words, are_written, number, push};
 use crate::row::cut;
-use crate::spoken::{Voice, say_pairs, say_room, say_word, say_words};
+use crate::spoken::{Stands, Voice, say_pairs, say_room, say_word, say_words};
 use crate::texts::refuse;
 use hashlink::run::{
     CacheCommand, Command, EntryStep, Pair, PairCommand, Reply, Uses, run, run_cache, run_pair,
@@ -14,9 +14,6 @@ use std::alloc::{AllocError, Global};
 
 /// A container that runs a list of commands.
 pub trait Listed: Sized {
-    /// An empty one, of this capacity if it has one.
-    fn make(home: Home<'_>, capacity: usize) -> Self;
-
     /// Runs these lines as one list, and says the replies. It returns whether it had the memory for them.
     fn run(
         &mut self,
@@ -25,16 +22,9 @@ pub trait Listed: Sized {
         seen: Seen,
         answers: &mut Answers,
     ) -> Result<bool, Stop>;
-
-    /// Says its length, its capacity and its pairs.
-    fn stand(&self, rt: &HostRuntime);
 }
 
 impl Listed for LinkedHashMap<u64, u64, Hashing> {
-    fn make(home: Home<'_>, _capacity: usize) -> LinkedHashMap<u64, u64, Hashing> {
-        LinkedHashMap::with_hasher(home.alloc, home.hashing)
-    }
-
     fn run(
         &mut self,
         alloc: Global,
@@ -45,18 +35,9 @@ impl Listed for LinkedHashMap<u64, u64, Hashing> {
         let commands = commands_of(alloc, lines)?;
         say_all(replies_of(self, commands, seen), answers)
     }
-
-    fn stand(&self, rt: &HostRuntime) {
-        say_room(rt, self.len(), self.capacity());
-        say_pairs(rt, self.iter());
-    }
 }
 
 impl Listed for LruCache<u64, u64, Hashing> {
-    fn make(home: Home<'_>, capacity: usize) -> LruCache<u64, u64, Hashing> {
-        LruCache::with_hasher(home.alloc, capacity, home.hashing)
-    }
-
     fn run(
         &mut self,
         alloc: Global,
@@ -66,11 +47,6 @@ impl Listed for LruCache<u64, u64, Hashing> {
     ) -> Result<bool, Stop> {
         let commands = commands_of(alloc, lines)?;
         say_all(replies_of_cache(self, commands, seen), answers)
-    }
-
-    fn stand(&self, rt: &HostRuntime) {
-        say_room(rt, self.len(), self.capacity());
-        say_pairs(rt, self.iter());
     }
 }
 
@@ -128,17 +104,9 @@ trait Parsed: Sized {
 fn commands_of<C: Parsed + Drop>(alloc: Global, lines: &[&str]) -> Result<Vec<C>, Stop> {
     let mut commands = Vec::with_capacity(alloc, lines.len())?;
     for line in lines {
-        push_command(&mut commands, alloc, line)?;
+        push(&mut commands, C::parsed(alloc, cut(line).0)?)?;
     }
     Ok(commands)
-}
-
-fn push_command<C: Parsed + Drop>(
-    commands: &mut Vec<C>,
-    alloc: Global,
-    line: &str,
-) -> Result<(), Stop> {
-    push(commands, C::parsed(alloc, cut(line).0)?)
 }
 
 impl Parsed for Command<u64, u64> {
@@ -209,7 +177,7 @@ fn said(reply: Reply<u64, u64>) -> Answer {
 
 /// Runs the lines in two halves, each as one list, or as one list with a closure that is true of every pair,
 /// and returns whether each reply is the one that is written.
-pub fn are_runs_right<C: Listed + Drop>(
+pub fn are_runs_right<C: Listed + Stands + Drop>(
     capacity: usize,
     is_one: bool,
     home: Home<'_>,
@@ -232,7 +200,7 @@ pub fn are_runs_right<C: Listed + Drop>(
     are_halves_right(&mut container, home.alloc, &lines, answers, voice)
 }
 
-fn are_halves_right<C: Listed>(
+fn are_halves_right<C: Listed + Stands>(
     container: &mut C,
     alloc: Global,
     lines: &[&str],
@@ -246,7 +214,7 @@ fn are_halves_right<C: Listed>(
     )
 }
 
-fn is_run_right<C: Listed>(
+fn is_run_right<C: Listed + Stands>(
     container: &mut C,
     alloc: Global,
     lines: &[&str],
@@ -271,7 +239,7 @@ fn say_run(is_run: bool, answers: &mut Answers, voice: Voice<'_>) {
     }
 }
 
-fn say_stand<C: Listed>(container: &C, voice: Voice<'_>) {
+fn say_stand<C: Stands>(container: &C, voice: Voice<'_>) {
     if let Some(rt) = voice {
         container.stand(rt);
         let _ = println!(rt; "");
@@ -298,12 +266,20 @@ fn are_replies_written(lines: &[&str], replies: &[Word]) -> bool {
 /// How many replies a line has: each step of a cursor has its own.
 fn count_replies(call: &str) -> usize {
     match call.strip_prefix("cursor ") {
-        Some(steps) => steps
-            .split(' ')
-            .filter(|word| number(word).is_none())
-            .count(),
+        Some(steps) => count_names(steps),
         None => 1,
     }
+}
+
+/// How many of the words are no numbers.
+fn count_names(words: &str) -> usize {
+    let mut count = 0usize;
+    for word in words.split(' ') {
+        if number(word).is_none() {
+            count = count.saturating_add(1);
+        }
+    }
+    count
 }
 
 /// Runs the lines on two caches. What they find is judged beside the plain list alone. The number of a key is
@@ -370,15 +346,15 @@ pub fn run_lines_of_uses(
 
 /// The pairs that the lines use.
 fn uses_of(alloc: Global, lines: &str) -> Result<Vec<(Name, u64)>, Stop> {
-    let commands = commands_of_pair(alloc, lines)?;
-    Ok(commands.iter().filter_map(used).collect(alloc)?)
-}
-
-fn used(command: &PairCommand<Name, u64>) -> Option<(Name, u64)> {
-    match *command {
-        PairCommand::Use(key, value) => Some((key, value)),
-        _ => None,
+    let mut pairs = Vec::new(alloc);
+    let mut number = 0u64;
+    for line in lines.split('\n') {
+        number = number.saturating_add(1);
+        if let Some(PairCommand::Use(group, value)) = pair_command(line.as_bytes()) {
+            push(&mut pairs, (Name { group, number }, value))?;
+        }
     }
+    Ok(pairs)
 }
 
 /// Says what a cache found, and what then stands in it.

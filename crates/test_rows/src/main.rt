@@ -31,12 +31,13 @@ use std::{env, fs};
 
 fn main(rt: HostRuntime) -> ExitCode {
     let mut tally = Tally::default();
-    let Ok(words) = env::args(&rt) else {
+    let Ok(mut words) = env::args(&rt) else {
         return ExitCode::SUCCESS;
     };
+    let _program = words.next();
     let mut is_said = false;
     let mut are_right = true;
-    for word in words.skip(1) {
+    for word in words {
         if word.as_str() == "--say" {
             is_said = true;
         } else {
@@ -58,8 +59,10 @@ fn end(rt: &HostRuntime, is_said: bool, tally: Tally) {
         left_out,
     } = tally;
     if is_said || refused > 0 || left_out > 0 {
-        let _ = print!(rt; "{rows} rows: each answer is right, and {refused} of them refused; ");
-        let _ = println!(rt; "{left_out} rows had no memory of their own");
+        let _ = println!(rt;
+            "{rows} rows: each answer is right, and {refused} of them refused; {left_out} rows had no memory \
+             of their own"
+        );
     } else {
         let _ = println!(rt; "each answer is right");
     }

@@ -4,7 +4,7 @@ use crate::hashers::Hashing;
 use crate::items::{Answers, Line, Name, Stop, Word, Words, are_written};
 use crate::lists::{Listed, are_runs_right, run_lines_of_pair, run_lines_of_uses};
 use crate::row::{Row, Why, Wrong, cut, words_of};
-use crate::spoken::{Spoken, Voice, say_words};
+use crate::spoken::{Spoken, Stands, Voice, say_words};
 use crate::texts::is_text_right;
 use hashlink::{LinkedHashMap, LinkedHashSet, LruCache};
 
@@ -67,13 +67,6 @@ const ALONE: [(&str, Alone); 3] = [
     ("text", Alone::Text),
 ];
 
-impl Alone {
-    /// What the next word names, if it is one of these.
-    fn known(words: &mut Words<'_>) -> Option<Alone> {
-        words.known(&ALONE)
-    }
-}
-
 /// What the lines of a row call.
 #[derive(Clone, Copy)]
 enum Called {
@@ -98,19 +91,12 @@ const CALLED: [(&str, Called); 8] = [
     ("copied_set", Called::CopiedSet),
 ];
 
-impl Called {
-    /// What the next word names.
-    fn read(words: &mut Words<'_>) -> Result<Called, Stop> {
-        words.named(&CALLED)
-    }
-}
-
 fn run<'f>(row: Row<'f>, line: &mut Line<'f>, voice: Voice<'_>) -> Result<Option<Wrong<'f>>, Stop> {
     line.words = Words::new(row.mode);
     if let Some(hashing) = line.words.known(&HASHERS) {
         return under(row, hashing, line, voice);
     }
-    match Alone::known(&mut line.words) {
+    match line.words.known(&ALONE) {
         Some(kind) => whole(is_right_alone(row, kind, line, voice)),
         None => each(row, line, voice),
     }
@@ -160,7 +146,7 @@ fn under<'f>(
 ) -> Result<Option<Wrong<'f>>, Stop> {
     head(row, hashing, voice);
     line.home.hashing = hashing;
-    match Called::read(&mut line.words)? {
+    match line.words.named(&CALLED)? {
         Called::Map => speak::<Map>(row, line, voice),
         Called::Set => speak::<Set>(row, line, voice),
         Called::Cache => speak::<Cache>(row, line, voice),
@@ -174,7 +160,7 @@ fn under<'f>(
 
 /// Runs a list of commands to an empty container, of the capacity that comes next if it has one, at once
 /// where the words say so.
-fn list<'f, C: Listed + Drop>(
+fn list<'f, C: Listed + Stands + Drop>(
     row: Row<'f>,
     line: &mut Line<'f>,
     voice: Voice<'_>,
@@ -196,7 +182,7 @@ fn whole<'f>(is_right: Result<bool, Stop>) -> Result<Option<Wrong<'f>>, Stop> {
 }
 
 /// Speaks to two empty containers, of the capacity that comes next if they have one.
-fn speak<'f, C: Spoken + Drop>(
+fn speak<'f, C: Spoken + Stands + Drop>(
     row: Row<'f>,
     line: &mut Line<'f>,
     voice: Voice<'_>,
@@ -226,7 +212,7 @@ struct Speech<C> {
     is_sure: bool,
 }
 
-impl<C: Spoken> Speech<C> {
+impl<C: Spoken + Stands> Speech<C> {
     /// What is wrong with the lines of the row, if anything is.
     fn wrong<'f>(
         &mut self,
@@ -261,8 +247,9 @@ impl<C: Spoken> Speech<C> {
             line.words = Words { n, ..words };
             line.answers.words.clear();
             match self.call(line) {
-                Err(Stop::Unread) => return Ok(Some(Wrong::Line(number, text, Why::Unread))),
-                called => called?,
+                Ok(()) if !line.words.is_unread => {}
+                Err(Stop::Memory) => return Err(Stop::Memory),
+                _ => return Ok(Some(Wrong::Line(number, text, Why::Unread))),
             }
             self.say(&line.answers, voice);
             if let Some(wrong) = self.judge((number, text), wanted, line) {
@@ -294,18 +281,8 @@ impl<C: Spoken> Speech<C> {
             .saturating_add(self.second.count_items())
     }
 
-    /// Makes the call that the words say.
+    /// Makes the call that the words say, of the first container, and after `other` of the second.
     fn call(&mut self, line: &mut Line<'_>) -> Result<(), Stop> {
-        self.call_one(line)?;
-        if line.words.is_unread {
-            Err(Stop::Unread)
-        } else {
-            Ok(())
-        }
-    }
-
-    /// Makes a call of the first container, and after `other` of the second.
-    fn call_one(&mut self, line: &mut Line<'_>) -> Result<(), Stop> {
         if line.words.has("other") {
             return self.second.call(&self.first, line);
         }

@@ -1,11 +1,10 @@
 //! Containers that are called by the lines of a row, and what is said of them.
-use crate::calls::{
-    Cache, Map, Set, Weighted, call_cache, call_map, call_set, call_sets, call_weighted, compare,
-    weighed,
-};
+use crate::calls::{Map, Set, Weighted, call_map, call_set, call_sets, compare, weighed};
+use crate::hashers::Hashing;
 use crate::items::{Home, Line, Named, Stop, Word};
 use hashlink::weighted::WeightedCache;
-use hashlink::{LinkedHashMap, LinkedHashSet, LruCache, linked_hash_map, linked_hash_set};
+use hashlink::{LinkedHashMap, LinkedHashSet, LruCache, linked_hash_map};
+use std::hash::Hash;
 
 /// Where it is said what comes and what stands: nowhere, unless the program is asked to.
 pub type Voice<'v> = Option<&'v HostRuntime>;
@@ -35,82 +34,42 @@ pub fn say_pairs<K: Named, V: Named>(rt: &HostRuntime, pairs: linked_hash_map::I
     }
 }
 
-pub fn say_elements<T: Named>(rt: &HostRuntime, elements: linked_hash_set::Iter<'_, T>) {
-    for element in elements {
-        say_word(rt, Word::item(element.name()));
-    }
-}
-
-/// A container that is called by the lines of a row.
-pub trait Spoken: Sized {
+/// A container of a row.
+pub trait Stands: Sized {
     /// An empty one, of this capacity or budget if it has one.
     fn make(home: Home<'_>, capacity: usize) -> Self;
-
-    /// Makes the call that the words say, after `both` one of the two, if there are such calls.
-    fn call(&mut self, other: &Self, line: &mut Line<'_>) -> Result<(), Stop>;
-
-    /// How many items it holds.
-    fn count_items(&self) -> usize;
 
     /// Says its length, its capacity or what it has of one, and its pairs.
     fn stand(&self, rt: &HostRuntime);
 }
 
-impl Spoken for Map {
-    fn make(home: Home<'_>, _capacity: usize) -> Map {
+impl<K: Named + Eq + Hash + Drop, V: Named + Drop> Stands for LinkedHashMap<K, V, Hashing> {
+    fn make(home: Home<'_>, _capacity: usize) -> LinkedHashMap<K, V, Hashing> {
         LinkedHashMap::with_hasher(home.alloc, home.hashing)
     }
 
-    fn call(&mut self, other: &Map, line: &mut Line<'_>) -> Result<(), Stop> {
-        if line.words.has("both") {
-            return compare(self, other, line);
-        }
-        call_map(self, line)
-    }
-
-    fn count_items(&self) -> usize {
-        self.len().saturating_mul(2)
-    }
-
     fn stand(&self, rt: &HostRuntime) {
         say_room(rt, self.len(), self.capacity());
         say_pairs(rt, self.iter());
     }
 }
 
-impl Spoken for Set {
-    fn make(home: Home<'_>, _capacity: usize) -> Set {
+impl<T: Named + Eq + Hash + Drop> Stands for LinkedHashSet<T, Hashing> {
+    fn make(home: Home<'_>, _capacity: usize) -> LinkedHashSet<T, Hashing> {
         LinkedHashSet::with_hasher(home.alloc, home.hashing)
     }
 
-    fn call(&mut self, other: &Set, line: &mut Line<'_>) -> Result<(), Stop> {
-        if line.words.has("both") {
-            return call_sets(self, other, line);
-        }
-        call_set(self, line)
-    }
-
-    fn count_items(&self) -> usize {
-        self.len()
-    }
-
     fn stand(&self, rt: &HostRuntime) {
         say_room(rt, self.len(), self.capacity());
-        say_elements(rt, self.iter());
+        for element in self.iter() {
+            say_word(rt, Word::item(element.name()));
+        }
     }
 }
 
-impl Spoken for Cache {
-    fn make(home: Home<'_>, capacity: usize) -> Cache {
+impl<K: Named + Eq + Hash + Drop, V: Named + Drop> Stands for LruCache<K, V, Hashing> {
+    fn make(home: Home<'_>, capacity: usize) -> LruCache<K, V, Hashing> {
         LruCache::with_hasher(home.alloc, capacity, home.hashing)
-    }
-
-    fn call(&mut self, _other: &Cache, line: &mut Line<'_>) -> Result<(), Stop> {
-        call_cache(self, line)
-    }
-
-    fn count_items(&self) -> usize {
-        self.len().saturating_mul(2)
     }
 
     fn stand(&self, rt: &HostRuntime) {
@@ -119,17 +78,9 @@ impl Spoken for Cache {
     }
 }
 
-impl Spoken for Weighted {
+impl Stands for Weighted {
     fn make(home: Home<'_>, capacity: usize) -> Weighted {
         WeightedCache::with_hasher(home.alloc, capacity as u64, home.hashing)
-    }
-
-    fn call(&mut self, _other: &Weighted, line: &mut Line<'_>) -> Result<(), Stop> {
-        call_weighted(self, line)
-    }
-
-    fn count_items(&self) -> usize {
-        self.len().saturating_mul(2)
     }
 
     fn stand(&self, rt: &HostRuntime) {
@@ -138,5 +89,40 @@ impl Spoken for Weighted {
         for entry in self.iter() {
             say_word(rt, weighed(entry));
         }
+    }
+}
+
+/// A container that is called by the lines of a row.
+pub trait Spoken: Sized {
+    /// How many items it holds.
+    fn count_items(&self) -> usize;
+
+    /// Makes the call that the words say, after `both` one of the two, if there are such calls.
+    fn call(&mut self, other: &Self, line: &mut Line<'_>) -> Result<(), Stop>;
+}
+
+impl Spoken for Map {
+    fn count_items(&self) -> usize {
+        self.len().saturating_mul(2)
+    }
+
+    fn call(&mut self, other: &Map, line: &mut Line<'_>) -> Result<(), Stop> {
+        if line.words.has("both") {
+            return compare(self, other, line);
+        }
+        call_map(self, line)
+    }
+}
+
+impl Spoken for Set {
+    fn count_items(&self) -> usize {
+        self.len()
+    }
+
+    fn call(&mut self, other: &Set, line: &mut Line<'_>) -> Result<(), Stop> {
+        if line.words.has("both") {
+            return call_sets(self, other, line);
+        }
+        call_set(self, line)
     }
 }

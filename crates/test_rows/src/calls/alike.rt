@@ -12,7 +12,7 @@ pub fn say_steps<'s, I: Iterator<Item = &'s Item> + Clone>(
     requires { (s : I) → I.can_next s }
 {
     let Some(steps) = steps else {
-        return say_all(&mut first, line);
+        return say_all(first, line);
     };
     for _ in 0..steps.group {
         line.say_all(&next_step(&mut first))?;
@@ -21,35 +21,22 @@ pub fn say_steps<'s, I: Iterator<Item = &'s Item> + Clone>(
 }
 
 fn say_all<'s, I: Iterator<Item = &'s Item> + Clone>(
-    first: &mut I,
+    mut first: I,
     line: &mut Line<'_>,
 ) -> Result<(), Stop>
     requires { (s : I) → I.can_next s }
 {
-    let step = next_step(first);
+    let mut step = next_step(&mut first);
     line.say_all(&step)?;
-    if step[2] == Word::Nothing {
-        return say_end(first, line);
-    }
     let mut clone = first.clone()?;
-    say_alike(first, &mut clone, line)
-}
-
-fn say_alike<'s, I: Iterator<Item = &'s Item>>(
-    first: &mut I,
-    clone: &mut I,
-    line: &mut Line<'_>,
-) -> Result<(), Stop>
-    requires { (s : I) → I.can_next s }
-{
     for _ in 0..64 {
-        let step = next_step(first);
-        line.say_all(&step)?;
-        if next_step(clone) != step {
-            line.say(Word::Wrong)?;
-        }
         if step[2] == Word::Nothing {
-            return say_end(first, line);
+            return say_end(&mut first, line);
+        }
+        step = next_step(&mut first);
+        line.say_all(&step)?;
+        if next_step(&mut clone) != step {
+            line.say(Word::Wrong)?;
         }
     }
     Err(Stop::Unread)
@@ -70,6 +57,9 @@ fn next_step<'s, I: Iterator<Item = &'s Item>>(walk: &mut I) -> [Word; 3]
     requires { (s : I) → I.can_next s }
 {
     let (least, most) = walk.size_hint();
-    let most = most.map_or(Word::Nothing, Word::count);
+    let most = match most {
+        Some(most) => Word::count(most),
+        None => Word::Nothing,
+    };
     [Word::count(least), most, lent_item(walk.next())]
 }

@@ -4,9 +4,10 @@ use crate::calls::called::{LooksUp, TakesPair, look_up, put_pair};
 use crate::calls::entries::not_made;
 use crate::hashers::Hashing;
 use crate::items::{
-    Answer, Item, Line, Name, Stop, Word, Words, given, given_item, lent, lent_item, made,
-    no_memory, put, write, write_item,
+    Answer, Item, Line, Name, Stop, Word, given, given_item, lent, lent_item, made, no_memory, put,
+    write, write_item,
 };
+use crate::spoken::Spoken;
 use hashlink_lru::LruCache;
 
 pub type Cache = LruCache<Item, Item, Hashing>;
@@ -15,9 +16,7 @@ pub type Cache = LruCache<Item, Item, Hashing>;
 #[derive(Clone, Copy)]
 enum CacheCall {
     /// Nothing.
-    Read(ReadCall),
-    /// Nothing.
-    End(EndCall),
+    Bare(BareCall),
     /// A key, and after a call that lends the value for writing what is then written to it.
     Key(KeyCall),
     /// A pair, and after a call that lends the value for writing what is then written to it.
@@ -29,15 +28,15 @@ enum CacheCall {
 }
 
 const CALLS: [(&str, CacheCall); 22] = [
-    ("len", CacheCall::Read(ReadCall::Len)),
-    ("is_empty", CacheCall::Read(ReadCall::IsEmpty)),
-    ("capacity", CacheCall::Read(ReadCall::Capacity)),
-    ("peek_lru", CacheCall::Read(ReadCall::PeekLru)),
-    ("back", CacheCall::Read(ReadCall::Back)),
-    ("make_room", CacheCall::End(EndCall::MakeRoom)),
-    ("remove_lru", CacheCall::End(EndCall::RemoveLru)),
-    ("clear", CacheCall::End(EndCall::Clear)),
-    ("clone", CacheCall::End(EndCall::Clone)),
+    ("len", CacheCall::Bare(BareCall::Len)),
+    ("is_empty", CacheCall::Bare(BareCall::IsEmpty)),
+    ("capacity", CacheCall::Bare(BareCall::Capacity)),
+    ("peek_lru", CacheCall::Bare(BareCall::PeekLru)),
+    ("back", CacheCall::Bare(BareCall::Back)),
+    ("make_room", CacheCall::Bare(BareCall::MakeRoom)),
+    ("remove_lru", CacheCall::Bare(BareCall::RemoveLru)),
+    ("clear", CacheCall::Bare(BareCall::Clear)),
+    ("clone", CacheCall::Bare(BareCall::Clone)),
     ("get", CacheCall::Key(KeyCall::Get)),
     ("peek", CacheCall::Key(KeyCall::Peek)),
     ("contains_key", CacheCall::Key(KeyCall::ContainsKey)),
@@ -56,68 +55,56 @@ const CALLS: [(&str, CacheCall); 22] = [
     ("set_capacity", CacheCall::SetCapacity),
 ];
 
-impl CacheCall {
-    /// The call that the next word names, if it is one of these.
-    fn known(words: &mut Words<'_>) -> Option<CacheCall> {
-        words.known(&CALLS)
+impl Spoken for Cache {
+    fn count_items(&self) -> usize {
+        self.len().saturating_mul(2)
     }
-}
 
-/// Makes the call that a line says.
-pub fn call_cache(cache: &mut Cache, line: &mut Line<'_>) -> Result<(), Stop> {
-    match CacheCall::known(&mut line.words) {
-        Some(CacheCall::Read(call)) => line.say(read(cache, call)),
-        Some(CacheCall::End(call)) => line.say(call_at_end(cache, call)),
-        Some(CacheCall::Key(call)) => look_up(cache, call, line),
-        Some(CacheCall::Pair(call)) => put_pair(cache, call, line),
-        Some(CacheCall::GetOrTryInsertWith) => get_or_try_insert(cache, line),
-        Some(CacheCall::SetCapacity) => {
-            cache.set_capacity(line.words.size());
-            line.say(Word::Done)
+    fn call(&mut self, _other: &Cache, line: &mut Line<'_>) -> Result<(), Stop> {
+        match line.words.known(&CALLS) {
+            Some(CacheCall::Bare(call)) => line.say(call_bare(self, call)),
+            Some(CacheCall::Key(call)) => look_up(self, call, line),
+            Some(CacheCall::Pair(call)) => put_pair(self, call, line),
+            Some(CacheCall::GetOrTryInsertWith) => get_or_try_insert(self, line),
+            Some(CacheCall::SetCapacity) => {
+                self.set_capacity(line.words.size());
+                line.say(Word::Done)
+            }
+            None => call_many(self, line),
         }
-        None => call_many(cache, line),
     }
 }
 
 #[derive(Clone, Copy)]
-enum ReadCall {
+enum BareCall {
     Len,
     IsEmpty,
     Capacity,
     PeekLru,
     Back,
-}
-
-fn read(cache: &Cache, call: ReadCall) -> Word {
-    match call {
-        ReadCall::Len => Word::count(cache.len()),
-        ReadCall::IsEmpty => Word::Is(cache.is_empty()),
-        ReadCall::Capacity => Word::count(cache.capacity()),
-        ReadCall::PeekLru => lent(cache.peek_lru()),
-        ReadCall::Back => lent(cache.back()),
-    }
-}
-
-#[derive(Clone, Copy)]
-enum EndCall {
     MakeRoom,
     RemoveLru,
     Clear,
     Clone,
 }
 
-fn call_at_end(cache: &mut Cache, call: EndCall) -> Word {
+fn call_bare(cache: &mut Cache, call: BareCall) -> Word {
     match call {
-        EndCall::MakeRoom => {
+        BareCall::Len => Word::count(cache.len()),
+        BareCall::IsEmpty => Word::Is(cache.is_empty()),
+        BareCall::Capacity => Word::count(cache.capacity()),
+        BareCall::PeekLru => lent(cache.peek_lru()),
+        BareCall::Back => lent(cache.back()),
+        BareCall::MakeRoom => {
             cache.make_room();
             Word::Done
         }
-        EndCall::RemoveLru => given(cache.remove_lru()),
-        EndCall::Clear => {
+        BareCall::RemoveLru => given(cache.remove_lru()),
+        BareCall::Clear => {
             cache.clear();
             Word::Done
         }
-        EndCall::Clone => {
+        BareCall::Clone => {
             let clone = cache.clone();
             made(cache, clone)
         }
@@ -164,7 +151,10 @@ impl TakesPair<PairCall> for Cache {
         match call {
             PairCall::Insert => put(self.insert(key, value)),
             PairCall::Push => pushed(self.push(key, value)),
-            PairCall::GetOrInsertWith => get_or_insert(self, key, value, new),
+            PairCall::GetOrInsertWith => match self.get_or_insert_with(key, || value) {
+                Ok(lent) => Answer::Word(write_item(lent, new)),
+                Err(pair) => no_memory(pair),
+            },
         }
     }
 }
@@ -173,13 +163,6 @@ impl TakesPair<PairCall> for Cache {
 fn pushed(left: Result<Option<(Item, Item)>, (Item, Item)>) -> Answer {
     match left {
         Ok(left) => Answer::Word(given(left)),
-        Err(pair) => no_memory(pair),
-    }
-}
-
-fn get_or_insert(cache: &mut Cache, key: Item, value: Item, new: Option<Name>) -> Answer {
-    match cache.get_or_insert_with(key, || value) {
-        Ok(lent) => Answer::Word(write_item(lent, new)),
         Err(pair) => no_memory(pair),
     }
 }

@@ -5,7 +5,7 @@ use crate::calls::extended::{Extension, TakesMany, extended, extended_by_trait, 
 use crate::calls::map_calls::call_map;
 use crate::calls::raw_entries::{call_found, put_found};
 use crate::items::{
-    Answer, EntryCall, Item, Keep, Line, RawCall, RawGive, Stop, Word, Words, is_even, is_raised,
+    Answer, EntryCall, Item, KEEPS, Keep, Line, RawCall, RawGive, Stop, Word, is_even, is_raised,
     lent, walk_and_clone, walk_whole,
 };
 use hashlink_lru::LruCache;
@@ -24,8 +24,12 @@ enum ManyCall {
     Walk(WalkCall),
     /// A call of the cache's map.
     Inside,
-    /// What an entry does.
-    Entry(EntryWord),
+    /// A key, and a call of its entry.
+    Entry,
+    /// A way to look a key up, the key, and a call of its raw entry.
+    Raw,
+    /// A way and a key.
+    RawRead,
 }
 
 const CALLS: [(&str, ManyCall); 16] = [
@@ -42,26 +46,21 @@ const CALLS: [(&str, ManyCall); 16] = [
     ("drain", ManyCall::Walk(WalkCall::Drain)),
     ("into_iter", ManyCall::Walk(WalkCall::IntoIter)),
     ("inside", ManyCall::Inside),
-    ("entry", ManyCall::Entry(EntryWord::Entry)),
-    ("raw", ManyCall::Entry(EntryWord::Raw)),
-    ("raw_read", ManyCall::Entry(EntryWord::RawRead)),
+    ("entry", ManyCall::Entry),
+    ("raw", ManyCall::Raw),
+    ("raw_read", ManyCall::RawRead),
 ];
-
-impl ManyCall {
-    /// The call that the next word names.
-    fn read(words: &mut Words<'_>) -> Result<ManyCall, Stop> {
-        words.named(&CALLS)
-    }
-}
 
 /// Makes the call that a line says, if it is one of these.
 pub fn call_many(cache: &mut Cache, line: &mut Line<'_>) -> Result<(), Stop> {
-    match ManyCall::read(&mut line.words)? {
+    match line.words.named(&CALLS)? {
         ManyCall::Extend(call) => put_rest(cache, call, line),
         ManyCall::Retain(is_lent) => retain(cache, is_lent, line),
         ManyCall::Walk(call) => walk_cache(cache, call, line),
         ManyCall::Inside => call_map(cache.map_mut(), line),
-        ManyCall::Entry(call) => call_of_entry(cache, call, line),
+        ManyCall::Entry => call_entry_of(cache, line),
+        ManyCall::Raw => call_raw(cache, line),
+        ManyCall::RawRead => read_raw(cache, line),
     }
 }
 
@@ -76,7 +75,7 @@ impl TakesMany<(Item, Item)> for Cache {
 }
 
 fn retain(cache: &mut Cache, is_lent: bool, line: &mut Line<'_>) -> Result<(), Stop> {
-    let keep = Keep::read(&mut line.words)?;
+    let keep = line.words.named(&KEEPS)?;
     line.say(keep_some(cache, is_lent, keep))
 }
 
@@ -116,25 +115,6 @@ fn walk_cache(cache: &mut Cache, call: WalkCall, line: &mut Line<'_>) -> Result<
 fn take(cache: &mut Cache, alloc: Global) -> Cache {
     let empty = LruCache::with_hasher(alloc, cache.capacity(), *cache.hasher());
     mem::replace(cache, empty)
-}
-
-/// A call of an entry, by what follows its name.
-#[derive(Clone, Copy)]
-enum EntryWord {
-    /// A key, and a call of its entry.
-    Entry,
-    /// A way to look a key up, the key, and a call of its raw entry.
-    Raw,
-    /// A way and a key.
-    RawRead,
-}
-
-fn call_of_entry(cache: &mut Cache, call: EntryWord, line: &mut Line<'_>) -> Result<(), Stop> {
-    match call {
-        EntryWord::Entry => call_entry_of(cache, line),
-        EntryWord::Raw => call_raw(cache, line),
-        EntryWord::RawRead => read_raw(cache, line),
-    }
 }
 
 /// Makes the call of the entry of a key that the words say.

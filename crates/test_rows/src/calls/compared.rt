@@ -1,5 +1,5 @@
 //! Comparisons of two containers.
-use crate::items::{Line, Stop, Word, Words};
+use crate::items::{Line, Stop, Word};
 use hashlink_map::DefaultHashBuilder;
 use std::cmp::Ordering;
 use std::hash::{BuildHasher, Hash};
@@ -19,17 +19,10 @@ const COMPARISONS: [(&str, Comparison); 4] = [
     ("hash", Comparison::Hash),
 ];
 
-impl Comparison {
-    /// The comparison that the next word names.
-    fn read(words: &mut Words<'_>) -> Result<Comparison, Stop> {
-        words.named(&COMPARISONS)
-    }
-}
-
 /// Compares two containers by `eq`, `cmp` or `partial_cmp`, each way round, or says whether they feed a
 /// hasher the same.
 pub fn compare<C: Ord + Hash>(one: &C, other: &C, line: &mut Line<'_>) -> Result<(), Stop> {
-    match Comparison::read(&mut line.words)? {
+    match line.words.named(&COMPARISONS)? {
         Comparison::Eq => line.say(equal(one, other)),
         Comparison::Less => line.say(less(one, other)),
         Comparison::Cmp => line.say_all(&ordered(one, other)),

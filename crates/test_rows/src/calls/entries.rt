@@ -27,20 +27,22 @@ pub fn call_entry(entry: InHand<'_>, call: EntryCall, line: &mut Line<'_>) -> Re
 
 fn answer_at(entry: InHand<'_>, call: EndedCall) -> Answer {
     match call {
-        EndedCall::Ask(call, new) => Answer::Word(ask_at(entry, call, new)),
+        EndedCall::Ask(Ask::Key, _) => Answer::Word(Word::item(entry.key().name())),
+        EndedCall::Ask(Ask::Modify, new) => Answer::Word(modify(entry, new)),
+        EndedCall::Ask(Ask::There(call), new) => Answer::Word(ask_there(entry, call, new)),
+        EndedCall::Ask(Ask::Vacant(call), _) => Answer::Word(ask_vacant(entry, call)),
         EndedCall::Give(Give::Make(make), value, new) => make_at(entry, make, value, new),
         EndedCall::Give(Give::Put(put), value, _) => Answer::Word(put_at(entry, put, value)),
-        EndedCall::Give(Give::PutVacant(put), value, new) => put_vacant(entry, put, value, new),
+        EndedCall::Give(Give::PutVacant(PutVacant::Insert), value, new) => {
+            insert(entry, value, new)
+        }
+        EndedCall::Give(Give::PutVacant(PutVacant::InsertEntry), value, _) => {
+            insert_entry(entry, value, false)
+        }
+        EndedCall::Give(Give::PutVacant(PutVacant::Take), value, _) => {
+            insert_entry(entry, value, true)
+        }
         EndedCall::TryMake(made, new) => try_make_at(entry, made, new),
-    }
-}
-
-fn ask_at(entry: InHand<'_>, call: Ask, new: Option<Name>) -> Word {
-    match call {
-        Ask::Key => Word::item(entry.key().name()),
-        Ask::Modify => modify(entry, new),
-        Ask::There(call) => ask_there(entry, call, new),
-        Ask::Vacant(call) => ask_vacant(entry, call),
     }
 }
 
@@ -120,14 +122,6 @@ fn put_at(entry: InHand<'_>, put: Put, value: Item) -> Word {
             Put::ReplaceEntry => taken_pair(entry.replace_entry(value)),
         },
         Entry::Vacant(_vacant) => Word::Nothing,
-    }
-}
-
-fn put_vacant(entry: InHand<'_>, put: PutVacant, value: Item, new: Option<Name>) -> Answer {
-    match put {
-        PutVacant::Insert => insert(entry, value, new),
-        PutVacant::InsertEntry => insert_entry(entry, value, false),
-        PutVacant::Take => insert_entry(entry, value, true),
     }
 }
 

@@ -3,7 +3,7 @@ use crate::calls::called::{LooksUp, TakesPair, look_up, put_pair};
 use crate::calls::map_many::call_many;
 use crate::hashers::Hashing;
 use crate::items::{
-    Answer, Asked, Item, Line, Name, Stop, Word, Words, done, given, given_item, has_room, lent,
+    Answer, Asked, Item, Line, Name, Stop, Word, done, given, given_item, has_room, lent,
     lent_item, made, made_with_room, no_memory, put, room, write, write_item,
 };
 use hashlink_map::LinkedHashMap;
@@ -14,9 +14,7 @@ pub type Map = LinkedHashMap<Item, Item, Hashing>;
 #[derive(Clone, Copy)]
 enum MapCall {
     /// Nothing.
-    Read(ReadCall),
-    /// Nothing.
-    End(EndCall),
+    Bare(BareCall),
     /// A key, and after a call that lends the value for writing what is then written to it.
     Key(KeyCall),
     /// What is then written to the value.
@@ -28,15 +26,15 @@ enum MapCall {
 }
 
 const CALLS: [(&str, MapCall); 30] = [
-    ("front", MapCall::Read(ReadCall::Front)),
-    ("back", MapCall::Read(ReadCall::Back)),
-    ("len", MapCall::Read(ReadCall::Len)),
-    ("is_empty", MapCall::Read(ReadCall::IsEmpty)),
-    ("pop_front", MapCall::End(EndCall::PopFront)),
-    ("pop_back", MapCall::End(EndCall::PopBack)),
-    ("clear", MapCall::End(EndCall::Clear)),
-    ("shrink", MapCall::End(EndCall::Shrink)),
-    ("clone", MapCall::End(EndCall::Clone)),
+    ("front", MapCall::Bare(BareCall::Front)),
+    ("back", MapCall::Bare(BareCall::Back)),
+    ("len", MapCall::Bare(BareCall::Len)),
+    ("is_empty", MapCall::Bare(BareCall::IsEmpty)),
+    ("pop_front", MapCall::Bare(BareCall::PopFront)),
+    ("pop_back", MapCall::Bare(BareCall::PopBack)),
+    ("clear", MapCall::Bare(BareCall::Clear)),
+    ("shrink", MapCall::Bare(BareCall::Shrink)),
+    ("clone", MapCall::Bare(BareCall::Clone)),
     ("get", MapCall::Key(KeyCall::Get)),
     ("contains_key", MapCall::Key(KeyCall::ContainsKey)),
     ("get_key_value", MapCall::Key(KeyCall::GetKeyValue)),
@@ -63,18 +61,10 @@ const CALLS: [(&str, MapCall); 30] = [
     ("with_capacity", MapCall::Size(SizeCall::WithCapacity)),
 ];
 
-impl MapCall {
-    /// The call that the next word names, if it is one of these.
-    fn known(words: &mut Words<'_>) -> Option<MapCall> {
-        words.known(&CALLS)
-    }
-}
-
 /// Makes the call that a line says.
 pub fn call_map(map: &mut Map, line: &mut Line<'_>) -> Result<(), Stop> {
-    match MapCall::known(&mut line.words) {
-        Some(MapCall::Read(call)) => line.say(read(map, call)),
-        Some(MapCall::End(call)) => line.say(call_at_end(map, call)),
+    match line.words.known(&CALLS) {
+        Some(MapCall::Bare(call)) => line.say(call_bare(map, call)),
         Some(MapCall::Key(call)) => look_up(map, call, line),
         Some(MapCall::LendBack) => {
             let new = line.words.optional();
@@ -87,24 +77,11 @@ pub fn call_map(map: &mut Map, line: &mut Line<'_>) -> Result<(), Stop> {
 }
 
 #[derive(Clone, Copy)]
-enum ReadCall {
+enum BareCall {
     Front,
     Back,
     Len,
     IsEmpty,
-}
-
-fn read(map: &Map, call: ReadCall) -> Word {
-    match call {
-        ReadCall::Front => lent(map.front()),
-        ReadCall::Back => lent(map.back()),
-        ReadCall::Len => Word::count(map.len()),
-        ReadCall::IsEmpty => Word::Is(map.is_empty()),
-    }
-}
-
-#[derive(Clone, Copy)]
-enum EndCall {
     PopFront,
     PopBack,
     Clear,
@@ -112,16 +89,20 @@ enum EndCall {
     Clone,
 }
 
-fn call_at_end(map: &mut Map, call: EndCall) -> Word {
+fn call_bare(map: &mut Map, call: BareCall) -> Word {
     match call {
-        EndCall::PopFront => given(map.pop_front()),
-        EndCall::PopBack => given(map.pop_back()),
-        EndCall::Clear => {
+        BareCall::Front => lent(map.front()),
+        BareCall::Back => lent(map.back()),
+        BareCall::Len => Word::count(map.len()),
+        BareCall::IsEmpty => Word::Is(map.is_empty()),
+        BareCall::PopFront => given(map.pop_front()),
+        BareCall::PopBack => given(map.pop_back()),
+        BareCall::Clear => {
             map.clear();
             Word::Done
         }
-        EndCall::Shrink => done(map.shrink_to_fit()),
-        EndCall::Clone => {
+        BareCall::Shrink => done(map.shrink_to_fit()),
+        BareCall::Clone => {
             let clone = map.clone();
             made(map, clone)
         }
@@ -188,15 +169,13 @@ impl TakesPair<PairCall> for Map {
             PairCall::Insert => self.insert(key, value),
             PairCall::InsertFront => self.insert_front(key, value),
             PairCall::Replace => self.replace(key, value),
-            PairCall::GetOrInsertWith => return get_or_insert(self, key, value, new),
+            PairCall::GetOrInsertWith => {
+                return match self.get_or_insert_with(key, || value) {
+                    Ok(lent) => Answer::Word(write_item(lent, new)),
+                    Err(pair) => no_memory(pair),
+                };
+            }
         })
-    }
-}
-
-fn get_or_insert(map: &mut Map, key: Item, value: Item, new: Option<Name>) -> Answer {
-    match map.get_or_insert_with(key, || value) {
-        Ok(lent) => Answer::Word(write_item(lent, new)),
-        Err(pair) => no_memory(pair),
     }
 }
 

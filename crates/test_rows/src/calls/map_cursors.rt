@@ -3,7 +3,7 @@ use crate::calls::map_calls::Map;
 use crate::calls::map_many::AtEnd;
 use crate::hashers::Hashing;
 use crate::items::{
-    Answer, Item, Line, Name, Stop, Word, Words, lent, put, shown, taken_pair, write, write_pair,
+    Answer, Item, Line, Name, Stop, Word, lent, put, shown, taken_pair, write, write_pair,
 };
 use hashlink_map::CursorMut;
 
@@ -79,25 +79,11 @@ const STEPS: [(&str, Named); 12] = [
     ("take_into_entry", Named::Last(Last::TakeIntoEntry)),
 ];
 
-impl Named {
-    /// The step that the next word names.
-    fn read(words: &mut Words<'_>) -> Result<Named, Stop> {
-        words.named(&STEPS)
-    }
-}
-
 const ENDS: [(&str, AtEnd); 2] = [("front", AtEnd::Front), ("back", AtEnd::Back)];
-
-impl AtEnd {
-    /// The end that the next word names.
-    fn read(words: &mut Words<'_>) -> Result<AtEnd, Stop> {
-        words.named(&ENDS)
-    }
-}
 
 /// Steps of a cursor that starts at an end.
 pub fn call_cursor(map: &mut Map, line: &mut Line<'_>) -> Result<(), Stop> {
-    let end = AtEnd::read(&mut line.words)?;
+    let end = line.words.named(&ENDS)?;
     let mut cursor = cursor_at(map, end);
     let Some(last) = take_steps(&mut cursor, line)? else {
         return Ok(());
@@ -149,7 +135,7 @@ fn next_step(line: &mut Line<'_>) -> Result<Coming, Stop> {
     if line.words.rest.is_empty() {
         return Ok(Coming::Nothing);
     }
-    Ok(Coming::Step(match Named::read(&mut line.words)? {
+    Ok(Coming::Step(match line.words.named(&STEPS)? {
         Named::Next => CursorStep::Next,
         Named::Prev => CursorStep::Prev,
         Named::At => CursorStep::At,

@@ -8,7 +8,7 @@ use crate::calls::map_cursors::call_cursor;
 use crate::calls::raw_entries::{call_end, call_raw, read_raw};
 use crate::hashers::Hashing;
 use crate::items::{
-    Answer, Item, Keep, Line, Retain, Stop, Word, Words, made, read_keep, shown, walk_and_clone,
+    Answer, Item, KEEPS, Keep, Line, Retain, Stop, Word, made, read_keep, shown, walk_and_clone,
     walk_or_forget, walk_whole,
 };
 use hashlink_map::{IterFrom, LinkedHashMap};
@@ -27,13 +27,6 @@ enum ManyCall {
     Retain(Retain),
     /// Steps of an iterator.
     Walk(WalkCall),
-    /// What an entry or a cursor does.
-    Entry(EntryWord),
-}
-
-/// A call of an entry or a cursor, by what follows its name.
-#[derive(Clone, Copy)]
-enum EntryWord {
     /// An end, and steps of a cursor.
     Cursor,
     /// A key, and steps of a cursor.
@@ -73,41 +66,28 @@ const CALLS: [(&str, ManyCall); 25] = [
     ("into_iter", ManyCall::Walk(WalkCall::IntoIter)),
     ("iter_from", ManyCall::Walk(WalkCall::From)),
     ("collect", ManyCall::Walk(WalkCall::Collect)),
-    ("cursor", ManyCall::Entry(EntryWord::Cursor)),
-    ("cursor_of", ManyCall::Entry(EntryWord::CursorOf)),
-    ("entry", ManyCall::Entry(EntryWord::Entry)),
-    ("raw", ManyCall::Entry(EntryWord::Raw)),
-    ("raw_read", ManyCall::Entry(EntryWord::RawRead)),
-    ("front_entry", ManyCall::Entry(EntryWord::At(AtEnd::Front))),
-    ("back_entry", ManyCall::Entry(EntryWord::At(AtEnd::Back))),
+    ("cursor", ManyCall::Cursor),
+    ("cursor_of", ManyCall::CursorOf),
+    ("entry", ManyCall::Entry),
+    ("raw", ManyCall::Raw),
+    ("raw_read", ManyCall::RawRead),
+    ("front_entry", ManyCall::At(AtEnd::Front)),
+    ("back_entry", ManyCall::At(AtEnd::Back)),
 ];
-
-impl ManyCall {
-    /// The call that the next word names.
-    fn read(words: &mut Words<'_>) -> Result<ManyCall, Stop> {
-        words.named(&CALLS)
-    }
-}
 
 /// Makes the call that a line says, if it is one of these.
 pub fn call_many(map: &mut Map, line: &mut Line<'_>) -> Result<(), Stop> {
-    match ManyCall::read(&mut line.words)? {
+    match line.words.named(&CALLS)? {
         ManyCall::Extend(call) => put_rest(map, call, line),
         ManyCall::FromIter => make_of_rest(map, line),
         ManyCall::Retain(call) => retain(map, call, line),
         ManyCall::Walk(call) => walk_map(map, call, line),
-        ManyCall::Entry(call) => call_of_entry(map, call, line),
-    }
-}
-
-fn call_of_entry(map: &mut Map, call: EntryWord, line: &mut Line<'_>) -> Result<(), Stop> {
-    match call {
-        EntryWord::Cursor => call_cursor(map, line),
-        EntryWord::CursorOf => call_cursor_of(map, line),
-        EntryWord::Entry => call_entry_of(map, line),
-        EntryWord::Raw => call_raw(map, line),
-        EntryWord::RawRead => read_raw(map, line),
-        EntryWord::At(end) => call_end(map, end, line),
+        ManyCall::Cursor => call_cursor(map, line),
+        ManyCall::CursorOf => call_cursor_of(map, line),
+        ManyCall::Entry => call_entry_of(map, line),
+        ManyCall::Raw => call_raw(map, line),
+        ManyCall::RawRead => read_raw(map, line),
+        ManyCall::At(end) => call_end(map, end, line),
     }
 }
 
@@ -122,7 +102,7 @@ impl TakesMany<(Item, Item)> for Map {
 }
 
 fn retain(map: &mut Map, call: Retain, line: &mut Line<'_>) -> Result<(), Stop> {
-    let keep = read_keep(map.len(), line)?;
+    let keep = read_keep(&KEEPS, map.len(), line)?;
     keep_some(map, call, keep, &mut line.answers.words);
     line.say(Word::Done)
 }

@@ -4,8 +4,8 @@ use crate::calls::map_cursors::take_all_steps;
 use crate::calls::map_many::AtEnd;
 use crate::hashers::Hashing;
 use crate::items::{
-    Answer, Item, Line, Make, Name, RawAsk, RawCall, RawGive, RawPut, RawThere, Stop, Word, Words,
-    lent, no_memory, set, shown, taken, taken_pair, write_item, write_pair,
+    Answer, Item, Line, Make, Name, RawAsk, RawCall, RawGive, RawPut, RawThere, Stop, Word, lent,
+    no_memory, set, shown, taken, taken_pair, write_item, write_pair,
 };
 use hashlink_map::{RawEntryBuilderMut, RawEntryMut, RawOccupiedEntryMut};
 use std::hash::BuildHasher;
@@ -36,16 +36,9 @@ const WAYS: [(&str, Way); 6] = [
     ("of_test", Way::OfTest),
 ];
 
-impl Way {
-    /// The way that the next word names.
-    fn read(words: &mut Words<'_>) -> Result<Way, Stop> {
-        words.named(&WAYS)
-    }
-}
-
 /// Reads the pair of a key in the way that the words say.
 pub fn read_raw(map: &Map, line: &mut Line<'_>) -> Result<(), Stop> {
-    let way = Way::read(&mut line.words)?;
+    let way = line.words.named(&WAYS)?;
     let key = line.item()?;
     line.say(read_at(map, way, &key))
 }
@@ -95,7 +88,7 @@ fn raw_of_test<'m>(map: &'m mut Map, way: Way, key: &Item) -> Raw<'m> {
 /// Makes the call of a raw entry of a map that the words say: the way, the key and the call. One that puts an
 /// absent key has another name than one that needs an entry.
 pub fn call_raw(map: &mut Map, line: &mut Line<'_>) -> Result<(), Stop> {
-    let way = Way::read(&mut line.words)?;
+    let way = line.words.named(&WAYS)?;
     let (key, call) = RawCall::of_key(line)?;
     match call {
         RawCall::ReplaceKey => line.say(replace_key(map, key)),
@@ -115,17 +108,11 @@ fn give_at(map: &mut Map, call: RawGive, key: Item, value: Item, new: Option<Nam
 /// Makes a call of a raw entry that needs one that is there.
 pub fn call_found(entry: Raw<'_>, call: RawCall, line: &mut Line<'_>) -> Result<(), Stop> {
     match call {
-        RawCall::Ask(call, new) => line.say(ask_at(entry, call, new)),
+        RawCall::Ask(RawAsk::Modify, new) => line.say(modify(entry, new)),
+        RawCall::Ask(RawAsk::There(call), new) => line.say(ask_there(entry, call, new)),
         RawCall::ReplaceValue(value) => line.say(replace_at(entry, value)),
         RawCall::Cursor => steps_at(entry, line),
         _ => Err(Stop::Unread),
-    }
-}
-
-fn ask_at(entry: Raw<'_>, call: RawAsk, new: Option<Name>) -> Word {
-    match call {
-        RawAsk::Modify => modify(entry, new),
-        RawAsk::There(call) => ask_there(entry, call, new),
     }
 }
 

@@ -3,8 +3,8 @@ use crate::calls::called::{LooksUp, look_up};
 use crate::calls::set_many::call_many;
 use crate::hashers::Hashing;
 use crate::items::{
-    Answer, Asked, Item, Line, Name, Stop, Word, Words, done, given_item, has_room, lent_item,
-    made, made_with_room, room, taken,
+    Answer, Asked, Item, Line, Name, Stop, Word, done, given_item, has_room, lent_item, made,
+    made_with_room, room, taken,
 };
 use hashlink_set::LinkedHashSet;
 
@@ -14,9 +14,7 @@ pub type Set = LinkedHashSet<Item, Hashing>;
 #[derive(Clone, Copy)]
 enum SetCall {
     /// Nothing.
-    Read(ReadCall),
-    /// Nothing.
-    End(EndCall),
+    Bare(BareCall),
     /// An element.
     Element(ElementCall),
     /// An element, which is put in.
@@ -26,15 +24,15 @@ enum SetCall {
 }
 
 const CALLS: [(&str, SetCall); 24] = [
-    ("front", SetCall::Read(ReadCall::Front)),
-    ("back", SetCall::Read(ReadCall::Back)),
-    ("len", SetCall::Read(ReadCall::Len)),
-    ("is_empty", SetCall::Read(ReadCall::IsEmpty)),
-    ("pop_front", SetCall::End(EndCall::PopFront)),
-    ("pop_back", SetCall::End(EndCall::PopBack)),
-    ("clear", SetCall::End(EndCall::Clear)),
-    ("shrink", SetCall::End(EndCall::Shrink)),
-    ("clone", SetCall::End(EndCall::Clone)),
+    ("front", SetCall::Bare(BareCall::Front)),
+    ("back", SetCall::Bare(BareCall::Back)),
+    ("len", SetCall::Bare(BareCall::Len)),
+    ("is_empty", SetCall::Bare(BareCall::IsEmpty)),
+    ("pop_front", SetCall::Bare(BareCall::PopFront)),
+    ("pop_back", SetCall::Bare(BareCall::PopBack)),
+    ("clear", SetCall::Bare(BareCall::Clear)),
+    ("shrink", SetCall::Bare(BareCall::Shrink)),
+    ("clone", SetCall::Bare(BareCall::Clone)),
     ("contains", SetCall::Element(ElementCall::Contains)),
     ("get", SetCall::Element(ElementCall::Get)),
     ("to_front", SetCall::Element(ElementCall::ToFront)),
@@ -52,18 +50,10 @@ const CALLS: [(&str, SetCall); 24] = [
     ("with_capacity", SetCall::Size(SizeCall::WithCapacity)),
 ];
 
-impl SetCall {
-    /// The call that the next word names, if it is one of these.
-    fn known(words: &mut Words<'_>) -> Option<SetCall> {
-        words.known(&CALLS)
-    }
-}
-
 /// Makes the call that a line says.
 pub fn call_set(set: &mut Set, line: &mut Line<'_>) -> Result<(), Stop> {
-    match SetCall::known(&mut line.words) {
-        Some(SetCall::Read(call)) => line.say(read(set, call)),
-        Some(SetCall::End(call)) => line.say(call_at_end(set, call)),
+    match line.words.known(&CALLS) {
+        Some(SetCall::Bare(call)) => line.say(call_bare(set, call)),
         Some(SetCall::Element(call)) => look_up(set, call, line),
         Some(SetCall::Put(call)) => put(set, call, line),
         Some(SetCall::Size(call)) => ask_room(set, call, line),
@@ -72,24 +62,11 @@ pub fn call_set(set: &mut Set, line: &mut Line<'_>) -> Result<(), Stop> {
 }
 
 #[derive(Clone, Copy)]
-enum ReadCall {
+enum BareCall {
     Front,
     Back,
     Len,
     IsEmpty,
-}
-
-fn read(set: &Set, call: ReadCall) -> Word {
-    match call {
-        ReadCall::Front => lent_item(set.front()),
-        ReadCall::Back => lent_item(set.back()),
-        ReadCall::Len => Word::count(set.len()),
-        ReadCall::IsEmpty => Word::Is(set.is_empty()),
-    }
-}
-
-#[derive(Clone, Copy)]
-enum EndCall {
     PopFront,
     PopBack,
     Clear,
@@ -97,16 +74,20 @@ enum EndCall {
     Clone,
 }
 
-fn call_at_end(set: &mut Set, call: EndCall) -> Word {
+fn call_bare(set: &mut Set, call: BareCall) -> Word {
     match call {
-        EndCall::PopFront => given_item(set.pop_front()),
-        EndCall::PopBack => given_item(set.pop_back()),
-        EndCall::Clear => {
+        BareCall::Front => lent_item(set.front()),
+        BareCall::Back => lent_item(set.back()),
+        BareCall::Len => Word::count(set.len()),
+        BareCall::IsEmpty => Word::Is(set.is_empty()),
+        BareCall::PopFront => given_item(set.pop_front()),
+        BareCall::PopBack => given_item(set.pop_back()),
+        BareCall::Clear => {
             set.clear();
             Word::Done
         }
-        EndCall::Shrink => done(set.shrink_to_fit()),
-        EndCall::Clone => {
+        BareCall::Shrink => done(set.shrink_to_fit()),
+        BareCall::Clone => {
             let clone = set.clone();
             made(set, clone)
         }
@@ -146,26 +127,16 @@ enum PutCall {
 fn put(set: &mut Set, call: PutCall, line: &mut Line<'_>) -> Result<(), Stop> {
     let element = line.item()?;
     line.give(match call {
-        PutCall::Insert => is_new_or_back(set.insert(element)),
-        PutCall::Replace => old_or_back(set.replace(element)),
+        PutCall::Insert => match set.insert(element) {
+            Ok(is_new) => Answer::Word(Word::Is(is_new)),
+            Err(element) => back(element),
+        },
+        PutCall::Replace => match set.replace(element) {
+            Ok(old) => Answer::Word(given_item(old)),
+            Err(element) => back(element),
+        },
         PutCall::GetOrInsert => lent_or_back(set.get_or_insert(element)),
     })
-}
-
-/// Whether the element was absent, or the one that is handed back.
-fn is_new_or_back(is_new: Result<bool, Item>) -> Answer {
-    match is_new {
-        Ok(is_new) => Answer::Word(Word::Is(is_new)),
-        Err(element) => back(element),
-    }
-}
-
-/// The element that was there, or the one that is handed back.
-fn old_or_back(old: Result<Option<Item>, Item>) -> Answer {
-    match old {
-        Ok(old) => Answer::Word(given_item(old)),
-        Err(element) => back(element),
-    }
 }
 
 /// The element that is lent, or the one that is handed back.

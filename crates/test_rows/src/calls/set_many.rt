@@ -4,7 +4,7 @@ ghost use Rattle.std.specs.Prelude.{◌≡◌};
 use crate::calls::extended::{Extension, TakesMany, extended_by_trait, make_of_rest, put_rest};
 use crate::calls::set_calls::{Set, lent_or_back};
 use crate::items::{
-    Answer, Item, Keep, Line, Stop, Word, Words, is_other, read_keep_of, taken, walk_and_clone,
+    Answer, Item, Keep, Line, Stop, Word, is_other, read_keep, taken, walk_and_clone,
     walk_or_forget, walk_whole,
 };
 use hashlink_set::{ExtendError, LinkedHashSet};
@@ -42,16 +42,9 @@ const CALLS: [(&str, ManyCall); 12] = [
     ("into_iter", ManyCall::Walk(WalkCall::IntoIter)),
 ];
 
-impl ManyCall {
-    /// The call that the next word names.
-    fn read(words: &mut Words<'_>) -> Result<ManyCall, Stop> {
-        words.named(&CALLS)
-    }
-}
-
 /// Makes the call that a line says, if it is one of these.
 pub fn call_many(set: &mut Set, line: &mut Line<'_>) -> Result<(), Stop> {
-    match ManyCall::read(&mut line.words)? {
+    match line.words.named(&CALLS)? {
         ManyCall::GetOrInsertWith => put_made(set, line),
         ManyCall::Extend(call) => put_rest(set, call, line),
         ManyCall::FromIter => make_of_rest(set, line),
@@ -100,14 +93,9 @@ fn extended(answer: Result<(), ExtendError<Item, ()>>) -> Answer {
 const KEEPS: [(&str, Keep); 2] = [("odd", Keep::Odd), ("others", Keep::Others)];
 
 fn retain(set: &mut Set, is_ordered: bool, line: &mut Line<'_>) -> Result<(), Stop> {
-    let keep = read_keep(set.len(), line)?;
+    let keep = read_keep(&KEEPS, set.len(), line)?;
     keep_some(set, is_ordered, keep, &mut line.answers.words);
     line.say(Word::Done)
-}
-
-/// The test that the next word names, of so many elements, for whose words there is then room.
-fn read_keep(len: usize, line: &mut Line<'_>) -> Result<Keep, Stop> {
-    read_keep_of(&KEEPS, len, line)
 }
 
 fn keep_some(set: &mut Set, is_ordered: bool, keep: Keep, met: &mut Vec<Word>) {

@@ -1,46 +1,37 @@
 //! The iterators of sets by steps from both ends.
 use crate::hashers::Hashing;
-use crate::items::{Item, Step, Walk, Word, given_item, hinted, lent_item};
+use crate::items::{Goes, Item, Step, Walk, Word, given_item, lent_item};
 use hashlink_set::{Drain, IntoIter, Iter};
 
 impl Walk for Iter<'_, Item> {
     fn step(&mut self, step: Step) -> Word {
-        lent_item(if step.is_back {
-            self.next_back()
-        } else {
-            self.next()
-        })
-    }
-
-    fn left(&self) -> (usize, usize, Option<usize>) {
-        hinted(self.len(), self.size_hint())
+        let came = match step.goes {
+            Goes::Left => Word::Nothing,
+            Goes::Back => lent_item(self.next_back()),
+            _ => lent_item(self.next()),
+        };
+        step.said(came, self.len(), self.size_hint())
     }
 }
 
 impl Walk for IntoIter<Item, Hashing> {
     fn step(&mut self, step: Step) -> Word {
-        given_item(if step.is_back {
-            self.next_back()
-        } else {
-            self.next()
-        })
-    }
-
-    fn left(&self) -> (usize, usize, Option<usize>) {
-        hinted(self.len(), self.size_hint())
+        let came = match step.goes {
+            Goes::Left => Word::Nothing,
+            Goes::Back => given_item(self.next_back()),
+            _ => given_item(self.next()),
+        };
+        step.said(came, self.len(), self.size_hint())
     }
 }
 
 impl Walk for Drain<'_, Item, Hashing> {
     fn step(&mut self, step: Step) -> Word {
-        given_item(if step.is_back {
-            self.next_back()
-        } else {
-            self.next()
-        })
-    }
-
-    fn left(&self) -> (usize, usize, Option<usize>) {
-        hinted(self.len(), self.size_hint())
+        let came = match step.goes {
+            Goes::Left => Word::Nothing,
+            Goes::Back => given_item(self.next_back()),
+            _ => given_item(self.next()),
+        };
+        step.said(came, self.len(), self.size_hint())
     }
 }

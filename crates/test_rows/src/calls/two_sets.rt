@@ -2,7 +2,7 @@
 use crate::calls::alike::say_steps;
 use crate::calls::compared::{equal, hashed_alike};
 use crate::calls::set_calls::Set;
-use crate::items::{Line, Stop, Word, Words, made};
+use crate::items::{Line, Stop, Word, made};
 
 /// A call of two sets.
 #[derive(Clone, Copy)]
@@ -31,17 +31,10 @@ const CALLS: [(&str, SetsCall); 13] = [
     ("-", SetsCall::Operate(Operator::Sub)),
 ];
 
-impl SetsCall {
-    /// The call that the next word names.
-    fn read(words: &mut Words<'_>) -> Result<SetsCall, Stop> {
-        words.named(&CALLS)
-    }
-}
-
 /// Makes the call of two sets that the words say. The row goes on with what an operator makes as its first
 /// set.
 pub fn call_sets(set: &mut Set, other: &Set, line: &mut Line<'_>) -> Result<(), Stop> {
-    match SetsCall::read(&mut line.words)? {
+    match line.words.named(&CALLS)? {
         SetsCall::Ask(call) => line.say(ask_of_two(set, other, call)),
         SetsCall::Iterate(call) => iterate(set, other, call, line),
         SetsCall::Operate(operator) => line.say(operate(set, other, operator)),

@@ -2,9 +2,10 @@
 use crate::calls::called::{LooksUp, look_up};
 use crate::hashers::Hashing;
 use crate::items::{
-    Answer, Item, Line, Name, Step, Stop, Walk, Word, Words, given_item, hinted, lent_item,
-    no_memory, shown, taken_pair, walk_and_clone,
+    Answer, Goes, Item, Line, Name, Step, Stop, Walk, Word, given_item, lent_item, no_memory,
+    shown, taken_pair, walk_and_clone,
 };
+use crate::spoken::Spoken;
 use hashlink_weighted::{WeightError, WeightedCache, WeightedIter};
 
 pub type Weighted = WeightedCache<Item, Item, Hashing>;
@@ -52,21 +53,20 @@ const CALLS: [(&str, WeightedCall); 10] = [
     ("iter", WeightedCall::Iter),
 ];
 
-impl WeightedCall {
-    /// The call that the next word names.
-    fn read(words: &mut Words<'_>) -> Result<WeightedCall, Stop> {
-        words.named(&CALLS)
+impl Spoken for Weighted {
+    fn count_items(&self) -> usize {
+        self.len().saturating_mul(2)
     }
-}
 
-/// Makes the call that a line says. The number of a value is its weight.
-pub fn call_weighted(cache: &mut Weighted, line: &mut Line<'_>) -> Result<(), Stop> {
-    match WeightedCall::read(&mut line.words)? {
-        WeightedCall::Read(call) => line.say(read(cache, call)),
-        WeightedCall::Key(call) => look_up(cache, call, line),
-        WeightedCall::Insert => put_pair(cache, line),
-        WeightedCall::InsertEvicting => put_evicting(cache, line),
-        WeightedCall::Iter => walk_and_clone(cache.iter(), line),
+    /// Makes the call that a line says. The number of a value is its weight.
+    fn call(&mut self, _other: &Weighted, line: &mut Line<'_>) -> Result<(), Stop> {
+        match line.words.named(&CALLS)? {
+            WeightedCall::Read(call) => line.say(read(self, call)),
+            WeightedCall::Key(call) => look_up(self, call, line),
+            WeightedCall::Insert => put_pair(self, line),
+            WeightedCall::InsertEvicting => put_evicting(self, line),
+            WeightedCall::Iter => walk_and_clone(self.iter(), line),
+        }
     }
 }
 
@@ -152,14 +152,11 @@ fn lent_weighed(entry: Option<(&Item, &Item, u64)>) -> Word {
 
 impl Walk for WeightedIter<'_, Item, Item> {
     fn step(&mut self, step: Step) -> Word {
-        lent_weighed(if step.is_back {
-            self.next_back()
-        } else {
-            self.next()
-        })
-    }
-
-    fn left(&self) -> (usize, usize, Option<usize>) {
-        hinted(self.len(), self.size_hint())
+        let came = match step.goes {
+            Goes::Left => Word::Nothing,
+            Goes::Back => lent_weighed(self.next_back()),
+            _ => lent_weighed(self.next()),
+        };
+        step.said(came, self.len(), self.size_hint())
     }
 }

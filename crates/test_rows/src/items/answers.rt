@@ -1,4 +1,5 @@
 //! What a call answers, word by word.
+use crate::items::line::push;
 use std::alloc::{AllocError, Global};
 use std::fmt;
 
@@ -105,15 +106,14 @@ impl Word {
 
     fn read_items(word: &str) -> Option<Word> {
         match word.split_once(':') {
-            None => Name::read(word).map(Word::item),
-            Some((key, value)) => Word::read_pair(Name::read(key), Name::read(value)),
-        }
-    }
-
-    fn read_pair(key: Option<Name>, value: Option<Name>) -> Option<Word> {
-        match (key, value) {
-            (Some(key), Some(value)) => Some(Word::pair((key, value))),
-            _ => None,
+            None => match Name::read(word) {
+                Some(name) => Some(Word::item(name)),
+                None => None,
+            },
+            Some((key, value)) => match (Name::read(key), Name::read(value)) {
+                (Some(key), Some(value)) => Some(Word::pair((key, value))),
+                _ => None,
+            },
         }
     }
 
@@ -220,20 +220,13 @@ impl Answers {
         })
     }
 
-    pub fn say(&mut self, word: Word) -> Result<(), Stop> {
-        match self.words.push(word) {
-            Ok(()) => Ok(()),
-            Err(_word) => Err(Stop::Memory),
-        }
-    }
-
     pub fn say_all(&mut self, words: &[Word]) -> Result<(), Stop> {
         Ok(self.words.extend_from_slice(words)?)
     }
 
     pub fn give(&mut self, answer: Answer) -> Result<(), Stop> {
         match answer {
-            Answer::Word(word) => self.say(word),
+            Answer::Word(word) => push(&mut self.words, word),
             Answer::Back(why, back) => self.say_all(&[why, back]),
             Answer::BackAfter(back, taken) => {
                 self.say_all(&[Word::Memory, back, Word::Item(taken, 0)])
@@ -245,10 +238,13 @@ impl Answers {
 
     /// Counts the refusals that were said, and returns whether there was one.
     pub fn count_refused(&mut self) -> bool {
-        let words = self.words.iter();
-        let refused = words.filter(|word| **word == Word::Memory).count();
-        self.add_refused(refused);
-        refused > 0
+        let before = self.tally.refused;
+        for word in self.words.iter() {
+            if *word == Word::Memory {
+                self.tally.refused = self.tally.refused.saturating_add(1);
+            }
+        }
+        self.tally.refused > before
     }
 
     pub fn add_refused(&mut self, refused: usize) {
@@ -260,7 +256,7 @@ impl Answers {
 pub fn are_written(words: &[Word], written: &str) -> bool {
     let mut written = written.split(' ');
     for word in words {
-        if written.next().and_then(Word::read) != Some(*word) {
+        if Word::read(written.next().unwrap_or("")) != Some(*word) {
             return false;
         }
     }

@@ -142,7 +142,12 @@ impl EntryCall {
 
     /// The call that the next words say.
     fn read(line: &mut Line<'_>) -> Result<EntryCall, Stop> {
-        Ok(EntryCall::Ended(match read_name(line)? {
+        let calls: &[(&str, Named)] = if line.words.has("vacant") {
+            &VACANT
+        } else {
+            &CALLS
+        };
+        Ok(EntryCall::Ended(match line.words.named(calls)? {
             Named::Ask(call) => EndedCall::Ask(call, line.words.optional()),
             Named::Give(call) => {
                 let (value, new) = line.lent_item()?;
@@ -155,11 +160,4 @@ impl EntryCall {
             Named::Cursor => return Ok(EntryCall::Cursor),
         }))
     }
-}
-
-fn read_name(line: &mut Line<'_>) -> Result<Named, Stop> {
-    if line.words.has("vacant") {
-        return line.words.named(&VACANT);
-    }
-    line.words.named(&CALLS)
 }

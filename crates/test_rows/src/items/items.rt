@@ -31,11 +31,6 @@ impl Home<'_> {
         self.counts.take()
     }
 
-    /// A new item of the name.
-    pub fn item(self, name: Name) -> Result<Item, Stop> {
-        Ok(Item::new(self, name)?)
-    }
-
     /// Two new items of the names.
     pub fn pair(self, (key, value): Pair) -> Result<(Item, Item), Stop> {
         Ok((Item::new(self, key)?, Item::new(self, value)?))

@@ -2,7 +2,6 @@
 use crate::items::Item;
 use crate::items::answers::{Stop, Word};
 use crate::items::line::Line;
-use crate::items::words::Words;
 
 /// The call of a retain.
 #[derive(Clone, Copy)]
@@ -26,7 +25,7 @@ pub enum Keep {
     WithoutOdd,
 }
 
-const KEEPS: [(&str, Keep); 4] = [
+pub const KEEPS: [(&str, Keep); 4] = [
     ("even", Keep::Even),
     ("odd", Keep::Odd),
     ("others", Keep::Others),
@@ -34,11 +33,6 @@ const KEEPS: [(&str, Keep); 4] = [
 ];
 
 impl Keep {
-    /// The test that the next word names.
-    pub fn read(words: &mut Words<'_>) -> Result<Keep, Stop> {
-        words.named(&KEEPS)
-    }
-
     /// How many words it may say of so many entries.
     pub fn room(self, len: usize) -> usize {
         match self {
@@ -75,13 +69,8 @@ pub fn is_other(key: &Item, met: &mut Vec<Word>) -> bool {
     key.group % 2 == 0
 }
 
-/// The test that the next word names, of so many entries, for whose words there is then room.
-pub fn read_keep(len: usize, line: &mut Line<'_>) -> Result<Keep, Stop> {
-    read_keep_of(&KEEPS, len, line)
-}
-
-/// The same, of the tests of a table.
-pub fn read_keep_of(table: &[(&str, Keep)], len: usize, line: &mut Line<'_>) -> Result<Keep, Stop> {
+/// The test of the table that the next word names, of so many entries, for whose words there is then room.
+pub fn read_keep(table: &[(&str, Keep)], len: usize, line: &mut Line<'_>) -> Result<Keep, Stop> {
     let keep = line.words.named(table)?;
     line.answers.words.reserve(keep.room(len))?;
     Ok(keep)

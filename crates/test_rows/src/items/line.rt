@@ -17,14 +17,14 @@ pub struct Line<'l> {
 impl Line<'_> {
     /// The item that the next word names.
     pub fn item(&mut self) -> Result<Item, Stop> {
-        self.home.item(self.words.name())
+        Ok(Item::new(self.home, self.words.name())?)
     }
 
     /// The item that the next word names, and the name after it, if there is one.
     pub fn lent_item(&mut self) -> Result<(Item, Option<Name>), Stop> {
         let item = self.words.name();
         let new = self.words.optional();
-        Ok((self.home.item(item)?, new))
+        Ok((Item::new(self.home, item)?, new))
     }
 
     /// What the next word names as made, and the name after it, if there is one, or what the word after
@@ -41,7 +41,7 @@ impl Line<'_> {
     }
 
     pub fn say(&mut self, word: Word) -> Result<(), Stop> {
-        self.answers.say(word)
+        push(&mut self.answers.words, word)
     }
 
     pub fn say_all(&mut self, words: &[Word]) -> Result<(), Stop> {

@@ -1,26 +1,37 @@
 //! Steps of an iterator.
-use crate::items::answers::{Name, find, number};
+use crate::items::answers::{Name, Word, find, number};
 use crate::items::words::Words;
+
+/// Where a step goes.
+#[derive(Clone, Copy)]
+pub enum Goes {
+    Next,
+    Back,
+    /// `next_value`, of those that lend pairs for writing.
+    Value,
+    /// `next_value_back`, of the same.
+    ValueBack,
+    /// `peek`, of the same.
+    Peek,
+    /// Nowhere: it is said how many are left.
+    Left,
+}
 
 /// A step of an iterator.
 #[derive(Clone, Copy)]
 pub struct Step {
-    pub is_back: bool,
-    /// Whether it is `next_value` or `next_value_back`, of those that lend pairs for writing.
-    pub is_value: bool,
-    /// Whether it is `peek`, of the same.
-    pub is_peek: bool,
+    pub goes: Goes,
     /// What is written where the value is lent for writing.
     pub written: Option<Name>,
 }
 
-/// The steps by their names: whether from the back, whether of a value alone, and whether it is `peek`.
-const STEPS: [(&str, (bool, bool, bool)); 5] = [
-    ("next", (false, false, false)),
-    ("back", (true, false, false)),
-    ("value", (false, true, false)),
-    ("value_back", (true, true, false)),
-    ("peek", (false, false, true)),
+const STEPS: [(&str, Goes); 6] = [
+    ("next", Goes::Next),
+    ("back", Goes::Back),
+    ("value", Goes::Value),
+    ("value_back", Goes::ValueBack),
+    ("peek", Goes::Peek),
+    ("left", Goes::Left),
 ];
 
 impl Step {
@@ -28,12 +39,20 @@ impl Step {
     pub fn read(word: &str, words: &mut Words<'_>) -> Step {
         let found = find(&STEPS, word);
         words.is_unread = words.is_unread | found.is_none();
-        let (is_back, is_value, is_peek) = found.unwrap_or((false, false, false));
         Step {
-            is_back,
-            is_value,
-            is_peek,
+            goes: found.unwrap_or(Goes::Next),
             written: read_number(words),
+        }
+    }
+
+    /// What is said after the step: what came, or how many are left. The hint has to say that too.
+    pub fn said(self, came: Word, left: usize, hint: (usize, Option<usize>)) -> Word {
+        if hint.0 != left || hint.1 != Some(left) {
+            return Word::Wrong;
+        }
+        match self.goes {
+            Goes::Left => Word::count(left),
+            _ => came,
         }
     }
 }
@@ -41,7 +60,7 @@ impl Step {
 /// The next word, if it is a number.
 fn read_number(words: &mut Words<'_>) -> Option<Name> {
     let mut rest = *words;
-    let written = rest.next().and_then(number)?;
+    let written = number(rest.word())?;
     *words = rest;
     Some(Name::of(written))
 }

@@ -50,7 +50,12 @@ impl<'l> Words<'l> {
 
     pub fn name(&mut self) -> Name {
         let word = self.word();
-        self.name_of(word)
+        if word == "n" {
+            return Name::of(self.n);
+        }
+        let name = Name::read(word);
+        self.is_unread = self.is_unread | name.is_none();
+        name.unwrap_or(Name::of(0))
     }
 
     /// The next word as a name, if there is one.
@@ -59,15 +64,6 @@ impl<'l> Words<'l> {
             return None;
         }
         Some(self.name())
-    }
-
-    fn name_of(&mut self, word: &str) -> Name {
-        if word == "n" {
-            return Name::of(self.n);
-        }
-        let name = Name::read(word);
-        self.is_unread = self.is_unread | name.is_none();
-        name.unwrap_or(Name::of(0))
     }
 
     /// The next two words as names.
