@@ -10,7 +10,7 @@ impl Walk for Iter<'_, Item> {
             Goes::Back => lent_item(self.next_back()),
             _ => lent_item(self.next()),
         };
-        step.said(came, self.len(), self.size_hint())
+        step.said(came, self)
     }
 }
 
@@ -21,7 +21,7 @@ impl Walk for IntoIter<Item, Hashing> {
             Goes::Back => given_item(self.next_back()),
             _ => given_item(self.next()),
         };
-        step.said(came, self.len(), self.size_hint())
+        step.said(came, self)
     }
 }
 
@@ -32,6 +32,6 @@ impl Walk for Drain<'_, Item, Hashing> {
             Goes::Back => given_item(self.next_back()),
             _ => given_item(self.next()),
         };
-        step.said(came, self.len(), self.size_hint())
+        step.said(came, self)
     }
 }

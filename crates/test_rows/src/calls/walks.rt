@@ -10,7 +10,7 @@ impl Walk for Iter<'_, Item, Item> {
             Goes::Back => lent(self.next_back()),
             _ => lent(self.next()),
         };
-        step.said(came, self.len(), self.size_hint())
+        step.said(came, self)
     }
 }
 
@@ -21,7 +21,7 @@ impl Walk for Keys<'_, Item, Item> {
             Goes::Back => lent_item(self.next_back()),
             _ => lent_item(self.next()),
         };
-        step.said(came, self.len(), self.size_hint())
+        step.said(came, self)
     }
 }
 
@@ -32,7 +32,7 @@ impl Walk for Values<'_, Item, Item> {
             Goes::Back => lent_item(self.next_back()),
             _ => lent_item(self.next()),
         };
-        step.said(came, self.len(), self.size_hint())
+        step.said(came, self)
     }
 }
 
@@ -47,7 +47,7 @@ impl Walk for IterMut<'_, Item, Item, Hashing> {
             Goes::Peek => lent(self.peek()),
         };
         let left = self.len();
-        step.said(came, left, (left, Some(left)))
+        step.said_of(came, left, (left, Some(left)))
     }
 }
 
@@ -59,7 +59,7 @@ impl Walk for ValuesMut<'_, Item, Item, Hashing> {
             _ => write(self.next(), step.written),
         };
         let left = self.len();
-        step.said(came, left, (left, Some(left)))
+        step.said_of(came, left, (left, Some(left)))
     }
 }
 
@@ -70,7 +70,7 @@ impl Walk for IntoIter<Item, Item, Hashing> {
             Goes::Back => given(self.next_back()),
             _ => given(self.next()),
         };
-        step.said(came, self.len(), self.size_hint())
+        step.said(came, self)
     }
 }
 
@@ -82,6 +82,6 @@ impl Walk for Drain<'_, Item, Item, Hashing> {
             _ => given(self.next()),
         };
         let hint = self.size_hint();
-        step.said(came, hint.0, hint)
+        step.said_of(came, hint.0, hint)
     }
 }

@@ -157,6 +157,6 @@ impl Walk for WeightedIter<'_, Item, Item> {
             Goes::Back => lent_weighed(self.next_back()),
             _ => lent_weighed(self.next()),
         };
-        step.said(came, self.len(), self.size_hint())
+        step.said(came, self)
     }
 }

@@ -45,8 +45,13 @@ impl Step {
         }
     }
 
-    /// What is said after the step: what came, or how many are left. The hint has to say that too.
-    pub fn said(self, came: Word, left: usize, hint: (usize, Option<usize>)) -> Word {
+    /// What is said after the step: what came, or how many the iterator has left.
+    pub fn said<I: ExactSizeIterator>(self, came: Word, walk: &I) -> Word {
+        self.said_of(came, walk.len(), walk.size_hint())
+    }
+
+    /// The same where so many are left. The hint has to say that too.
+    pub fn said_of(self, came: Word, left: usize, hint: (usize, Option<usize>)) -> Word {
         if hint.0 != left || hint.1 != Some(left) {
             return Word::Wrong;
         }
