@@ -1,6 +1,6 @@
 -- Nodes that tell their hashes, as a table changes.
-use Rattle.std.proofs.Common.{◌≡◌, ℕ, suc, zero, [], ◌∷◌, Option, None, Some, sym, ap, subst, ◌∙◌, arith}
-use Rattle.std.specs.Prelude.{IsPermutation, Contains, IfSome, IfNone}
+use Rattle.std.proofs.Common.{◌≡◌, ℕ, suc, zero, [], ◌∷◌, sym, ap, ◌∙◌, arith}
+use Rattle.std.specs.Prelude.{IsPermutation, Contains}
 use Rattle.std.proofs.lemmas.List.Sorted.{Contains-permutation, IsPermutation-sym}
 use Rattle.hashlink_table.specs.declared.hashed.Hashed.{Hashed}
 use Rattle.hashlink_table.specs.Contents.{Contents, len_of}
@@ -26,13 +26,3 @@ module _ {N : Type 0} (told : N → ℕ) where
           cases (zero, lt, at) =
               sym (ap (λ (k : Hashed N). k.hash) at) ∙ is ∙ ap (λ (k : Hashed N). told k.node) at
           cases (suc i, lt, at) = tells hash node (i, omega arith, at)
-
-    -- by what a removal says
-    pub tells-removed : (P : N → Type 0) (i : ℕ) (o : Option N)
-        → IfSome o (λ node. IsPermutation old.nodes (record { hash = i; node = node } ∷ new.nodes) × P node)
-        → IfNone o (new ≡ old) → Tells told old
-        → Tells told new
-    tells-removed P i None some none tells hash node there =
-        subst (Tells told) (sym none) tells hash node there
-    tells-removed P i (Some n) some none tells hash node (j, lt, at) =
-        tells hash node (Contains-permutation _ _ _ (IsPermutation-sym _ _ some.0) (suc j, omega arith, at))

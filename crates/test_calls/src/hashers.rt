@@ -1,19 +1,12 @@
-//! The default hasher hashes as std's does.
-use crate::few::passes;
-use hashlink::{DefaultHashBuilder, DefaultHasher};
+//! The default hasher hashes as std's does, and what containers feed a hasher.
+use crate::few::{map_of, passes, set_of};
+use hashlink::DefaultHashBuilder;
 use std::hash::{BuildHasher, FoldHasher, Hash, Hasher};
 use std::process::ExitCode;
 
-/// Feeds a hasher bytes, and numbers of each type.
-fn feed<H: Hasher>(state: &mut H) {
+/// The hash of bytes, and of a number of each type.
+fn hash_of_each<H: Hasher>(state: &mut H) -> u64 {
     state.write("more than eight bytes".as_bytes());
-    (200u8, 60_000u16, 4_000_000_000u32, u64::MAX, u128::MAX).hash(state);
-    (-100i8, -30_000i16, -2_000_000_000i32, i64::MIN, -5i128).hash(state);
-    (12_345_678_901usize, -12_345_678_901isize).hash(state);
-}
-
-/// Feeds a hasher a short text, and numbers by the calls that have their names.
-fn feed_by_name<H: Hasher>(state: &mut H) {
     state.write("short".as_bytes());
     state.write_u8(200);
     state.write_u16(60_000);
@@ -27,36 +20,25 @@ fn feed_by_name<H: Hasher>(state: &mut H) {
     state.write_i64(i64::MIN);
     state.write_i128(-5);
     state.write_isize(-12_345_678_901);
-}
-
-/// The hashes that a hasher has at first, once it is fed, and once it is fed by name.
-fn hashes<H: Hasher>(state: &mut H) -> [u64; 3] {
-    let at_first = state.finish();
-    feed(state);
-    let fed = state.finish();
-    feed_by_name(state);
-    [at_first, fed, state.finish()]
+    state.finish()
 }
 
 #[test]
 fn the_default_hasher_hashes_as_that_of_std(rt: HostRuntime) -> ExitCode {
-    let mut own: DefaultHasher = DefaultHashBuilder::default().build_hasher();
-    passes(hashes(&mut own) == hashes(&mut FoldHasher::default()))
+    let own = hash_of_each(&mut DefaultHashBuilder::default().build_hasher());
+    passes(own == hash_of_each(&mut FoldHasher::default()))
 }
 
-/// Whether a clone of a hasher that was fed is the same.
-fn is_cloned(hasher: &mut DefaultHasher) -> bool {
-    feed(hasher);
-    match hasher.clone() {
-        Ok(clone) => clone.finish() == hasher.finish(),
-        Err(_) => false,
-    }
+/// The hash of what a hasher is fed. It takes the value, so that a test has none to drop.
+fn fed<T: Hash + Drop>(value: T) -> u64 {
+    let mut state = FoldHasher::default();
+    value.hash(&mut state);
+    state.finish()
 }
 
 #[test]
-fn hashers_and_their_builders_are_cloned(rt: HostRuntime) -> ExitCode {
-    passes(match DefaultHashBuilder::default().clone() {
-        Ok(builder) => is_cloned(&mut builder.build_hasher()),
-        Err(_) => false,
-    })
+fn a_hasher_is_fed_what_stands_in_order_and_no_length(rt: HostRuntime) -> ExitCode {
+    let map = fed(map_of(rt.alloc(), &[(2, 20), (1, 10)]));
+    let set = fed(set_of(rt.alloc(), &[2, 1]));
+    passes((map == fed((2u64, 20u64, 1u64, 10u64))) & (set == fed((2u64, 1u64))))
 }

@@ -1,8 +1,8 @@
-//! One large run of each container, and of a text.
-use crate::few::{Map, is_cloned, is_value, map_of, passes, set_of};
+//! One large run of a map, which a set is too, of each cache, and of a text.
+use crate::few::{Map, is_cloned, is_value, map_of, passes};
 use hashlink::run::run_text;
 use hashlink::weighted::WeightedCache;
-use hashlink::{LinkedHashSet, LruCache};
+use hashlink::LruCache;
 use std::alloc::Global;
 use std::process::ExitCode;
 
@@ -36,19 +36,6 @@ fn thousands_are_cloned(map: &mut Map) -> bool {
 #[test]
 fn a_map_of_thousands_is_cloned(rt: HostRuntime) -> ExitCode {
     passes(thousands_are_cloned(&mut map_of(rt.alloc(), &[])))
-}
-
-/// Whether a set takes each element.
-fn takes_each_element(set: &mut LinkedHashSet<u64>) -> bool {
-    for element in 0..MANY {
-        let _added = set.insert(element);
-    }
-    (set.len() == 1_100_000) & set.contains(&0) & !set.contains(&MANY)
-}
-
-#[test]
-fn a_large_set_takes_each_element(rt: HostRuntime) -> ExitCode {
-    passes(takes_each_element(&mut set_of(rt.alloc(), &[])))
 }
 
 /// Whether a cache keeps as many as it may, and the last key that had to leave is gone.

@@ -1,12 +1,10 @@
 //! What no row of calls says: of the containers whether an entry calls its closure, the texts of `{:?}` and
 //! of errors, loops and std's adapters, the forms in which std's maps are called, what becomes of items
-//! without size, and what a program does whose input or output fails; then what is below the map.
+//! without size, and what a program does whose input or output fails; then of the table below the map.
 #![tactic(auto)]
 
 #[cfg(test)]
 mod adapters;
-#[cfg(test)]
-mod commands;
 #[cfg(test)]
 mod counting;
 #[cfg(test)]
@@ -19,8 +17,6 @@ mod few;
 mod forms;
 #[cfg(test)]
 mod hashers;
-#[cfg(test)]
-mod keys;
 #[cfg(test)]
 mod large;
 #[cfg(test)]
@@ -36,5 +32,3 @@ mod rooms;
 mod serving;
 #[cfg(test)]
 mod uses;
-#[cfg(test)]
-mod values;

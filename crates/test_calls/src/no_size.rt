@@ -1,7 +1,7 @@
 //! Keys and values without size. `large.rt` has caches whose values alone have none.
 use crate::few::{is_value, passes};
 use hashlink::weighted::WeightedCache;
-use hashlink::{LinkedHashMap, LinkedHashSet, LruCache};
+use hashlink::{LinkedHashMap, LruCache};
 use std::process::ExitCode;
 
 type Unit = LinkedHashMap<(), ()>;
@@ -35,16 +35,6 @@ fn a_map_of_keys_without_size_has_one_entry(rt: HostRuntime) -> ExitCode {
     passes(comes_and_goes(&mut Unit::new(rt.alloc())))
 }
 
-/// Whether an element is inserted once.
-fn is_element_inserted_once(set: &mut LinkedHashSet<()>) -> bool {
-    (set.insert(()) == Ok(true)) & (set.insert(()) == Ok(false)) & (set.len() == 1)
-}
-
-#[test]
-fn a_set_of_elements_without_size_has_one(rt: HostRuntime) -> ExitCode {
-    passes(is_element_inserted_once(&mut LinkedHashSet::new(rt.alloc())))
-}
-
 /// Whether two inserts into a cache find nothing, and a read and a removal find none of them.
 fn keeps_nothing(cache: &mut LruCache<(), u32>) -> bool {
     (cache.insert((), 1) == Ok(None))
@@ -62,12 +52,13 @@ fn keeps_the_last_value(cache: &mut LruCache<(), u32>) -> bool {
 }
 
 #[test]
-fn a_cache_of_keys_without_size_has_one_entry_at_most(rt: HostRuntime) -> ExitCode {
-    passes(
-        keeps_nothing(&mut LruCache::new(rt.alloc(), 0))
-            & keeps_the_last_value(&mut LruCache::new(rt.alloc(), 1))
-            & keeps_the_last_value(&mut LruCache::new_unbounded(rt.alloc())),
-    )
+fn a_cache_without_places_has_no_key_without_size(rt: HostRuntime) -> ExitCode {
+    passes(keeps_nothing(&mut LruCache::new(rt.alloc(), 0)))
+}
+
+#[test]
+fn a_cache_without_a_bound_has_one_key_without_size(rt: HostRuntime) -> ExitCode {
+    passes(keeps_the_last_value(&mut LruCache::new_unbounded(rt.alloc())))
 }
 
 /// Whether a key that is inserted twice weighs what it weighed last.

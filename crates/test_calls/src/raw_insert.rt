@@ -3,12 +3,11 @@ ghost use Rattle.std.specs.Prelude.{◌≡◌, IfErr, Ok, false};
 
 use hashlink::LinkedHashMap;
 use hashlink::linked_hash_map::RawEntryMut;
-use std::hash::BuildHasher;
 
 /// Inserts a number under another at the back, by a raw entry, if the key is absent, and returns whether it
 /// was.
-pub fn put_number<S: BuildHasher>(
-    map: &mut LinkedHashMap<u64, u64, S>,
+pub fn put_number(
+    map: &mut LinkedHashMap<u64, u64>,
     key: u64,
     value: u64,
 ) -> Result<bool, (u64, u64)>

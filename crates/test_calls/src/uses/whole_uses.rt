@@ -1,12 +1,7 @@
-//! Names, settings, lines, tasks, commands and retains.
+//! Names, settings, lines and tasks.
 use crate::few::{is_pair, passes};
-use hashlink::linked_hash_map::TryInsertError;
-use hashlink::run::Reply;
 use hashlink::{LinkedHashMap, LinkedHashSet, LruCache};
-use hashlink_uses::commands::remove_then_insert;
-use hashlink_uses::everyday::{value_or, value_or_made};
 use hashlink_uses::lines::distinct_lines;
-use hashlink_uses::maps::retains::{take_even, take_zeros};
 use hashlink_uses::names::{Answer, address_of, learn, sweep};
 use hashlink_uses::settings::merge;
 use hashlink_uses::tasks::RoundRobin;
@@ -176,82 +171,4 @@ fn have_their_turns(tasks: &mut RoundRobin<u32>) -> bool {
 #[test]
 fn each_task_has_its_turn(rt: HostRuntime) -> ExitCode {
     passes(have_their_turns(&mut RoundRobin::new(rt.alloc())))
-}
-
-/// Whether a removal of the one key and an insert of another have the right replies.
-fn is_answered(map: &mut LinkedHashMap<u32, u32>) -> bool {
-    let _old = map.insert(1, 10);
-    match remove_then_insert(map.allocator(), map, 1, 2, 20) {
-        Ok(replies) => matches!(
-            replies.as_slice(),
-            [Reply::Value(Some(10)), Reply::Value(None)]
-        ),
-        Err(_) => false,
-    }
-}
-
-#[test]
-fn an_insert_after_a_removal_is_answered(rt: HostRuntime) -> ExitCode {
-    passes(is_answered(&mut LinkedHashMap::new(rt.alloc())))
-}
-
-/// What a cache of two places has for a key that is inserted, for one that is present, and once a third key
-/// has evicted the least recently used one.
-fn values_used(cache: &mut LruCache<u32, u32>) -> [Result<u32, (u32, u32)>; 5] {
-    [
-        value_or(cache, 1, 10),
-        value_or(cache, 2, 20),
-        value_or(cache, 1, 11),
-        value_or(cache, 3, 30),
-        value_or(cache, 2, 21),
-    ]
-}
-
-/// Whether these are the values.
-fn are_values_used(cache: &mut LruCache<u32, u32>) -> bool {
-    values_used(cache) == [Ok(10), Ok(20), Ok(10), Ok(30), Ok(21)]
-}
-
-#[test]
-fn a_value_is_put_in_where_the_key_is_absent(rt: HostRuntime) -> ExitCode {
-    passes(are_values_used(&mut LruCache::new(rt.alloc(), 2)))
-}
-
-/// Whether a value that cannot be made is none, one that is made is kept, and none is made for it again.
-fn is_made_once(cache: &mut LruCache<u32, u32>) -> bool {
-    let failed = value_or_made(cache, 1, || Err::<u32, u8>(7));
-    let made = value_or_made(cache, 1, || Ok::<u32, u8>(10));
-    let kept = value_or_made(cache, 1, || Err::<u32, u8>(8));
-    [failed, made, kept] == [Err(TryInsertError::Make(1, 7)), Ok(10), Ok(10)]
-}
-
-#[test]
-fn a_value_is_made_once(rt: HostRuntime) -> ExitCode {
-    passes(is_made_once(&mut LruCache::new(rt.alloc(), 1)))
-}
-
-/// Whether two of three zeros among four values are taken where two may be, and two entries are left.
-fn are_zeros_taken(map: &mut LinkedHashMap<u8, u64>) -> bool {
-    for (key, value) in [(1, 0), (2, 5), (3, 0), (4, 0)] {
-        let _old = map.insert(key, value);
-    }
-    (map.len() == 4) & (take_zeros(map, 2) == 2) & (map.len() == 2)
-}
-
-#[test]
-fn a_retain_counts_what_it_takes_of_a_map(rt: HostRuntime) -> ExitCode {
-    passes(are_zeros_taken(&mut LinkedHashMap::new(rt.alloc())))
-}
-
-/// Whether both of the even elements of 1 to 4 are taken where three may be, and two elements are left.
-fn are_even_taken(set: &mut LinkedHashSet<u64>) -> bool {
-    for element in 1..5u64 {
-        let _is_new = set.insert(element);
-    }
-    (set.len() == 4) & (take_even(set, 3) == 2) & (set.len() == 2)
-}
-
-#[test]
-fn a_retain_counts_what_it_takes_of_a_set(rt: HostRuntime) -> ExitCode {
-    passes(are_even_taken(&mut LinkedHashSet::new(rt.alloc())))
 }

@@ -6,9 +6,9 @@ use Rattle.test_calls.proofs.loops.copy_keys.Given as goal
 
 -- the entries before those that are left have been written
 abbrev pub invariant-loop-key : goal.invariant-loop-key
-invariant-loop-key g l =
+invariant-loop-key l =
     ((walk_map l.walk).ghost_name ≡ (walk_map l.initial.walk).ghost_name)
     × WritesSoFar (λ e. e.0) (state_of l.fn.pairs) (walk_state l.walk)
 
 abbrev pub decreases-loop-key : goal.decreases-loop-key
-decreases-loop-key g l = (walk_state l.walk).left
+decreases-loop-key l = (walk_state l.walk).left

@@ -6,9 +6,9 @@ use Rattle.test_calls.proofs.loops.set_each.Given as goal
 
 -- the entries before those that are left have been written
 abbrev pub invariant-loop-old : goal.invariant-loop-old
-invariant-loop-old g l =
+invariant-loop-old l =
     ((values_map l.values).ghost_name ≡ (values_map l.initial.values).ghost_name)
     × WritesSoFar (λ e. l.fn.value) (state_of l.fn.pairs) (values_state l.values)
 
 abbrev pub decreases-loop-old : goal.decreases-loop-old
-decreases-loop-old g l = (values_state l.values).left
+decreases-loop-old l = (values_state l.values).left

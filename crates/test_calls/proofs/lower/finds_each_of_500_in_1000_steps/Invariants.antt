@@ -1,4 +1,4 @@
-use Rattle.test_calls.proofs.lower.tables.finds_each_of_500_in_1000_steps.Given as goal
+use Rattle.test_calls.proofs.lower.finds_each_of_500_in_1000_steps.Given as goal
 
 -- the ledger is the blank's
 abbrev pub ghosts-count_steps : goal.ghosts-count_steps

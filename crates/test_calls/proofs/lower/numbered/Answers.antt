@@ -3,7 +3,7 @@ use Rattle.std.proofs.lemmas.List.Sorted.{length_permutation}
 use Rattle.hashlink_table.specs.Contents.{Contents, len_of}
 use Rattle.test_calls.proofs.Numbered.{numbered_none, numbered_more, numbered_few}
 use Rattle.test_calls.proofs.Telling.{tells-none, tells-more, tells-same}
-use Rattle.test_calls.proofs.lower.tables.numbered.Goals as goal
+use Rattle.test_calls.proofs.lower.numbered.Goals as goal
 
 pub loop-number-init : goal.loop-number-init
 loop-number-init c =

@@ -2,7 +2,7 @@ use Rattle.std.proofs.Common.{◌≤◌}
 use Rattle.hashlink_table.specs.Contents.{len_of}
 use Rattle.test_calls.specs.Telling.{Tells}
 use Rattle.test_calls.proofs.Numbered.{IsNumbered}
-use Rattle.test_calls.proofs.lower.tables.numbered.Given as goal
+use Rattle.test_calls.proofs.lower.numbered.Given as goal
 
 abbrev pub invariant-loop-number : goal.invariant-loop-number
 invariant-loop-number l =
