@@ -15,6 +15,11 @@ use hashlink::{AllocError, LinkedHashMap, LruCache};
 use std::alloc::Global;
 use std::hash::{BuildHasher, Hash};
 
+// What a read tells of every pair.
+fn any<K, V>(_key: &K, _value: &V) -> bool {
+    true
+}
+
 /// Runs the commands on the cache and returns how many entries it then has. These are never more than its
 /// capacity, if there were no more before and no command goes through an entry.
 pub fn length_after<K: Eq + Hash + Drop, V: Drop, S: BuildHasher>(
@@ -26,7 +31,7 @@ pub fn length_after<K: Eq + Hash + Drop, V: Drop, S: BuildHasher>(
     ensures length { IfOk result (λ n. n ≡ length (entries_of cache.new)) }
     ensures within { IfOk result (λ n. n ≤ (state_of cache.new).cap) }
 {
-    run_cache(cache, commands, &|_: &K, _: &V| true)?;
+    run_cache(cache, commands, &any)?;
     Ok(cache.len())
 }
 
@@ -41,7 +46,7 @@ pub fn insert_where_shorter<K: Eq + Hash + Drop, V: Drop, S: BuildHasher>(
     requires { AllPass keeps_nodes commands.items }
 {
     let before = map.len();
-    run(map, commands, &|_: &K, _: &V| true)?;
+    run(map, commands, &any)?;
     if before <= map.len() {
         return Ok(None);
     }
@@ -78,7 +83,7 @@ pub fn remove_then_insert<K: Eq + Hash + Drop, V: Drop, S: BuildHasher>(
         → (was : Option V) × (slice_get replies.items 1 ≡ Some (Value was))) }
 {
     let commands = two_commands(alloc, Command::Remove(gone), Command::Insert(key, value))?;
-    run(map, commands, &|_: &K, _: &V| true)
+    run(map, commands, &any)
 }
 
 /// Puts the pair in and leaves the entries whose value divides `total`, in one run, and returns the replies.

@@ -11,7 +11,6 @@ use std::alloc::{AllocError, Global};
 use std::hash::Hash;
 
 /// Returns the items without those that equal an earlier one, in their order.
-#[tactic(auto, using(crate::proofs::Appearing::appears))]
 pub fn distinct<T: Copy + Eq + Hash>(
     alloc: Global,
     items: &[T],

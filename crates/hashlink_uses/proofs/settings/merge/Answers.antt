@@ -1,4 +1,4 @@
-use Rattle.std.proofs.Common.{List, [], ◌∷◌, ◌++◌, append_assoc, ap, sym, ◌∙◌}
+use Rattle.std.proofs.Common.{List, [], ◌∷◌, ◌++◌, append_assoc, ap, refl, sym, ◌∙◌}
 use Rattle.std.proofs.lemmas.List.{append-nil}
 use Rattle.std.proofs.lemmas.List.Sums.{fold-append}
 use Rattle.std.proofs.lemmas.Result.{err_from_is_err_and}
@@ -14,6 +14,9 @@ returns-in_err-set-clause-stopped g c =
     let error = err_from_is_err_and c.from_residual.result c.from_residual.ensures.1 in
     let pair = c.in-Some.ensures.steps ∙ ap (λ p. p ∷ c.next.new.self) (sym (error.2 ∙ refused.0)) in
     rw error.1 (inv.2, c.next.new.self, inv.3 ∙ ap (λ ps. inv.2 ++ ps) pair, refused.1 ∙ inv.4)
+
+pub loop-key-init : goal.loop-key-init
+loop-key-init g c = (tt, tt, [], sym c.into_iter-key-iterator.ensures.into_iter_gives, refl)
 
 pub loop-key-preserved : goal.loop-key-preserved
 loop-key-preserved g c =
