@@ -152,8 +152,7 @@ type NotMade = TryInsertError<u64, u64, u8>;
 
 /// Whether a value that was not made or not kept says why.
 fn value_says_why(alloc: Global, failed: NotMade, refused: NotMade) -> bool {
-    says(alloc, &failed, "no value was made: 7")
-        & says(alloc, &refused, "memory allocation failed")
+    says(alloc, &failed, "no value was made: 7") & says(alloc, &refused, "memory allocation failed")
 }
 
 #[test]

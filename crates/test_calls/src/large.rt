@@ -1,8 +1,8 @@
 //! One large run of a map, which a set is too, of each cache, and of a text.
 use crate::few::{Map, is_cloned, is_value, map_of, passes};
+use hashlink::LruCache;
 use hashlink::run::run_text;
 use hashlink::weighted::WeightedCache;
-use hashlink::LruCache;
 use std::alloc::Global;
 use std::process::ExitCode;
 

@@ -7,7 +7,8 @@ use Rattle.hashlink_uses.proofs.lines.distinct.Goals as goal
 
 pub loop-item-init : goal.loop-item-init
 loop-item-init g c =
-    ap (λ s. elements_of s ++ first_appearances g.T.PartialEq.eq (elements_of s) c.args.items.now) c.new-seen.ensures
+    let eq = g.T.PartialEq.eq in
+    ap (λ s. elements_of s ++ first_appearances eq (elements_of s) c.args.items.now) c.new-seen.ensures
 
 pub loop-item-preserved : goal.loop-item-preserved
 loop-item-preserved g c =
@@ -24,6 +25,5 @@ pub returns : goal.returns
 returns g c =
     let eq = g.T.PartialEq.eq in
     let seen = elements_of c.loop-item.seen in
-    sym (append-nil seen)
-    ∙ ap (λ xs. seen ++ first_appearances eq seen xs) (sym (drop_all _ c.args.items.now c.loop-item-test.false))
-    ∙ c.loop-item.invariant
+    let none = drop_all _ c.args.items.now c.loop-item-test.false in
+    sym (append-nil seen) ∙ ap (λ xs. seen ++ first_appearances eq seen xs) (sym none) ∙ c.loop-item.invariant
