@@ -19,3 +19,8 @@ returns-in-Some-clause-there g c ok =
 
 pub returns-in-None-clause-none : goal.returns-in-None-clause-none
 returns-in-None-clause-none g c _ = no-value-first (entries_of c.args.map.now) (search rules)
+
+pub returns-in-None-clause-unchanged : goal.returns-in-None-clause-unchanged
+returns-in-None-clause-unchanged g c _ =
+    let none = c.current_value.follows.holds-at-none in
+    ap state_of ((search rules) ∙ none.1 ∙ c.cursor_front_mut-cursor.ensures.unchanged)

@@ -1,4 +1,4 @@
-use Rattle.std.proofs.Common.{rules, ap, ◌∙◌}
+use Rattle.std.proofs.Common.{rules, ap, arith, length, ◌∙◌}
 use Rattle.hashlink.specs.Keyed.{entries_of}
 use Rattle.hashlink.specs.MapState.{with_value}
 use Rattle.hashlink.proofs.Walking.{on-some, walk-ends}
@@ -14,3 +14,8 @@ returns-clause-written g c _ =
 
 pub returns-in_default-clause-none : goal.returns-in_default-clause-none
 returns-in_default-clause-none g c _ = no-value-left (entries_of c.args.map.now) (search rules)
+
+pub returns-clause-some : goal.returns-clause-some
+returns-clause-some g c _ none =
+    let left = ap (λ s. s.left) c.iter_mut-walk.ensures.rest in
+    omega (arith, c.in-Some.ensures.left, left, ap length none)

@@ -14,3 +14,8 @@ returns-clause-written g c _ =
     walk-ends (c.next_value_back.follows.lender v).map.now (search rules)
     (ap (λ s. s.map) told.1 ∙ ap (λ s. with_value s.map (last_place s) v) c.iter_mut-walk.ensures.rest
     ∙ ap (λ j. with_value (state_of c.args.map.now) j v) last)
+
+pub returns-clause-some : goal.returns-clause-some
+returns-clause-some g c _ none =
+    let left = ap (λ s. s.left) c.iter_mut-walk.ensures.rest in
+    omega (arith, c.in-Some.ensures.left, left, ap length none)
