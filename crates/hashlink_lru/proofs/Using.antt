@@ -1,27 +1,30 @@
 -- A use of a key that may be absent, and what is written through the value that it lends, which stands last.
-use Rattle.std.specs.Prelude.{◌≡◌, ℕ, ◌+◌, ◌-◌, max, Bool, List, [], ◌∷◌, ◌++◌, length, drop, Option, None}
-use Rattle.std.specs.Prelude.{Some, MatchOption, Ok}
+use Rattle.std.specs.Prelude.{◌≡◌, ℕ, suc, ◌+◌, ◌-◌, ◌≤◌, max, Bool, List, [], ◌∷◌, ◌++◌, length, take, drop}
+use Rattle.std.specs.Prelude.{Option, None, Some, MatchOption, Result, Ok, Err, IfOk, IsOk, slice_get}
+use Rattle.std.specs.Borrow.{MutBor}
 use Rattle.std.proofs.lemmas.List.{length-append, drop-append-le}
 use Rattle.std.specs.Cmp.{IsEquivalence}
 use Rattle.std.specs.Map.{lookup}
 use Rattle.std.specs.Option.{option_map, UnwrapsOrElse}
-use Rattle.std.proofs.Common.{refl, ap, sym, subst, ◌∙◌, arith}
+use Rattle.std.proofs.Common.{refl, ap, sym, subst, ◌∙◌, arith, ⊎_elim}
 use Rattle.std.proofs.lemmas.Option.{none-some, same_Some}
-use Rattle.hashlink_model.specs.Cache.{CacheState, CacheGets, CacheGetsAndWrites, KeepsLast, last_entries}
-use Rattle.hashlink_model.specs.Entries.{IsEntries, moved, place_of, put, set_value_at, without, stored_key}
+use Rattle.hashlink_model.specs.Cache.{CacheState, CacheGets, CacheGetsAndWrites, last_entries}
+use Rattle.hashlink_model.specs.Entries.{IsEntries, place_of, put, set_value_at, without, stored_key}
 use Rattle.hashlink_model.specs.MapState.{Changes, Inserts, MapState, with_value}
 use Rattle.hashlink_model.specs.Walk.{last_of}
 use Rattle.hashlink_model.proofs.Afterwards.{IsEntries-moved, length-put_there, moved-there}
 use Rattle.hashlink_model.proofs.ByPlace.{length-set_value_at, set_value_at-here, set_value_at-place}
 use Rattle.hashlink_model.proofs.CacheBounds.{within-gets_match_and_writes}
-use Rattle.hashlink_model.proofs.Caches.{length-last_entries}
-use Rattle.hashlink_model.proofs.CacheSteps.{gets_hit}
+use Rattle.hashlink_model.proofs.Caches.{last_entries-end, length-last_entries}
+use Rattle.hashlink_model.proofs.CacheSteps.{gets_hit, put_entries}
 use Rattle.hashlink_model.proofs.Finds.{stored_key-equal}
 use Rattle.hashlink_model.proofs.Places.{place_of_its_key, slice_get_here}
-use Rattle.hashlink_model.proofs.Puts.{put_back_absent}
+use Rattle.hashlink_model.proofs.Puts.{put_back, put_back_absent}
 use Rattle.hashlink_model.proofs.Splits.{none_from_lookup}
+use Rattle.hashlink_map.specs.EntryLends.{PutsLast}
 use Rattle.hashlink_map.proofs.AtNode.{adds-rewritten-at}
-use Rattle.hashlink_lru.specs.Cached.{MovesOrMakes, PutsNewIn, UsesOrPuts, UsesAndWrites, StaysWithinOne}
+use Rattle.hashlink_lru.specs.Cached.{FitsAndWritesLast, FitsUnless, MovesOrMakes, PutsNewIn, UsesAndWrites}
+use Rattle.hashlink_lru.specs.Cached.{StaysWithinOne}
 
 -- ---- the last of a list
 
@@ -29,6 +32,20 @@ last-is : {X : Type 0} (xs : List X) (x : X) → last_of (xs ++ x ∷ []) ≡ So
 last-is xs x =
     let n : length (xs ++ x ∷ []) - 1 ≡ length xs = omega (arith, length-append xs (x ∷ [])) in
     rw (n, slice_get_here xs x []) refl
+
+-- of an end it is that of the list
+last-end : {X : Type 0} (xs ys : List X) → 1 ≤ length ys → last_of (xs ++ ys) ≡ last_of ys
+last-end [] ys p = refl
+last-end (x ∷ xs) ys p =
+    let l = length-append xs ys in
+    let n : length (x ∷ (xs ++ ys)) - 1 ≡ suc (length (xs ++ ys) - 1) = omega arith in
+    ap (slice_get (x ∷ (xs ++ ys))) n ∙ last-end xs ys p
+
+last-some : {X : Type 0} (xs : List X) → 1 ≤ length xs → (x : X) × (last_of xs ≡ Some x)
+last-some [] p = absurd (omega arith)
+last-some (x ∷ []) p = (x, refl)
+last-some (x ∷ y ∷ xs) p =
+    let s = last-some (y ∷ xs) (omega arith) in (s.0, last-end (x ∷ []) (y ∷ xs) (omega arith) ∙ s.1)
 
 last-written : {K V : Type 0} (es : List (K × V)) (k : K) (v w : V)
     → set_value_at (es ++ (k, v) ∷ []) (length (es ++ (k, v) ∷ []) - 1) w ≡ es ++ (k, w) ∷ []
@@ -60,9 +77,6 @@ module _ {K V S : Type 0} (eq : K → K → Bool) (laws : IsEquivalence eq) (old
 
   stands_last : mid.map.entries ≡ kept ++ (k, v) ∷ []
   stands_last = s.map.fits.entries ∙ ap (λ zs. last_entries zs most) went_last ∙ kept_last v
-
-  put_last : last_of mid.map.entries ≡ Some (k, v)
-  put_last = ap last_of stands_last ∙ last-is kept (k, v)
 
   -- what is written there is put in
   put_written : (w : V)
@@ -137,100 +151,89 @@ module _ {K V S : Type 0} (eq : K → K → Bool) (laws : IsEquivalence eq) (old
         cap = s.cap;
       }
 
--- ---- either
+-- ---- the map's step, by which a key is used
 
--- the map's step, by whether there is an entry more, and what was dropped then
-module _ {K V S : Type 0} (eq : K → K → Bool) (Makes : V → Type 0) (old new : CacheState K V S)
-    (between : MapState K V S) (k : K) where
-  abbrev End : ℕ
-  End = length old.map.entries
+module _ {K V S : Type 0} (eq : K → K → Bool) (Makes : V → Type 0) (old : MapState K V S)
+    (new : MapState K V S) (k : K) (m : MovesOrMakes eq Makes old new k) where
+  end_is : new.entries ≡ without eq old.entries k ++ (stored_key eq old.entries k, m.0) ∷ []
+  end_is = put_entries eq old new k m.0 (lookup (eq k) old.entries) m.2 ∙ put_back eq old.entries k m.0
 
-  abbrev Made : Option V → Type 0
-  Made o = (v : V) × UnwrapsOrElse o Makes v × Inserts eq old.map between k v End (Ok o)
+  -- so there is an entry
+  pub stands : 1 ≤ length new.entries
+  stands =
+      let l = ap length end_is in
+      omega (arith, length-append (without eq old.entries k) ((stored_key eq old.entries k, m.0) ∷ []))
 
-  abbrev Used : Option V → Type 0
-  Used o = MatchOption o ((v : V) × Makes v × PutsNewIn eq old new k v) (λ w. CacheGets eq old new k (Some w))
+  lent_is : (v : V) → option_map (λ e. e.1) (last_of new.entries) ≡ Some v
+      → UnwrapsOrElse (lookup (eq k) old.entries) Makes v
+  lent_is v at =
+      let last = ap last_of end_is ∙ last-is (without eq old.entries k) (stored_key eq old.entries k, m.0) in
+      subst (UnwrapsOrElse (lookup (eq k) old.entries) Makes)
+      (same_Some m.0 v (sym (ap (option_map (λ e. e.1)) last) ∙ at)) m.1
 
-  pub used_new : MovesOrMakes eq Makes old.map between k → (length between.entries ≡ End → ⊥)
-      → (n : ℕ) → n ≡ max old.cap 1 → KeepsLast between new.map n → new.cap ≡ old.cap
-      → UsesOrPuts eq Makes old new k
-  used_new made more n most keeps cap = by (lookup (eq k) old.map.entries) refl made
-    where
-      by : (o : Option V) → lookup (eq k) old.map.entries ≡ o → Made o → Used o
-      by None l m = (
-        m.0,
-        m.1,
-        record {
-          map = record {
-            between = between;
-            inserts = m.2;
-            fits = subst (KeepsLast between new.map) most keeps;
-          };
-          cap = cap;
-        },
-      )
-      by (Some w) l m =
-          let same = ap length m.2.puts.entries ∙ length-put_there eq old.map.entries k m.0 End w l in
-          absurd (omega arith)
+  -- whose value is the one that is lent
+  pub lent_value : {E : Type 0} (r : Result (MutBor V) E)
+      → IfOk r (λ v. option_map (λ e. e.1) (last_of new.entries) ≡ Some v.now)
+      → IfOk r (λ v. UnwrapsOrElse (lookup (eq k) old.entries) Makes v.now)
+  lent_value (Ok v) at = lent_is v.now at
+  lent_value (Err e) at = tt
 
-  pub used_there : MovesOrMakes eq Makes old.map between k → length between.entries ≡ End
-      → new.map ≡ between → new.cap ≡ old.cap
-      → UsesOrPuts eq Makes old new k
-  used_there made few same kept = by (lookup (eq k) old.map.entries) refl made
-    where
-      by : (o : Option V) → lookup (eq k) old.map.entries ≡ o → Made o → Used o
-      by None l m =
-          let one = ap length m.2.adds.entries ∙ m.2.adds.more in
-          absurd (omega arith)
-      by (Some w) l m =
-          let es = old.map.entries in
-          let moves : Changes old.map between (moved eq es k End) 6
-          = subst (λ xs. Changes old.map between xs 6)
-          (ap (λ u. put eq es k u End) m.1 ∙ sym (moved-there eq es k End w l)) m.2.puts in
-          record {
-            map = record {
-              answer = sym l;
-              step = subst (λ a. Changes old.map a (moved eq es k End) 6) (sym same) moves;
-            };
-            cap = kept;
-          }
+-- the map's step, from what a call says that lent the value
+pub moved_or_made : {K V S E : Type 0} (eq : K → K → Bool) (Makes : V → Type 0) (old new : MapState K V S) (k : K)
+    (r : Result (MutBor V) E) (v : MutBor V)
+    → r ≡ Ok v → UnwrapsOrElse (lookup (eq k) old.entries) Makes v.now → (IsOk r → PutsLast eq old new k v.now)
+    → MovesOrMakes eq Makes old new k
+moved_or_made eq Makes old new k r v is made puts = (v.now, made, puts (subst IsOk (sym is) refl))
+
+-- ---- what fits, and its last value
+
+module _ {K V S : Type 0} (n : ℕ) (old new : CacheState K V S) (fits : FitsUnless n old new)
+    (some : 1 ≤ length old.map.entries) where
+  pub same_last : last_of new.map.entries ≡ last_of old.map.entries
+  same_last =
+      let es = old.map.entries in
+      let most = max old.cap 1 in
+      let few = length-last_entries es most in
+      ⊎_elim (λ same. ap (λ c. last_of c.map.entries) same.1)
+      (λ more. ap last_of more.1.map.entries ∙ sym (last-end (take (length es - most) es) (last_entries es most)
+      (omega arith)) ∙ ap last_of (last_entries-end es most)) fits
+
+  pub some_stands : None ≡ option_map (λ e. e.1) (last_of new.map.entries) → ⊥
+  some_stands none =
+      let s = last-some old.map.entries some in
+      none-some s.0.1 (none ∙ ap (option_map (λ e. e.1)) (same_last ∙ s.1))
+
+-- ---- a use whose value is lent
 
 module _ {K V S : Type 0} (eq : K → K → Bool) (laws : IsEquivalence eq) (Makes : V → Type 0)
-    (old mid : CacheState K V S) (k : K) where
-  abbrev By : Option V → Type 0
-  By o = MatchOption o ((v : V) × Makes v × PutsNewIn eq old mid k v) (λ w. CacheGets eq old mid k (Some w))
+    (old : CacheState K V S) (between : MapState K V S) (k : K) where
+  abbrev Made : Option V → Type 0
+  Made o = (v : V) × UnwrapsOrElse o Makes v × Inserts eq old.map between k v (length old.map.entries) (Ok o)
 
-  -- the value that stands last, which is what is lent
-  value_by : (o : Option V) → By o
-      → (v : V) × (option_map (λ e. e.1) (last_of mid.map.entries) ≡ Some v) × UnwrapsOrElse o Makes v
-  value_by None s = (s.0, ap (option_map (λ e. e.1)) (put_last eq laws old mid k s.0 s.2), s.1)
-  value_by (Some w) s = (w, ap (option_map (λ e. e.1)) (hit_last eq laws old mid k w s), refl)
-
-  pub lent_value : UsesOrPuts eq Makes old mid k → (u : V)
-      → Some u ≡ option_map (λ e. e.1) (last_of mid.map.entries)
-      → UnwrapsOrElse (lookup (eq k) old.map.entries) Makes u
-  lent_value s u at =
-      let v = value_by (lookup (eq k) old.map.entries) s in
-      let same : Some v.0 ≡ Some u = sym (at ∙ v.1) in
-      subst (UnwrapsOrElse (lookup (eq k) old.map.entries) Makes) (same_Some v.0 u same) v.2
-
-  pub some_stands : UsesOrPuts eq Makes old mid k → None ≡ option_map (λ e. e.1) (last_of mid.map.entries) → ⊥
-  some_stands s none = let v = value_by (lookup (eq k) old.map.entries) s in none-some v.0 (none ∙ v.1)
-
-  written_by : IsEntries eq old.map.entries → (w : V) (new : CacheState K V S)
-      → new ≡ record mid { map = with_value mid.map (length mid.map.entries - 1) w }
-      → (o : Option V) → By o
-      → MatchOption o (PutsNewIn eq old new k w) (λ _. CacheGetsAndWrites eq old new k w)
-      × StaysWithinOne old new
-  written_by d w new is None s =
-      let p = subst (λ c. PutsNewIn eq old c k w) (sym is) (put_written eq laws old mid k s.0 s.2 w) in
-      (p, put_within eq laws old new k w p)
-  written_by d w new is (Some v) s =
-      let g = subst (λ c. CacheGetsAndWrites eq old c k w) (sym is) (hit_written eq laws old mid k v s d w) in
-      (g, λ n one within. within-gets_match_and_writes old new n (eq k) w g within)
-
-  pub used_and_written : IsEntries eq old.map.entries → UsesOrPuts eq Makes old mid k → (w : V)
-      (new : CacheState K V S)
-      → new ≡ record mid { map = with_value mid.map (length mid.map.entries - 1) w }
+  pub used_and_written : (n : ℕ) → n ≡ length old.map.entries → IsEntries eq old.map.entries
+      → MovesOrMakes eq Makes old.map between k → (w : V) (new : CacheState K V S)
+      → FitsAndWritesLast n (record { map = between; cap = old.cap }) new w
       → UsesAndWrites eq old new k w × StaysWithinOne old new
-  used_and_written d s w new is = written_by d w new is (lookup (eq k) old.map.entries) s
+  used_and_written n long d made w new s = by (lookup (eq k) old.map.entries) refl made
+    where
+      by : (o : Option V) → lookup (eq k) old.map.entries ≡ o → Made o
+          → MatchOption o (PutsNewIn eq old new k w) (λ _. CacheGetsAndWrites eq old new k w)
+          × StaysWithinOne old new
+      by None l m =
+          let one = ap length m.2.adds.entries ∙ m.2.adds.more in
+          let fits = ⊎_elim (λ same. absurd (omega (arith, same.0))) (λ more. more.1) s.1 in
+          let p = subst (λ c. PutsNewIn eq old c k w) (sym s.2) (put_written eq laws old s.0 k m.0
+          (record { map = record { between = between; inserts = m.2; fits = fits.map }; cap = fits.cap }) w) in
+          (p, put_within eq laws old new k w p)
+      by (Some x) l m =
+          let es = old.map.entries in
+          let end = length es in
+          let few = ap length m.2.puts.entries ∙ length-put_there eq es k m.0 end x l in
+          let same = ⊎_elim (λ same. same.1) (λ more. absurd (more.0 (few ∙ sym long))) s.1 in
+          let moves = subst (λ xs. Changes old.map between xs 6)
+          (ap (λ u. put eq es k u end) m.1 ∙ sym (moved-there eq es k end x l)) m.2.puts in
+          let gets = subst (λ c. CacheGets eq old c k (Some x)) (sym same)
+          (record { map = record { answer = sym l; step = moves }; cap = refl }) in
+          let g = subst (λ c. CacheGetsAndWrites eq old c k w) (sym s.2)
+          (hit_written eq laws old s.0 k x gets d w) in
+          (g, λ n one within. within-gets_match_and_writes old new n (eq k) w g within)

@@ -1,10 +1,11 @@
 -- What a contract sees of a cache.
-use Rattle.std.specs.Prelude.{◌≡◌, ℕ, ◌+◌, ◌≤◌, max, Bool, List, Option, None, Some, Result, Err, MatchOption}
+use Rattle.std.specs.Prelude.{◌≡◌, ◌⊎◌, ℕ, ◌+◌, ◌-◌, ◌≤◌, max, Bool, List, length, Option, None, Result, Err}
+use Rattle.std.specs.Prelude.{MatchOption}
 use Rattle.std.specs.Map.{lookup}
 use Rattle.std.specs.Option.{UnwrapsOrElse}
-use Rattle.hashlink_model.specs.Cache.{CacheState, CacheInserts, CacheGets, CacheGetsAndWrites, IsWithin}
-use Rattle.hashlink_model.specs.Cache.{OnMap, InsertsLast, InsertsThenFits}
-use Rattle.hashlink_model.specs.MapState.{MapState, empty_map}
+use Rattle.hashlink_model.specs.Cache.{CacheState, CacheInserts, CacheGetsAndWrites, IsWithin}
+use Rattle.hashlink_model.specs.Cache.{KeepsLast, OnMap, InsertsLast, InsertsThenFits}
+use Rattle.hashlink_model.specs.MapState.{MapState, empty_map, with_value}
 use Rattle.hashlink_core.specs.Keyed as keyed
 use Rattle.hashlink_core.specs.Keyed.{Keyed}
 use Rattle.hashlink_map.specs.EntryLends.{PutsLast}
@@ -41,14 +42,8 @@ module _ {K V S : Type 0} (eq : K → K → Bool) where
   MovesOrMakes Makes old new k =
       (v : V) × UnwrapsOrElse (lookup (eq k) old.entries) Makes v × PutsLast eq old new k v
 
-  -- a use of a key: a hit of `get`, or the insert of an absent key with a value that may be made
-  abbrev pub UsesOrPuts : (V → Type 0) → CacheState K V S → CacheState K V S → K → Type 0
-  UsesOrPuts Makes old new k =
-      MatchOption (lookup (eq k) old.map.entries) ((v : V) × Makes v × PutsNewIn old new k v)
-      (λ w. CacheGets eq old new k (Some w))
-
-  -- the same once w was written through what was lent: a hit of `get_mut`, or the insert of an absent key
-  -- with w
+  -- a use of a key once w was written through what was lent: a hit of `get_mut`, or the insert of an absent
+  -- key with w
   abbrev pub UsesAndWrites : CacheState K V S → CacheState K V S → K → V → Type 0
   UsesAndWrites old new k w =
       MatchOption (lookup (eq k) old.map.entries) (PutsNewIn old new k w)
@@ -60,6 +55,19 @@ module _ {K V S : Type 0} (eq : K → K → Bool) where
       → TryInsertError K V E → Type 0
   FailsToUse old new k (Make q e) = new ≡ old
   FailsToUse old new k (Memory pair) = CacheInserts eq old new k pair.1 (Err pair)
+
+module _ {K V S : Type 0} where
+  -- where there are not n entries all but the last `cap` left, and at capacity 0 all but the last
+  abbrev pub FitsUnless : ℕ → CacheState K V S → CacheState K V S → Type 0
+  FitsUnless n old new =
+      ((length old.map.entries ≡ n) × (new ≡ old))
+      ⊎ ((length old.map.entries ≡ n → ⊥) × OnMap (λ a b. KeepsLast a b (max old.cap 1)) old new)
+
+  -- and then v was written as the last value
+  abbrev pub FitsAndWritesLast : ℕ → CacheState K V S → CacheState K V S → V → Type 0
+  FitsAndWritesLast n old new v =
+      (c : CacheState K V S) × FitsUnless n old c
+      × (new ≡ record c { map = with_value c.map (length c.map.entries - 1) v })
 
 module _ {K V S T : Type 0} where
   -- the map of a cache

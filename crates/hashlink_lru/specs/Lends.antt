@@ -1,5 +1,5 @@
 -- What a cache ends as, once what was lent out of it has ended.
-use Rattle.std.specs.Prelude.{◌≡◌, Bool, Option, OnSome, Result, Err, IfErr, length, ⊤}
+use Rattle.std.specs.Prelude.{◌≡◌, ℕ, Bool, Option, OnSome, Result, Err, IfErr, length, ⊤}
 use Rattle.std.specs.Borrow.{Fml, GName, RattleType, MutBor, Lends, LendsSo, LendsSoOk, follows, follows_so}
 use mathlib.Core.Option.{none}
 use Rattle.std.specs.declared.hash.Hasher as hasher
@@ -13,7 +13,8 @@ use Rattle.hashlink_map.specs.Lends.{map_row}
 use Rattle.hashlink_map.specs.declared.try_insert_error.TryInsertError.{TryInsertError}
 use Rattle.hashlink_lru.specs.contracts.cache.LruCache.{the_row}
 use Rattle.hashlink_lru.specs.declared.cache.LruCache.{LruCache}
-use Rattle.hashlink_lru.specs.Cached.{FailsToUse, SameCapacity, StaysWithin, StaysWithinOne, UsesAndWrites}
+use Rattle.hashlink_lru.specs.Cached.{FailsToUse, FitsAndWritesLast, SameCapacity, StaysWithin, StaysWithinOne}
+use Rattle.hashlink_lru.specs.Cached.{UsesAndWrites}
 use Rattle.hashlink_lru.specs.Cached.{entries_of, state_of, with_map}
 
 module _ (K V S T : RattleType) (g : HashMembers K.Denot) (b : builder.Ghosts S.Denot T.Denot)
@@ -29,6 +30,12 @@ module _ (K V S T : RattleType) (g : HashMembers K.Denot) (b : builder.Ghosts S.
     -- the map is lent: the cache ends with what was made of it
     abbrev pub LendsMap : MutBor (Keyed K.Denot V.Denot S.Denot) → Fml
     LendsMap m = Lends cache_row (map_row K V S T g b w) c m (with_map c.now)
+
+    -- the last value is lent: where there are not n entries the cache fits its capacity first, with one entry
+    -- at least, and it ends with what was written there
+    abbrev pub LendsLast : {E : Type 0} → ℕ → Result (MutBor V.Denot) E → Fml
+    LendsLast n r =
+        LendsSoOk cache_row V c r (λ new v. FitsAndWritesLast n (state_of c.now) (state_of new) v) (λ _. ⊥)
 
     -- the value of a key that is used or put is lent: the cache ends with what was written there, or as the
     -- refusal of the pair leaves it. No more entries are beyond the capacity than before, except that one

@@ -1,12 +1,11 @@
 //! Uses of a key that may be absent: a hit returns a reference to the value as `get_mut` does, a miss makes
 //! the value and inserts it.
-ghost use Rattle.std.specs.Prelude.{◌≡◌, None, Ok, Err, OnOk, IfOk, IfErr};
+ghost use Rattle.std.specs.Prelude.{◌≡◌, ◌≤◌, None, Some, Ok, OnOk, IfOk, IfErr, length};
 ghost use Rattle.std.specs.Borrow.{sem};
-ghost use Rattle.std.specs.Option.{UnwrapsOrElse};
+ghost use Rattle.std.specs.Option.{option_map, UnwrapsOrElse};
 ghost use Rattle.std.specs.Map.{lookup};
-ghost use Rattle.hashlink_model.specs.Cache.{CacheInserts};
 ghost use Rattle.hashlink_model.specs.Entries.{IsEntries};
-ghost use Rattle.hashlink_model.specs.MapState.{RefusesEntry};
+ghost use Rattle.hashlink_model.specs.Walk.{last_of};
 ghost use Rattle.hashlink_core.specs.Keyed as keyed;
 ghost use Rattle.hashlink_map.specs.TryInsert.{FailsToInsert, HandsBack};
 ghost use Rattle.hashlink_lru.specs.Cached.{MovesOrMakes};
@@ -16,8 +15,8 @@ use hashlink_map::{LinkedHashMap, TryInsertError};
 use std::hash::{BuildHasher, Hash};
 
 impl<K: Eq + Hash, V, S: BuildHasher> LruCache<K, V, S> {
-    ghost use Rattle.hashlink_lru.specs.Cached.{entries_of, state_of, UsesOrPuts, FailsToUse};
-    ghost use Rattle.hashlink_lru.specs.Lends.{LendsUsedOrNew, LendsUsedOrTryNew};
+    ghost use Rattle.hashlink_lru.specs.Cached.{entries_of, state_of};
+    ghost use Rattle.hashlink_lru.specs.Lends.{LendsLast, LendsUsedOrNew, LendsUsedOrTryNew};
 
     /// Returns a mutable reference to the value of the key. If the key is present, its entry moves to the
     /// back and `make` is not called: it is a hit of `get_mut`, and evicts nothing. If the key is absent,
@@ -50,35 +49,9 @@ impl<K: Eq + Hash, V, S: BuildHasher> LruCache<K, V, S> {
         ensures given { IfErr result (λ pair. pair.0 ≡ key) }
         ensures made { IfErr result (λ pair. F.post make pair.1) }
     {
-        self.use_or_put(key, make)?;
-        match self.map.back_value_mut() {
-            Some(value) => Ok(value),
-            None => unreachable!(), // the entry that was just used stands last
-        }
-    }
-
-    /// Moves the entry of the key to the back. If the key is absent, it is inserted there with what `make`
-    /// returns, and entries are evicted as by `insert`, but at least one stays.
-    fn use_or_put<F: FnOnce() -> V>(&mut self, key: K, make: F) -> Result<(), (K, V)>
-    where
-        K: Drop,
-        V: Drop,
-        F: Drop,
-        requires callable { lookup (K.eq key) (entries_of self.old) ≡ None → F.pre make }
-        ensures used { OnOk result (UsesOrPuts K.eq (F.post make) (state_of self.old)
-            (state_of self.new) key) }
-        ensures refused { IfErr result
-            (λ pair. CacheInserts K.eq (state_of self.old) (state_of self.new) key pair.1 (Err pair)) }
-        ensures made { IfErr result (λ pair. F.post make pair.1) }
-        ensures distinct { IsEntries K.eq (entries_of self.old) }
-    {
         let before = self.map.len();
-        move_or_make(&mut self.map, key, make)?;
-        if self.map.len() == before {
-            return Ok(());
-        }
-        self.keep_last(self.capacity.max(1));
-        Ok(())
+        self.map.get_or_insert_with(key, make)?;
+        self.lend_last(before)
     }
 
     /// Does the same as `get_or_insert_with`, with a `make` that may fail. `make` has to be callable if the
@@ -104,60 +77,36 @@ impl<K: Eq + Hash, V, S: BuildHasher> LruCache<K, V, S> {
             (λ v. UnwrapsOrElse (lookup (K.eq key) (entries_of self.old)) (λ x. F.post make (Ok x)) v.now) }
         ensures handed_back { IfErr result (HandsBack (F.post make) key) }
     {
-        self.use_or_try_put(key, make)?;
-        match self.map.back_value_mut() {
-            Some(value) => Ok(value),
-            None => unreachable!(), // the entry that was just used stands last
-        }
+        let before = self.map.len();
+        move_or_try_make(&mut self.map, key, make)?;
+        self.lend_last(before)
     }
 
-    /// Does the same as `use_or_put`, with a `make` that may fail.
-    fn use_or_try_put<E, F: FnOnce() -> Result<V, E>>(
-        &mut self,
-        key: K,
-        make: F,
-    ) -> Result<(), TryInsertError<K, V, E>>
+    /// If there are not `before` entries, entries are evicted as by `insert`, but at least one stays. Returns
+    /// a mutable reference to the value of the entry at the back, and never an `Err`: it returns a `Result`
+    /// since a clause can then describe the cache afterwards by a relation.
+    fn lend_last<E>(&mut self, before: usize) -> Result<&mut V, E>
     where
         K: Drop,
         V: Drop,
-        F: Drop,
-        requires callable { lookup (K.eq key) (entries_of self.old) ≡ None → F.pre make }
-        ensures used { OnOk result (UsesOrPuts K.eq (λ x. F.post make (Ok x)) (state_of self.old)
-            (state_of self.new) key) }
-        ensures failed { IfErr result (FailsToUse K.eq (state_of self.old) (state_of self.new) key) }
-        ensures handed_back { IfErr result (HandsBack (F.post make) key) }
-        ensures distinct { IsEntries K.eq (entries_of self.old) }
+        requires some { 1 ≤ length (entries_of self.old) }
+        ensures* lends { sem 𝓛 (LendsLast K.row V.row S.row S.Hasher.row K.Hash
+            S.BuildHasher S.Hasher.Hasher self.entry before result) }
+        ensures value { IfOk result
+            (λ v. option_map (λ e. e.1) (last_of (entries_of self.old)) ≡ Some v.now) }
     {
-        let before = self.map.len();
-        move_or_try_make(&mut self.map, key, make)?;
-        if self.map.len() == before {
-            return Ok(());
+        if self.map.len() != before {
+            self.keep_last(self.capacity.max(1));
         }
-        self.keep_last(self.capacity.max(1));
-        Ok(())
+        match self.map.back_value_mut() {
+            Some(value) => Ok(value),
+            None => unreachable!(), // at least one entry stays
+        }
     }
 }
 
 /// Moves the entry of the key to the back. If the key is absent, it is inserted there with what `make`
-/// returns. The key is hashed once.
-fn move_or_make<K: Eq + Hash + Drop, V: Drop, S: BuildHasher, F: FnOnce() -> V + Drop>(
-    map: &mut LinkedHashMap<K, V, S>,
-    key: K,
-    make: F,
-) -> Result<(), (K, V)>
-    requires callable { lookup (K.eq key) (keyed.entries_of map.old) ≡ None → F.pre make }
-    ensures puts { OnOk result (MovesOrMakes K.eq (F.post make) (keyed.state_of map.old)
-        (keyed.state_of map.new) key) }
-    ensures refused { IfErr result
-        (λ pair. RefusesEntry K.eq (keyed.state_of map.old) (keyed.state_of map.new) key pair.1 pair) }
-    ensures made { IfErr result (λ pair. F.post make pair.1) }
-    ensures distinct { IsEntries K.eq (keyed.entries_of map.old) }
-{
-    map.entry(key).or_insert_with(make)?;
-    Ok(())
-}
-
-/// Does the same as `move_or_make`, with a `make` that may fail.
+/// returns, unless that fails. The key is hashed once.
 fn move_or_try_make<
     K: Eq + Hash + Drop,
     V: Drop,

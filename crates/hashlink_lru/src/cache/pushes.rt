@@ -83,9 +83,9 @@ fn put_last<K: Eq + Hash + Drop, V: Drop, S: BuildHasher>(
             let old = entry.insert(value);
             Ok(Some((entry.into_key(), old)))
         }
-        Entry::Vacant(entry) => {
-            entry.insert(value)?;
-            Ok(None)
-        }
+        Entry::Vacant(entry) => match entry.insert(value) {
+            Ok(_value) => Ok(None),
+            Err(pair) => Err(pair),
+        },
     }
 }

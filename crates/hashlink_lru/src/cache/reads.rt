@@ -75,15 +75,8 @@ impl<K: Eq + Hash, V, S: BuildHasher> LruCache<K, V, S> {
             ≡ evicted_by (Q.matches key) (entries_of self.now) (state_of self.now).cap }
         ensures distinct { IsEntries K.eq (entries_of self.now) }
     {
-        let len = self.map.len();
-        if !self.map.contains_key(key) {
-            return if len < self.capacity {
-                None
-            } else {
-                self.map.front()
-            };
-        }
-        if len <= self.capacity {
+        let absent = !self.map.contains_key(key);
+        if self.map.len() + usize::from(absent) <= self.capacity {
             return None;
         }
         self.first_other(key)
@@ -95,11 +88,11 @@ impl<K: Eq + Hash, V, S: BuildHasher> LruCache<K, V, S> {
             ≡ first_of (remove_entry (Q.matches key) (entries_of self.now)) }
     {
         let mut entries = self.map.iter();
-        let (front, value) = entries.next()?;
-        if key.equivalent(front) {
+        let front = entries.next()?;
+        if key.equivalent(front.0) {
             return entries.next();
         }
-        Some((front, value))
+        Some(front)
     }
 
     /// Returns a reference to the value of the key, and moves its entry to the back. If the key is absent, it
