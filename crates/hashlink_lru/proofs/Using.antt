@@ -1,6 +1,6 @@
 -- A use of a key that may be absent, and what is written through the value that it lends, which stands last.
-use Rattle.std.specs.Prelude.{◌≡◌, ℕ, suc, ◌+◌, ◌-◌, ◌≤◌, max, Bool, List, [], ◌∷◌, ◌++◌, length, take, drop}
-use Rattle.std.specs.Prelude.{Option, None, Some, MatchOption, Result, Ok, Err, IfOk, IsOk, slice_get}
+use Rattle.std.specs.Prelude.{◌≡◌, ℕ, suc, ◌+◌, ◌-◌, ◌<◌, ◌≤◌, max, Bool, List, [], ◌∷◌, ◌++◌, length, take}
+use Rattle.std.specs.Prelude.{drop, Option, None, Some, MatchOption, Result, Ok, IsOk, slice_get}
 use Rattle.std.specs.Borrow.{MutBor}
 use Rattle.std.proofs.lemmas.List.{length-append, drop-append-le}
 use Rattle.std.specs.Cmp.{IsEquivalence}
@@ -15,7 +15,8 @@ use Rattle.hashlink_model.specs.Walk.{last_of}
 use Rattle.hashlink_model.proofs.Afterwards.{IsEntries-moved, length-put_there, moved-there}
 use Rattle.hashlink_model.proofs.ByPlace.{length-set_value_at, set_value_at-here, set_value_at-place}
 use Rattle.hashlink_model.proofs.CacheBounds.{within-gets_match_and_writes}
-use Rattle.hashlink_model.proofs.Caches.{last_entries-end, length-last_entries}
+use Rattle.hashlink_model.proofs.Caches.{last_entries-end, last_entries-within, length-last_entries}
+use Rattle.std.proofs.lemmas.Bool.{cases_lt}
 use Rattle.hashlink_model.proofs.CacheSteps.{gets_hit, put_entries}
 use Rattle.hashlink_model.proofs.Finds.{stored_key-equal}
 use Rattle.hashlink_model.proofs.Places.{place_of_its_key, slice_get_here}
@@ -41,11 +42,12 @@ last-end (x ∷ xs) ys p =
     let n : length (x ∷ (xs ++ ys)) - 1 ≡ suc (length (xs ++ ys) - 1) = omega arith in
     ap (slice_get (x ∷ (xs ++ ys))) n ∙ last-end xs ys p
 
-last-some : {X : Type 0} (xs : List X) → 1 ≤ length xs → (x : X) × (last_of xs ≡ Some x)
-last-some [] p = absurd (omega arith)
-last-some (x ∷ []) p = (x, refl)
-last-some (x ∷ y ∷ xs) p =
-    let s = last-some (y ∷ xs) (omega arith) in (s.0, last-end (x ∷ []) (y ∷ xs) (omega arith) ∙ s.1)
+last-kept : {K V : Type 0} (es : List (K × V)) (n : ℕ) → 1 ≤ n → last_of (last_entries es n) ≡ last_of es
+last-kept es n one =
+    let few = length-last_entries es n in
+    ⊎_elim (λ (all : length es < n). ap last_of (last_entries-within es n (omega arith)))
+    (λ (more : n ≤ length es). sym (last-end (take (length es - n) es) (last_entries es n) (omega arith))
+    ∙ ap last_of (last_entries-end es n)) (cases_lt (length es) n)
 
 last-written : {K V : Type 0} (es : List (K × V)) (k : K) (v w : V)
     → set_value_at (es ++ (k, v) ∷ []) (length (es ++ (k, v) ∷ []) - 1) w ≡ es ++ (k, w) ∷ []
@@ -158,25 +160,19 @@ module _ {K V S : Type 0} (eq : K → K → Bool) (Makes : V → Type 0) (old : 
   end_is : new.entries ≡ without eq old.entries k ++ (stored_key eq old.entries k, m.0) ∷ []
   end_is = put_entries eq old new k m.0 (lookup (eq k) old.entries) m.2 ∙ put_back eq old.entries k m.0
 
-  -- so there is an entry
-  pub stands : 1 ≤ length new.entries
-  stands =
-      let l = ap length end_is in
-      omega (arith, length-append (without eq old.entries k) ((stored_key eq old.entries k, m.0) ∷ []))
+  last_is : option_map (λ e. e.1) (last_of new.entries) ≡ Some m.0
+  last_is =
+      ap (λ es. option_map (λ e. e.1) (last_of es)) end_is
+      ∙ ap (option_map (λ e. e.1)) (last-is (without eq old.entries k) (stored_key eq old.entries k, m.0))
 
-  lent_is : (v : V) → option_map (λ e. e.1) (last_of new.entries) ≡ Some v
+  -- so its value is the one that is lent
+  pub lent_value : (v : V) → Some v ≡ option_map (λ e. e.1) (last_of new.entries)
       → UnwrapsOrElse (lookup (eq k) old.entries) Makes v
-  lent_is v at =
-      let last = ap last_of end_is ∙ last-is (without eq old.entries k) (stored_key eq old.entries k, m.0) in
-      subst (UnwrapsOrElse (lookup (eq k) old.entries) Makes)
-      (same_Some m.0 v (sym (ap (option_map (λ e. e.1)) last) ∙ at)) m.1
+  lent_value v at =
+      subst (UnwrapsOrElse (lookup (eq k) old.entries) Makes) (same_Some m.0 v (sym (at ∙ last_is))) m.1
 
-  -- whose value is the one that is lent
-  pub lent_value : {E : Type 0} (r : Result (MutBor V) E)
-      → IfOk r (λ v. option_map (λ e. e.1) (last_of new.entries) ≡ Some v.now)
-      → IfOk r (λ v. UnwrapsOrElse (lookup (eq k) old.entries) Makes v.now)
-  lent_value (Ok v) at = lent_is v.now at
-  lent_value (Err e) at = tt
+  pub some_lent : None ≡ option_map (λ e. e.1) (last_of new.entries) → ⊥
+  some_lent none = none-some m.0 (none ∙ last_is)
 
 -- the map's step, from what a call says that lent the value
 pub moved_or_made : {K V S E : Type 0} (eq : K → K → Bool) (Makes : V → Type 0) (old new : MapState K V S) (k : K)
@@ -185,23 +181,12 @@ pub moved_or_made : {K V S E : Type 0} (eq : K → K → Bool) (Makes : V → Ty
     → MovesOrMakes eq Makes old new k
 moved_or_made eq Makes old new k r v is made puts = (v.now, made, puts (subst IsOk (sym is) refl))
 
--- ---- what fits, and its last value
-
-module _ {K V S : Type 0} (n : ℕ) (old new : CacheState K V S) (fits : FitsUnless n old new)
-    (some : 1 ≤ length old.map.entries) where
-  pub same_last : last_of new.map.entries ≡ last_of old.map.entries
-  same_last =
-      let es = old.map.entries in
-      let most = max old.cap 1 in
-      let few = length-last_entries es most in
-      ⊎_elim (λ same. ap (λ c. last_of c.map.entries) same.1)
-      (λ more. ap last_of more.1.map.entries ∙ sym (last-end (take (length es - most) es) (last_entries es most)
-      (omega arith)) ∙ ap last_of (last_entries-end es most)) fits
-
-  pub some_stands : None ≡ option_map (λ e. e.1) (last_of new.map.entries) → ⊥
-  some_stands none =
-      let s = last-some old.map.entries some in
-      none-some s.0.1 (none ∙ ap (option_map (λ e. e.1)) (same_last ∙ s.1))
+-- what fits has the same last entry
+pub same_last : {K V S : Type 0} (n : ℕ) (old new : CacheState K V S) → FitsUnless n old new
+    → last_of new.map.entries ≡ last_of old.map.entries
+same_last n old new =
+    ⊎_elim (λ same. ap (λ c. last_of c.map.entries) same.1)
+    (λ more. ap last_of more.1.map.entries ∙ last-kept old.map.entries (max old.cap 1) (omega arith))
 
 -- ---- a use whose value is lent
 

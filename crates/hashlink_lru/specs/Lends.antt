@@ -33,9 +33,10 @@ module _ (K V S T : RattleType) (g : HashMembers K.Denot) (b : builder.Ghosts S.
 
     -- the last value is lent: where there are not n entries the cache fits its capacity first, with one entry
     -- at least, and it ends with what was written there
-    abbrev pub LendsLast : {E : Type 0} → ℕ → Result (MutBor V.Denot) E → Fml
+    abbrev pub LendsLast : ℕ → Option (MutBor V.Denot) → Fml
     LendsLast n r =
-        LendsSoOk cache_row V c r (λ new v. FitsAndWritesLast n (state_of c.now) (state_of new) v) (λ _. ⊥)
+        LendsSo cache_row V c r
+        (λ new v. OnSome r (FitsAndWritesLast n (state_of c.now) (state_of new) v)) (λ _. ⊤)
 
     -- the value of a key that is used or put is lent: the cache ends with what was written there, or as the
     -- refusal of the pair leaves it. No more entries are beyond the capacity than before, except that one

@@ -1,8 +1,8 @@
 //! Uses of a key that may be absent: a hit returns a reference to the value as `get_mut` does, a miss makes
 //! the value and inserts it.
-ghost use Rattle.std.specs.Prelude.{◌≡◌, ◌≤◌, None, Some, Ok, OnOk, IfOk, IfErr, length};
+ghost use Rattle.std.specs.Prelude.{◌≡◌, None, Ok, OnOk, IfOk, IfErr};
 ghost use Rattle.std.specs.Borrow.{sem};
-ghost use Rattle.std.specs.Option.{option_map, UnwrapsOrElse};
+ghost use Rattle.std.specs.Option.{option_copied_mut, option_map, UnwrapsOrElse};
 ghost use Rattle.std.specs.Map.{lookup};
 ghost use Rattle.hashlink_model.specs.Entries.{IsEntries};
 ghost use Rattle.hashlink_model.specs.Walk.{last_of};
@@ -51,7 +51,10 @@ impl<K: Eq + Hash, V, S: BuildHasher> LruCache<K, V, S> {
     {
         let before = self.map.len();
         self.map.get_or_insert_with(key, make)?;
-        self.lend_last(before)
+        match self.lend_last(before) {
+            Some(value) => Ok(value),
+            None => unreachable!(), // the entry that was just used stands last
+        }
     }
 
     /// Does the same as `get_or_insert_with`, with a `make` that may fail. `make` has to be callable if the
@@ -79,29 +82,26 @@ impl<K: Eq + Hash, V, S: BuildHasher> LruCache<K, V, S> {
     {
         let before = self.map.len();
         move_or_try_make(&mut self.map, key, make)?;
-        self.lend_last(before)
+        match self.lend_last(before) {
+            Some(value) => Ok(value),
+            None => unreachable!(), // the entry that was just used stands last
+        }
     }
 
     /// If there are not `before` entries, entries are evicted as by `insert`, but at least one stays. Returns
-    /// a mutable reference to the value of the entry at the back, and never an `Err`: it returns a `Result`
-    /// since a clause can then describe the cache afterwards by a relation.
-    fn lend_last<E>(&mut self, before: usize) -> Result<&mut V, E>
+    /// a mutable reference to the value of the entry at the back, or `None` if the cache is empty.
+    fn lend_last(&mut self, before: usize) -> Option<&mut V>
     where
         K: Drop,
         V: Drop,
-        requires some { 1 ≤ length (entries_of self.old) }
         ensures* lends { sem 𝓛 (LendsLast K.row V.row S.row S.Hasher.row K.Hash
             S.BuildHasher S.Hasher.Hasher self.entry before result) }
-        ensures value { IfOk result
-            (λ v. option_map (λ e. e.1) (last_of (entries_of self.old)) ≡ Some v.now) }
+        ensures value { option_copied_mut result ≡ option_map (λ e. e.1) (last_of (entries_of self.old)) }
     {
         if self.map.len() != before {
             self.keep_last(self.capacity.max(1));
         }
-        match self.map.back_value_mut() {
-            Some(value) => Ok(value),
-            None => unreachable!(), // at least one entry stays
-        }
+        self.map.back_value_mut()
     }
 }
 

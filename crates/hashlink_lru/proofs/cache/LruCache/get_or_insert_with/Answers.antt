@@ -1,20 +1,18 @@
 use Rattle.std.proofs.Common.{refl}
 use Rattle.hashlink_core.specs.Keyed as keyed
-use Rattle.hashlink_map.proofs.Answering.{no_refusal, no_pair}
+use Rattle.hashlink_map.proofs.Walking.{on-some}
 use Rattle.hashlink_lru.specs.Cached.{state_of}
-use Rattle.hashlink_lru.proofs.Using.{moved_or_made, stands, lent_value, used_and_written}
+use Rattle.hashlink_lru.proofs.Using.{moved_or_made, lent_value, some_lent, used_and_written}
 use Rattle.hashlink_lru.proofs.cache.LruCache.get_or_insert_with.Goals as goal
 
-pub lend_last-requires : goal.lend_last-requires
-lend_last-requires g c =
+pub unreachable-requires : goal.unreachable-requires
+unreachable-requires g c =
     let old = (state_of c.args.self.now).map in
     let i = c.in_ok-get_or_insert_with in
     let f = c.get_or_insert_with.follows in
     let new = keyed.state_of (f.lender i.field-0.now) in
-    record {
-      some = stands g.K.PartialEq.eq _ old new c.args.key (moved_or_made g.K.PartialEq.eq _ old new c.args.key
-          c.get_or_insert_with.result i.field-0 i.was i.ensures.value (f.holds i.field-0.now));
-    }
+    some_lent g.K.PartialEq.eq _ old new c.args.key (moved_or_made g.K.PartialEq.eq _ old new c.args.key
+    c.get_or_insert_with.result i.field-0 i.was i.ensures.value (f.holds i.field-0.now)) c.in-None.ensures.value
 
 pub returns : goal.returns
 returns g c =
@@ -25,18 +23,18 @@ returns g c =
     let new = keyed.state_of (f.lender i.field-0.now) in
     let made = moved_or_made eq _ old.map new c.args.key c.get_or_insert_with.result i.field-0 i.was
     i.ensures.value (f.holds i.field-0.now) in
-    let r = c.lend_last.result in
+    let v = c.in-Some.value.now in
     let l = c.lend_last.follows in (
       (
         refl,
         λ w ok. used_and_written eq g.met.K.Eq.laws _ old new c.args.key _ c.len-before.ensures.len
-            c.len-before.ensures.distinct made w (state_of (l.lender w)) (l.holds w ok),
-        no_refusal r _ l.holds-at-none,
+            c.len-before.ensures.distinct made w (state_of (l.lender w)) (on-some c.in-Some.is (l.holds w)),
+        tt,
       ),
       record {
         lends = tt;
-        value = lent_value eq _ old.map new c.args.key made r c.lend_last.ensures.value;
-        given = no_pair r _ l.holds-at-none;
-        made = no_pair r _ l.holds-at-none;
+        value = lent_value eq _ old.map new c.args.key made v c.in-Some.ensures.value;
+        given = tt;
+        made = tt;
       },
     )

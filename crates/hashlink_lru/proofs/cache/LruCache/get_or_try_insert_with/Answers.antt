@@ -1,15 +1,14 @@
 use Rattle.std.proofs.Common.{refl}
 use Rattle.hashlink_core.specs.Keyed as keyed
-use Rattle.hashlink_map.proofs.Answering.{no_refusal, no_pair}
+use Rattle.hashlink_map.proofs.Walking.{on-some}
 use Rattle.hashlink_lru.specs.Cached.{state_of}
-use Rattle.hashlink_lru.proofs.Using.{stands, lent_value, used_and_written}
+use Rattle.hashlink_lru.proofs.Using.{lent_value, some_lent, used_and_written}
 use Rattle.hashlink_lru.proofs.cache.LruCache.get_or_try_insert_with.Goals as goal
 
-pub lend_last-requires : goal.lend_last-requires
-lend_last-requires g c = record {
-  some = stands g.K.PartialEq.eq _ (state_of c.args.self.now).map (keyed.state_of c.move_or_try_make.new.map)
-      c.args.key c.in_ok-move_or_try_make.ensures.puts;
-}
+pub unreachable-requires : goal.unreachable-requires
+unreachable-requires g c =
+    some_lent g.K.PartialEq.eq _ (state_of c.args.self.now).map (keyed.state_of c.move_or_try_make.new.map)
+    c.args.key c.in_ok-move_or_try_make.ensures.puts c.in-None.ensures.value
 
 pub returns : goal.returns
 returns g c =
@@ -17,17 +16,17 @@ returns g c =
     let old = state_of c.args.self.now in
     let new = keyed.state_of c.move_or_try_make.new.map in
     let made = c.in_ok-move_or_try_make.ensures.puts in
-    let r = c.lend_last.result in
+    let v = c.in-Some.value.now in
     let l = c.lend_last.follows in (
       (
         refl,
         λ w ok. used_and_written eq g.met.K.Eq.laws _ old new c.args.key _ c.len-before.ensures.len
-            c.len-before.ensures.distinct made w (state_of (l.lender w)) (l.holds w ok),
-        no_refusal r _ l.holds-at-none,
+            c.len-before.ensures.distinct made w (state_of (l.lender w)) (on-some c.in-Some.is (l.holds w)),
+        tt,
       ),
       record {
         lends = tt;
-        value = lent_value eq _ old.map new c.args.key made r c.lend_last.ensures.value;
-        handed_back = no_pair r _ l.holds-at-none;
+        value = lent_value eq _ old.map new c.args.key made v c.in-Some.ensures.value;
+        handed_back = tt;
       },
     )
