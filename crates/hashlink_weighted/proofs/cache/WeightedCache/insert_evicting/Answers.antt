@@ -16,28 +16,47 @@ evict_until_fitting-self-inside-requires-clause-last g c =
     (leaves_last g.K.PartialEq.eq (state_of c.self.inside.map) (state_of c.insert.new.self) c.args.key
     c.args.value c.args.weight c.in-Ok.old c.in-Ok.ensures.inserts c.self.inside.total c.self.invariant.sum)
 
-pub returns-in-Ok-clause-inserts : goal.returns-in-Ok-clause-inserts
-returns-in-Ok-clause-inserts g c =
+pub evict_until_fitting-self-inside-requires-clause-callable :
+    goal.evict_until_fitting-self-inside-requires-clause-callable
+evict_until_fitting-self-inside-requires-clause-callable g c =
+    rw c.in-Ok.ensures.entries (rw (← c.self.view_is) at c.requires)
+
+pub returns-in-Ok : goal.returns-in-Ok
+returns-in-Ok g c =
     let fits : c.args.weight ≤ c.self.inside.budget = omega arith in
-    rw (c.take_apart-old_value.ensures, ← c.self.view_is)
-    (accepts g.K.PartialEq.eq (state_of c.self.inside.map) (state_of c.insert.new.self)
-    c.args.key c.args.value c.args.weight c.in-Ok.old c.in-Ok.ensures.inserts
-    (state_of c.evict_until_fitting-self-inside.new.map)
-    c.self.inside.budget fits c.evict_until_fitting-self-inside.ensures.keeps)
+    let e = c.evict_until_fitting-self-inside.ensures in
+    rw (c.take_apart-old_value.ensures, ← c.self.view_is) (record {
+      inserts = accepts g.K.PartialEq.eq (state_of c.self.inside.map) (state_of c.insert.new.self) c.args.key
+          c.args.value c.args.weight c.in-Ok.old c.in-Ok.ensures.inserts
+          (state_of c.evict_until_fitting-self-inside.new.map) c.self.inside.budget fits e.keeps;
+      too_heavy = (λ same. absurd (cc), λ over. absurd (omega arith));
+      distinct = e.distinct;
+      given = rw c.in-Ok.ensures.entries at e.given;
+      not_called = tt;
+    })
 
-pub returns-then-weight-self-clause-inserts : goal.returns-then-weight-self-clause-inserts
-returns-then-weight-self-clause-inserts g c =
-    (refl, record { too_heavy = rw (← c.self.view_is) c.if-weight-self.true; unchanged = refl })
+pub returns-then-weight-self : goal.returns-then-weight-self
+returns-then-weight-self g c =
+    let over = c.if-weight-self.true in
+    rw (← c.self.view_is) (record {
+      inserts = (refl, record { too_heavy = over; unchanged = refl });
+      too_heavy = (λ same. over, λ heavy. refl);
+      distinct = tt;
+      given = tt;
+      not_called = refl;
+    })
 
-pub returns-in-Err-clause-inserts : goal.returns-in-Err-clause-inserts
-returns-in-Err-clause-inserts g c =
+pub returns-in-Err : goal.returns-in-Err
+returns-in-Err g c =
     let refused = c.in-Err.ensures.inserts in
     let same = refused.handed_back in
-    rw (← c.self.view_is) (
-      ap (λ p. (p.0, p.1.0)) same,
-      record {
-        not_too_heavy = c.if-weight-self.false;
-        refuses = rw same at refused;
-        budget = refl;
-      },
-    )
+    rw (← c.self.view_is) (record {
+      inserts = (
+        ap (λ p. (p.0, p.1.0)) same,
+        record { not_too_heavy = c.if-weight-self.false; refuses = rw same at refused; budget = refl },
+      );
+      too_heavy = (λ heavy. absurd (cc), λ over. absurd (omega arith));
+      distinct = tt;
+      given = tt;
+      not_called = refl;
+    })

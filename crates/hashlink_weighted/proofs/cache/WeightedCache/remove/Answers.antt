@@ -1,4 +1,5 @@
-use Rattle.std.proofs.Common.{sym, ◌∙◌}
+use Rattle.std.proofs.Common.{refl, ap, sym, ◌∙◌}
+use Rattle.hashlink_weighted.specs.Answers.{without_weight}
 use Rattle.hashlink_weighted.proofs.Totals.{removes_weight, removes_none}
 use Rattle.hashlink_weighted.proofs.cache.WeightedCache.remove.Goals as goal
 
@@ -16,3 +17,17 @@ pub invariant_of-self-2 : goal.invariant_of-self-2
 invariant_of-self-2 g c =
     (removes_weight _ _ _ _ _ _ (sym c.in_ok-value.was ∙ c.remove.ensures.value) c.remove.ensures.removes
     c.self.invariant).1
+
+pub returns-in_err-value : goal.returns-in_err-value
+returns-in_err-value g c =
+    let e = c.remove.ensures in
+    let value = c.from_residual.ensures ∙ ap without_weight (sym c.in_err-value.was ∙ e.value) in
+    rw (← c.self.view_is)
+    (record { value = value; removes = record { removes = e.removes; budget = refl }; distinct = e.distinct })
+
+pub returns : goal.returns
+returns g c =
+    let e = c.remove.ensures in
+    let value = ap without_weight (sym c.in_ok-value.was ∙ e.value) in
+    rw (← c.self.view_is)
+    (record { value = value; removes = record { removes = e.removes; budget = refl }; distinct = e.distinct })
