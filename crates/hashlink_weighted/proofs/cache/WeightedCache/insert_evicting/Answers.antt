@@ -35,28 +35,15 @@ returns-in-Ok g c =
       not_called = tt;
     })
 
-pub returns-then-weight-self : goal.returns-then-weight-self
-returns-then-weight-self g c =
-    let over = c.if-weight-self.true in
-    rw (← c.self.view_is) (record {
-      inserts = (refl, record { too_heavy = over; unchanged = refl });
-      too_heavy = (λ same. over, λ heavy. refl);
-      distinct = tt;
-      given = tt;
-      not_called = refl;
-    })
+pub returns-then-weight-self-clause-inserts : goal.returns-then-weight-self-clause-inserts
+returns-then-weight-self-clause-inserts g c =
+    (refl, record { too_heavy = rw (← c.self.view_is) c.if-weight-self.true; unchanged = refl })
 
-pub returns-in-Err : goal.returns-in-Err
-returns-in-Err g c =
+pub returns-in-Err-clause-inserts : goal.returns-in-Err-clause-inserts
+returns-in-Err-clause-inserts g c =
     let refused = c.in-Err.ensures.inserts in
     let same = refused.handed_back in
-    rw (← c.self.view_is) (record {
-      inserts = (
-        ap (λ p. (p.0, p.1.0)) same,
-        record { not_too_heavy = c.if-weight-self.false; refuses = rw same at refused; budget = refl },
-      );
-      too_heavy = (λ heavy. absurd (cc), λ over. absurd (omega arith));
-      distinct = tt;
-      given = tt;
-      not_called = refl;
-    })
+    rw (← c.self.view_is) (
+      ap (λ p. (p.0, p.1.0)) same,
+      record { not_too_heavy = c.if-weight-self.false; refuses = rw same at refused; budget = refl },
+    )
