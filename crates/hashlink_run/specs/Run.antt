@@ -10,7 +10,7 @@ use Rattle.hashlink_run.specs.declared.replies.Reply.{Reply}
 use Rattle.hashlink_run.specs.CallReplies.{is_refused}
 use Rattle.hashlink_run.specs.Chain.{Answered, Chain, Chained, ComesTo, after}
 use Rattle.hashlink_run.specs.Step.{AskedBy, ReadBy, Step}
-pub use Rattle.hashlink_run.specs.Step.{IsNoCursor, reply_count}
+pub use Rattle.hashlink_run.specs.Step.{IsPlain, reply_count}
 
 module _ {K V B S : Type 0} (eq : K → K → Bool) (Says : K → V → B → Type 0)
     (Keeps : K → V → Bool → Type 0) where

@@ -66,10 +66,21 @@ module _ {K V : Type 0} where
   reply_count (command.Cursor steps) = length steps.items
   reply_count command = 1
 
-  -- the command is no cursor's, so that it has one reply
-  abbrev pub IsNoCursor : Command K V → Type 0
-  IsNoCursor (command.Cursor steps) = ⊥
-  IsNoCursor command = Unit {0}
+  -- the command is no cursor's and no keep: it has one reply, and asks of no pair
+  abbrev pub IsPlain : Command K V → Type 0
+  IsPlain (command.Cursor steps) = ⊥
+  IsPlain command.Keep = ⊥
+  IsPlain command = Unit {0}
+
+  -- and it reads none
+  abbrev pub IsUnshown : Command K V → Type 0
+  IsUnshown (command.Get k) = ⊥
+  IsUnshown (command.ToFront k) = ⊥
+  IsUnshown (command.ToBack k) = ⊥
+  IsUnshown command.Front = ⊥
+  IsUnshown command.Back = ⊥
+  IsUnshown (command.Entry k step) = ⊥
+  IsUnshown command = IsPlain command
 
 -- the command, from old, may come to read the pair
 abbrev pub ReadBy : {K V B S : Type 0} → (K → K → Bool) → (K → V → B → Type 0) → MapState K V S → Command K V

@@ -24,7 +24,7 @@ where
     V: Drop,
     S: BuildHasher,
     F: Fn(&K, &V) -> B,
-    requires { CallableOn F.Fn says.now (ReadFromCache K.eq (state_of cache.old) command) }
+    requires says { CallableOn F.Fn says.now (ReadFromCache K.eq (state_of cache.old) command) }
     ensures { CacheStep K.eq (ClosureSays F.Fn says.now) (state_of cache.old) command (result ∷ [])
         (state_of cache.new) }
 {

@@ -11,7 +11,7 @@ ghost use Rattle.hashlink_model.specs.Steps.{Moves};
 ghost use Rattle.hashlink_run.specs.Keeps.{IsEntryOf, KeepsWhere};
 ghost use Rattle.hashlink_run.specs.Reads.{CallableAt, CallableOn, ClosureSays, SaysOf};
 ghost use Rattle.hashlink_run.specs.CallReplies.{insert_reply, shrink_reply};
-ghost use Rattle.hashlink_run.specs.Step.{AskedBy, IsNoCursor, ReadBy, Step, reply_count};
+ghost use Rattle.hashlink_run.specs.Step.{AskedBy, IsPlain, IsUnshown, ReadBy, Step, reply_count};
 
 use crate::Reply;
 use crate::cursors::walk_cursor;
@@ -172,7 +172,11 @@ where
 {
     match command {
         Command::Cursor(steps) => walk_cursor(map, steps, says, replies),
-        command => replies.push_reserved(reply_to(map, command, says, keep)),
+        Command::Keep => {
+            keep_where(map, keep);
+            replies.push_reserved(Reply::Done);
+        }
+        command => replies.push_reserved(reply_to(map, command, says)),
     }
 }
 
@@ -186,51 +190,62 @@ pub fn reply_count<K, V>(command: &Command<K, V>) -> usize
     }
 }
 
-// Runs the command on the map, which is no cursor's, and returns its reply.
-fn reply_to<K, V, S, B, F, G>(
+// Runs the command on the map, which is no cursor's and no keep, and returns its reply.
+fn reply_to<K, V, S, B, F>(
     map: &mut LinkedHashMap<K, V, S>,
     command: Command<K, V>,
     says: &F,
-    keep: &G,
 ) -> Reply<K, V, B>
 where
     K: Eq + Hash + Drop,
     V: Drop,
     S: BuildHasher,
     F: Fn(&K, &V) -> B,
-    G: Fn(&K, &V) -> bool,
-    requires no_cursor { IsNoCursor command }
+    requires plain { IsPlain command }
     requires says { CallableOn F.Fn says.now
         (ReadBy K.eq (ClosureSays F.Fn says.now) (state_of map.old) command) }
-    requires keep { CallableOn G.Fn keep.now (AskedBy (state_of map.old) command) }
-    ensures { Step K.eq (ClosureSays F.Fn says.now) (ClosureSays G.Fn keep.now) (state_of map.old) command
+    ensures { Step K.eq (ClosureSays F.Fn says.now) (λ k v keeps. ⊥) (state_of map.old) command
         (result ∷ []) (state_of map.new) }
+{
+    match command {
+        Command::Get(key) => Reply::Seen(said_of(map.get_key_value(&key), says)),
+        Command::ToFront(key) => Reply::Seen(to_front(map, &key, says)),
+        Command::ToBack(key) => Reply::Seen(to_back(map, &key, says)),
+        Command::Front => Reply::AtPlace(said_of(map.front(), says)),
+        Command::Back => Reply::AtPlace(said_of(map.back(), says)),
+        Command::Entry(key, step) => reply_of_entry(map, key, step, says),
+        command => reply_unshown(map, command),
+    }
+}
+
+// Runs the command on the map, which shows no pair to a closure, and returns its reply.
+fn reply_unshown<K, V, S, B>(
+    map: &mut LinkedHashMap<K, V, S>,
+    command: Command<K, V>,
+) -> Reply<K, V, B>
+where
+    K: Eq + Hash + Drop,
+    V: Drop,
+    S: BuildHasher,
+    requires unshown { IsUnshown command }
+    ensures { Step K.eq (λ k v said. ⊥) (λ k v keeps. ⊥) (state_of map.old) command (result ∷ [])
+        (state_of map.new) }
 {
     match command {
         Command::Insert(key, value) => insert_reply(map.insert(key, value)),
         Command::InsertFront(key, value) => insert_reply(map.insert_front(key, value)),
         Command::Replace(key, value) => insert_reply(map.replace(key, value)),
-        Command::Get(key) => Reply::Seen(said_of(map.get_key_value(&key), says)),
         Command::Remove(key) => Reply::Value(map.remove(&key)),
         Command::RemoveEntry(key) => Reply::Pair(map.remove_entry(&key)),
         Command::PopFront => Reply::Pair(map.pop_front()),
         Command::PopBack => Reply::Pair(map.pop_back()),
-        Command::ToFront(key) => Reply::Seen(to_front(map, &key, says)),
-        Command::ToBack(key) => Reply::Seen(to_back(map, &key, says)),
-        Command::Front => Reply::AtPlace(said_of(map.front(), says)),
-        Command::Back => Reply::AtPlace(said_of(map.back(), says)),
         Command::Len => Reply::Length(map.len()),
         Command::Clear => {
             map.clear();
             Reply::Done
         }
         Command::Shrink => shrink_reply(map.shrink_to_fit()),
-        Command::Keep => {
-            keep_where(map, keep);
-            Reply::Done
-        }
-        Command::Entry(key, step) => reply_of_entry(map, key, step, says),
-        Command::Cursor(_) => unreachable!(),
+        _ => unreachable!(),
     }
 }
 

@@ -28,8 +28,10 @@ loop-command-preserved g c =
     )
 
 pub answer_cache-requires : goal.answer_cache-requires
-answer_cache-requires g c = λ pair read.
-    (rw c.in-Some.ensures.steps.0 at c.loop-command.invariant.2) pair (record { comes = inl read })
+answer_cache-requires g c = record {
+  says = λ pair read.
+      (rw c.in-Some.ensures.steps.0 at c.loop-command.invariant.2) pair (record { comes = inl read });
+}
 
 pub push_reserved-requires : goal.push_reserved-requires
 push_reserved-requires g c = omega (arith, c.loop-command.invariant.1, ap length c.in-Some.ensures.steps.0)

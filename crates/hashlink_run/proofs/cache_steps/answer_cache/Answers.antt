@@ -13,20 +13,20 @@ reads_of eq old pair given of_arm is read =
 
 pub answer_use-requires : goal.answer_use-requires
 answer_use-requires g c =
-    record { says = λ pair read. c.requires pair (reads_of _ _ pair _ _ c.in-Use.is read) }
+    record { says = λ pair read. c.requires.says pair (reads_of _ _ pair _ _ c.in-Use.is read) }
 
 pub reply_of_entry-requires : goal.reply_of_entry-requires
 reply_of_entry-requires g c = record {
   says = λ pair read.
       let from = rw c.map_mut.ensures.unchanged at read in
       let evicts = c.make_room.ensures.evicts in
-      c.requires pair
+      c.requires.says pair
       (reads_of _ _ pair _ _ c.in-Entry.is ((state_of c.make_room.new.self).map, evicts.map, from));
 }
 
 pub said_of_get-requires : goal.said_of_get-requires
 said_of_get-requires g c =
-    record { says = λ pair read. c.requires pair (reads_of _ _ pair _ _ c.in-Get.is read) }
+    record { says = λ pair read. c.requires.says pair (reads_of _ _ pair _ _ c.in-Get.is read) }
 
 pub said_of-requires : goal.said_of-requires
 said_of-requires g c = record {
@@ -34,7 +34,7 @@ said_of-requires g c = record {
       let there =
       c.from_key.ensures ∙ ap (λ map. lookup_entry (g.K.PartialEq.eq c.in-Peek.key) (entries_of map))
       c.raw_entry.ensures in
-      c.requires pair (reads_of _ _ pair _ _ c.in-Peek.is (sym there ∙ read));
+      c.requires.says pair (reads_of _ _ pair _ _ c.in-Peek.is (sym there ∙ read));
 }
 
 pub returns-in-Entry : goal.returns-in-Entry

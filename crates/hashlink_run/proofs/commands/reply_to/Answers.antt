@@ -1,4 +1,6 @@
-use Rattle.std.proofs.Common.{[], ◌∷◌, ap, sym, ◌∙◌}
+use Rattle.std.proofs.Common.{sym, ◌∙◌}
+use Rattle.hashlink_run.specs.Reads.{ClosureSays}
+use Rattle.hashlink_run.proofs.AnyCommand.{step-wider}
 use Rattle.hashlink_run.proofs.commands.reply_to.Goals as goal
 
 pub said_of-requires : goal.said_of-requires
@@ -25,19 +27,10 @@ said_of-requires-in-Back g c = record {
       (rw c.in-Back.is at c.requires.says) pair (sym c.back.ensures.found ∙ read);
 }
 
-pub keep_where-requires : goal.keep_where-requires
-keep_where-requires g c = record {
-  keep = λ pair is.
-      c.requires.keep pair (record { asks = rw c.in-Keep.is is.stands });
-}
-
 pub reply_of_entry-requires : goal.reply_of_entry-requires
 reply_of_entry-requires g c = record { says = rw c.in-Entry.is at c.requires.says }
 
-pub returns-in-Shrink : goal.returns-in-Shrink
-returns-in-Shrink g c =
-    rw c.in-Shrink.is (
-      c.shrink_to_fit.result,
-      c.shrink_to_fit.ensures,
-      ap (λ r. r ∷ []) c.shrink_reply.ensures,
-    )
+pub returns-in_default : goal.returns-in_default
+returns-in_default g c =
+    step-wider _ (ClosureSays g.F.Fn c.args.says.now) (λ k v said never. absurd never) _ _ (λ k v keeps s. s)
+    _ _ _ _ c.args.command c.reply_unshown.ensures

@@ -40,9 +40,9 @@ loop-step-preserved g c =
       so_far.0 ++ reply ∷ [],
       WalksOn-step _ _ c.in-Some.step _ reply _ (rw left at so_far.1) c.reply_of_step.ensures.stepped,
       rw (pushed.items, so_far.2) (append_assoc c.args.replies.now.items so_far.0 (reply ∷ [])),
-      c.reply_of_step.ensures.same_map ∙ so_far.3,
+      rw c.reply_of_step.ensures.same_map so_far.3,
       omega (arith, so_far.4, ap length left, pushed.len),
-      pushed.capacity ∙ so_far.5,
+      rw pushed.capacity so_far.5,
       λ pair read. (rw left at so_far.6) pair (inr (_, _, c.reply_of_step.ensures.stepped, read)),
     )
 
