@@ -20,8 +20,7 @@ module _ {C R M : Type 0} (Step : M → C → List R → M → Type 0) where
     answers = [];
     is = refl;
     chain = tt;
-    joined =
-        refl;
+    joined = refl;
     reached = refl;
   }
 

@@ -71,8 +71,7 @@ module _ {K V B S : Type 0} (eq : K → K → Bool) (Says : K → V → B → Ty
   command_passes cache.Clear replies s =
       let none = ap length s.0.map.entries in (
         new.map,
-        subst (λ n. Passes old.map (Length n) new.map) (sym none)
-            (passes-clears old.map new.map s.0.map),
+        subst (λ n. Passes old.map (Length n) new.map) (sym none) (passes-clears old.map new.map s.0.map),
         refl,
       )
   command_passes cache.RemoveLru replies s = keeps (kept-pops_front old.map new.map _ s.0.map)

@@ -47,8 +47,7 @@ module _ {K V : Type 0} (eq : K → K → Bool) where
   module _ (laws : IsEquivalence eq) where
     pub includes : (c d : ℕ) → c ≤ d → (events : List (CacheEvent K V))
         → Includes eq events (after_events eq c [] events) (after_events eq d [] events)
-        (answers eq c [] events)
-        (answers eq d [] events)
+        (answers eq c [] events) (answers eq d [] events)
     includes c d le events = record {
       keys = keys_along eq laws c d le events;
       found = finds_along eq laws c d le events;

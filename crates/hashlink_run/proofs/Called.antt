@@ -34,8 +34,7 @@ module _ {K V S : Type 0} (eq : K → K → Bool) where
     pub entries : new.map.entries ≡ after_event eq old.cap old.map.entries e
     pub answer : replies ≡ answer_to eq old.map.entries e ∷ []
     pub cap : new.cap ≡ old.cap
-    pub passes :
-        PassesInTurn old.map
+    pub passes : PassesInTurn old.map
         (put_passed eq old.cap old.map.entries e ++ Length (length new.map.entries) ∷ []) new.map
 
   removed_entries : (old new : MapState K V S) (k : K) (o : Option (K × V))
@@ -57,8 +56,7 @@ module _ {K V S : Type 0} (eq : K → K → Bool) where
       → MatchOption o (CacheInserts eq old new k v (Ok w))
       (λ x. (◌≡◌ {A = Result (Option V) (K × V)} (Ok w) (Ok (Some x))) × CacheGets eq old new k (Some x))
       → (new.cap ≡ old.cap)
-      ×
-      PassesInTurn old.map
+      × PassesInTurn old.map
       (option_map_or (λ x. []) o (Length (length (put eq old.map.entries k v (length old.map.entries))) ∷ [])
       ++ Length (length new.map.entries) ∷ []) new.map
   used old new k v w None s = (s.cap, passes-cache_insert eq old new k v w s)

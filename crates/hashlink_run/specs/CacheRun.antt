@@ -97,8 +97,7 @@ module _ {K V B S : Type 0} where
 -- which the nodes stay within the peak, nothing is refused after a drop, bounds on the length stay, and
 -- inserts fit
 pub record LawfulCacheRun {K V B S : Type 0} (eq : K → K → Bool) (Says : K → V → B → Type 0)
-    (old : CacheState K V S)
-    (commands : List (CacheCommand K V)) (replies : List (Reply K V B))
+    (old : CacheState K V S) (commands : List (CacheCommand K V)) (replies : List (Reply K V B))
     (new : CacheState K V S) : Type 0 where
   pub runs : CacheRuns eq Says old commands replies new
   pub within_peak : CacheWithinPeak eq old commands runs.answers

@@ -1,5 +1,6 @@
 //! Calls of caches in turn, which end if memory runs out.
-ghost use Rattle.std.specs.Prelude.{◌≡◌, ◌≤◌, [], ◌∷◌, ◌++◌, map, Option, IfOk, IsOk, OnOk, OnErr};
+ghost use Rattle.std.specs.Prelude.{◌≡◌, ◌≤◌, [], ◌∷◌, ◌++◌, map, Option, Ok, IfOk, IsOk, OnOk, OnErr};
+ghost use Rattle.std.specs.Prelude.{MatchResult};
 ghost use Rattle.hashlink_core.specs.Hashing.{default_builder};
 ghost use Rattle.hashlink_lru.specs.Cached.{entries_of, state_of};
 ghost use Rattle.hashlink_model.specs.Cache.{CacheUses};
@@ -176,10 +177,22 @@ where
     ensures capacity { (state_of cache.new).cap ≡ (state_of cache.old).cap }
 {
     match command {
-        PairCommand::Insert(key, value) => cache.insert(key, value).map_err(|_| AllocError),
-        PairCommand::Use(key, value) => use_pair(cache, key, value).map_err(|_| AllocError),
+        PairCommand::Insert(key, value) => without_pair(cache.insert(key, value)),
+        PairCommand::Use(key, value) => without_pair(use_pair(cache, key, value)),
         PairCommand::Remove(key) => Ok(cache.remove(&key)),
         PairCommand::Peek(key) => Ok(cache.peek(&key).copied()),
+    }
+}
+
+// Returns the answer of an insert, without the pair that a failed one hands back.
+fn without_pair<K: Copy, V: Copy>(
+    answer: Result<Option<V>, (K, V)>,
+) -> Result<Option<V>, AllocError>
+    ensures { MatchResult answer (λ old. result ≡ Ok old) (λ pair. ¬ IsOk result) }
+{
+    match answer {
+        Ok(old) => Ok(old),
+        Err(_) => Err(AllocError),
     }
 }
 

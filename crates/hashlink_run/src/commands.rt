@@ -330,8 +330,10 @@ where
     ensures said { SaysOf (ClosureSays F.Fn says.now)
         (lookup_entry (K.eq key.now) (entries_of map.old)) result }
 {
-    map.to_front(key)?;
-    said_of(map.front(), says)
+    match map.to_front(key) {
+        Some(_value) => said_of(map.front(), says),
+        None => None,
+    }
 }
 
 // Moves the key's pair to the back, and returns what the closure returns for it.
@@ -347,6 +349,8 @@ where
     ensures said { SaysOf (ClosureSays F.Fn says.now)
         (lookup_entry (K.eq key.now) (entries_of map.old)) result }
 {
-    map.to_back(key)?;
-    said_of(map.back(), says)
+    match map.to_back(key) {
+        Some(_value) => said_of(map.back(), says),
+        None => None,
+    }
 }

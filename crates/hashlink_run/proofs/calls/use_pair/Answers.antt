@@ -18,5 +18,4 @@ returns-in-None-clause-uses g c = search rules
 pub returns-in-None-clause-recent : goal.returns-in-None-clause-recent
 returns-in-None-clause-recent g c =
     use-recent g.K.PartialEq.eq g.met.K.Eq.laws (state_of c.args.cache.now)
-    (state_of c.insert.new.self) c.args.key
-    c.args.value c.insert.result (returns-in-None-clause-uses g c)
+    (state_of c.insert.new.self) c.args.key c.args.value c.insert.result (returns-in-None-clause-uses g c)

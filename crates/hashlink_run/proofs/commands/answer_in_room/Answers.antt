@@ -1,5 +1,4 @@
 use Rattle.std.proofs.Common.{[], ◌∷◌}
-use Rattle.hashlink_run.specs.Reads.{ClosureSays}
 use Rattle.hashlink_run.proofs.AnyCommand.{step-wider}
 use Rattle.hashlink_run.proofs.commands.answer_in_room.Goals as goal
 
@@ -15,7 +14,6 @@ keep_where-requires g c = record {
 pub returns-in_default-clause-answered : goal.returns-in_default-clause-answered
 returns-in_default-clause-answered g c = (
   c.reply_to.result ∷ [],
-  step-wider (ClosureSays g.F.Fn c.args.says.now) _ (λ k v said s. s) _ _ (λ k v keeps never. absurd never) _
-      _ _ _ c.args.command c.reply_to.ensures,
+  step-wider _ _ (λ k v b s. s) _ _ (λ k v b never. absurd never) _ _ _ _ c.args.command c.reply_to.ensures,
   c.push_reserved-in_default.ensures.items,
 )

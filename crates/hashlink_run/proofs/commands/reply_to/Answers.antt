@@ -1,5 +1,4 @@
 use Rattle.std.proofs.Common.{sym, ◌∙◌}
-use Rattle.hashlink_run.specs.Reads.{ClosureSays}
 use Rattle.hashlink_run.proofs.AnyCommand.{step-wider}
 use Rattle.hashlink_run.proofs.commands.reply_to.Goals as goal
 
@@ -32,5 +31,5 @@ reply_of_entry-requires g c = record { says = rw c.in-Entry.is at c.requires.say
 
 pub returns-in_default : goal.returns-in_default
 returns-in_default g c =
-    step-wider _ (ClosureSays g.F.Fn c.args.says.now) (λ k v said never. absurd never) _ _ (λ k v keeps s. s)
-    _ _ _ _ c.args.command c.reply_unshown.ensures
+    step-wider _ _ (λ k v b never. absurd never) _ _ (λ k v b s. s) _ _ _ _ c.args.command
+    c.reply_unshown.ensures

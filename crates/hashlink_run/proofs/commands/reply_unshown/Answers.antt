@@ -3,8 +3,4 @@ use Rattle.hashlink_run.proofs.commands.reply_unshown.Goals as goal
 
 pub returns-in-Shrink : goal.returns-in-Shrink
 returns-in-Shrink g c =
-    rw c.in-Shrink.is (
-      c.shrink_to_fit.result,
-      c.shrink_to_fit.ensures,
-      ap (λ r. r ∷ []) c.shrink_reply.ensures,
-    )
+    rw c.in-Shrink.is (_, c.shrink_to_fit.ensures, ap (λ r. r ∷ []) c.shrink_reply.ensures)

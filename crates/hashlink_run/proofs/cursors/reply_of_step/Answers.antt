@@ -5,16 +5,14 @@ use Rattle.hashlink_run.proofs.cursors.reply_of_step.Goals as goal
 pub said_of-requires : goal.said_of-requires
 said_of-requires g c = record {
   says = λ pair read.
-      let there =
-      c.current_pair.ensures ∙ ap (λ s. entry_in s s.place) c.move_next.ensures.moves in
+      let there = c.current_pair.ensures ∙ ap (λ s. entry_in s s.place) c.move_next.ensures.moves in
       (rw c.in-Next.is at c.requires.says) pair (sym there ∙ read);
 }
 
 pub said_of-requires-in-Prev : goal.said_of-requires-in-Prev
 said_of-requires-in-Prev g c = record {
   says = λ pair read.
-      let there =
-      c.current_pair-in-Prev.ensures ∙ ap (λ s. entry_in s s.place) c.move_prev.ensures.moves in
+      let there = c.current_pair-in-Prev.ensures ∙ ap (λ s. entry_in s s.place) c.move_prev.ensures.moves in
       (rw c.in-Prev.is at c.requires.says) pair (sym there ∙ read);
 }
 

@@ -9,8 +9,7 @@ use Rattle.hashlink_run.proofs.cursors.walk_cursor.Given as goal
 abbrev pub invariant-loop-step : goal.invariant-loop-step
 invariant-loop-step g l = (replies : List (Reply _ _ _))
     × WalksOn g.K.PartialEq.eq (ClosureSays g.F.Fn l.says) (first_place (state_of l.fn.map))
-    (cursor_state l.cursor)
-    l.fn.steps.items (into_iter_items l.step-iterator) replies
+    (cursor_state l.cursor) l.fn.steps.items (into_iter_items l.step-iterator) replies
     × (l.replies.items ≡ l.fn.replies.items ++ replies)
     × ((cursor_map l.cursor).ghost_name ≡ (cursor_map l.initial.cursor).ghost_name)
     × (vec_len l.replies + length (into_iter_items l.step-iterator) ≡ vec_len l.fn.replies +
