@@ -40,9 +40,9 @@ impl<K: Eq + Hash, V, S: BuildHasher> KeyedList<K, V, S> {
         ensures no_spare { OnErr result (self.old.spare ≡ 0) }
         ensures sound { IsKeyed K.eq self.new }
     {
-        if self.reserve(1).is_err() {
+        let Ok(()) = self.reserve(1) else {
             return Err((key, value));
-        }
+        };
         let short = short_hash(hash);
         let node = self.nodes.push_before(place, short as usize, key, value)?;
         self.table.insert_reserved(short, node);

@@ -1,16 +1,11 @@
-use Rattle.hashlink_core.proofs.Names.{◌≡◌, ◌≢◌, ℕ, ◌+◌, ◌≤◌, length, Result, Ok, Err, true, refl, ap}
-use Rattle.hashlink_core.proofs.Names.{sym, ◌∙◌, rules, arith, true≢false, length-values_of, Keyed, short}
-use Rattle.std.specs.Result.{is_ok, is_err}
+use Rattle.hashlink_core.proofs.Names.{◌≡◌, ℕ, ◌+◌, ◌≤◌, length, true≢false, refl, ap, sym, ◌∙◌, arith}
+use Rattle.hashlink_core.proofs.Names.{length-values_of, Keyed, short}
 use Rattle.hashlink_core.proofs.Calls.{sound, place-inside, added-step, added-node}
 use Rattle.hashlink_core.proofs.keyed_list.KeyedList.insert_before.Goals as goal
 
 -- where there is no room for one more, none is spare
 full : (n spare room : ℕ) → n + spare ≤ room → (n + 1 ≤ room → ⊥) → spare ≡ 0
 full n spare room fits more = omega arith
-
-not-both : {A B : Type 0} (r : Result A B) → is_err r ≡ true → is_ok r ≢ true
-not-both (Ok x) e o = absurd (true≢false (sym e))
-not-both (Err x) e o = absurd (true≢false (sym o))
 
 pub push_before-requires-clause-place : goal.push_before-requires-clause-place
 push_before-requires-clause-place g c =
@@ -19,36 +14,32 @@ push_before-requires-clause-place g c =
 
 pub invariant_of-self-2 : goal.invariant_of-self-2
 invariant_of-self-2 g c =
-    let ready : length c.args.self.now.nodes + 1 ≤ c.reserve.new.self.room = search rules in
     let grown = c.reserve.ensures.grown in
     let p = c.in_ok-node.ensures in
     let i = c.insert_reserved in
     let hasher : c.args.self.now.hasher ≡ c.self.inside.hash_builder
     = sym (ap (λ (m : Keyed _ _ _). m.hasher) (c.self.view_is ∙ grown.rest)) in
     added-step g.met.K.Eq.laws c.self.view_is c.self.invariant c.args.self.now grown c.args.key c.args.value
-    c.requires.absent ready c.args.place c.in_ok-node.node c.short_hash-short.result
+    c.requires.absent c.in-Ok.ensures.ok c.args.place c.in_ok-node.node c.short_hash-short.result
     c.push_before.new.self i.new.self p.entries p.apart p.free i.ensures.inserted i.ensures.room
     (c.short_hash-short.ensures ∙ ap short (rw hasher at c.requires.hash))
 
 pub returns-clause-added : goal.returns-clause-added
 returns-clause-added g c =
-    let ready : length c.args.self.now.nodes + 1 ≤ c.reserve.new.self.room = search rules in
     let p = c.in_ok-node.ensures in
     let i = c.insert_reserved in
     added-node g.met.K.Eq.laws c.self.view_is c.self.invariant c.args.self.now
     c.reserve.ensures.grown c.args.key
-    c.args.value c.requires.absent ready c.args.place c.in_ok-node.node c.short_hash-short.result
+    c.args.value c.requires.absent c.in-Ok.ensures.ok c.args.place c.in_ok-node.node c.short_hash-short.result
     c.push_before.new.self i.new.self p.entries p.apart p.free i.ensures.inserted i.ensures.room
     (invariant_of-self-2 g c) p.link_writes
 
 pub returns-clause-sound : goal.returns-clause-sound
 returns-clause-sound g c = sound refl (invariant_of-self-2 g c)
 
-pub returns-then-is_err-clause-no_spare : goal.returns-then-is_err-clause-no_spare
-returns-then-is_err-clause-no_spare g c =
+pub returns-in_default-clause-no_spare : goal.returns-in_default-clause-no_spare
+returns-in_default-clause-no_spare g c =
     let old = c.args.self.now in
-    let r = c.reserve.ensures in
-    let fits : length old.nodes + old.spare ≤ old.room
-    = omega (arith, r.sound.fits, length-values_of old.nodes) in
-    full (length old.nodes) old.spare old.room fits
-    (λ more. not-both c.reserve.result (sym c.is_err.ensures.value ∙ c.if-is_err.true) (r.enough more).0)
+    full (length old.nodes) old.spare old.room
+    (omega (arith, c.reserve.ensures.sound.fits, length-values_of old.nodes))
+    (λ more. true≢false (sym (c.in_default.ensures.enough more).0))
