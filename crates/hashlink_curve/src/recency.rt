@@ -66,16 +66,14 @@ impl<K: Eq + Hash, S: BuildHasher> Recency<K, S> {
         ensures handed_back { IfErr result (λ k. k ≡ key) }
         ensures unchanged { OnErr result (self.new ≡ self.old) }
     {
-        if free_place(
+        let Ok(()) = free_place(
             self.alloc,
             &mut self.places,
             &mut self.marks,
             &mut self.next,
-        )
-        .is_err()
-        {
+        ) else {
             return Err(key);
-        }
+        };
         let count = self.places.len();
         match self.places.insert(key, self.next) {
             Ok(Some(place)) => {

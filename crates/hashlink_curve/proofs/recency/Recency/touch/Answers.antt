@@ -18,7 +18,7 @@ pub move_mark-requires : goal.move_mark-requires
 move_mark-requires g c =
     let f = was g (goal.at.move_mark-requires g c).In-Ok-Some in
     let p = c.free_place.ensures.placed in
-    let free : c.free_place.new.next < length c.free_place.new.marks = search rules in
+    let free = c.in-Ok.ensures.free in
     record {
       within = (f.within, free);
       marked = f.marked;
@@ -34,13 +34,13 @@ pub mark-requires-clause-unmarked : goal.mark-requires-clause-unmarked
 mark-requires-clause-unmarked g c =
     let p = c.free_place.ensures.placed in
     free_at (entries_of c.free_place.new.places) c.free_place.new.next c.free_place.new.marks p.rises p.marked
-    (search rules)
+    c.in-Ok.ensures.free
 
 pub invariant_of-self-in-Ok-Some : goal.invariant_of-self-in-Ok-Some
 invariant_of-self-in-Ok-Some g c =
     let f = was g (goal.at.invariant_of-self-in-Ok-Some g c).In-Ok-Some in
     let puts = rw c.in-Ok-Some.field-0-is at c.in-Ok-Some.ensures.inserts in
-    let free : c.free_place.new.next < length c.free_place.new.marks = search rules in
+    let free = c.in-Ok.ensures.free in
     found_placed g.K.PartialEq.eq g.met.K.Eq.laws _ _ _ _ _ c.free_place.ensures.placed f _ _
     puts.puts.entries c.insert.ensures.distinct c.move_mark.ensures.moved (omega arith)
 
@@ -48,7 +48,7 @@ pub invariant_of-self-in-Ok-None : goal.invariant_of-self-in-Ok-None
 invariant_of-self-in-Ok-None g c =
     let p = c.free_place.ensures.placed in
     let adds = rw c.in-Ok-None.field-0-is at c.in-Ok-None.ensures.inserts in
-    let free : c.free_place.new.next < length c.free_place.new.marks = search rules in
+    let free = c.in-Ok.ensures.free in
     placed_last g.K.PartialEq.eq g.met.K.Eq.laws _ _ _ _ _ _ p.rises p.marked
     (c.in-Ok-None.ensures.added adds.absent) c.insert.ensures.distinct c.mark.ensures.marked
     (omega arith)
