@@ -47,8 +47,8 @@ module _ {K V : Type 0} (test : K → Bool) (es : List (K × V)) where
       by (Some w) l f = length-without_there (λ _. test) es (stands_from_lookup test es w l).1.0 w l
 
   -- with a place for the key, which is more where it is absent
-  pub others-more : (more : ℕ) (there : Bool) → there ≡ is_some (lookup test es) → more ≡ bool_byte (not there)
-      → length (remove_entry test es) + 1 ≡ length es + more
+  pub others-more : (more : ℕ) (there : Bool) → there ≡ is_some (lookup test es)
+      → more ≡ bool_byte (not there) → length (remove_entry test es) + 1 ≡ length es + more
   others-more more true f one = let none : more ≡ 0 = one in omega (arith, others-there (sym f))
   others-more more false f one =
       let some : more ≡ 1 = one in omega (arith, ap length (others-absent (sym f)))

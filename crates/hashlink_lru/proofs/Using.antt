@@ -175,9 +175,9 @@ module _ {K V S : Type 0} (eq : K → K → Bool) (Makes : V → Type 0) (old : 
   some_lent none = none-some m.0 (none ∙ last_is)
 
 -- the map's step, from what a call says that lent the value
-pub moved_or_made : {K V S E : Type 0} (eq : K → K → Bool) (Makes : V → Type 0) (old new : MapState K V S) (k : K)
-    (r : Result (MutBor V) E) (v : MutBor V)
-    → r ≡ Ok v → UnwrapsOrElse (lookup (eq k) old.entries) Makes v.now → (IsOk r → PutsLast eq old new k v.now)
+pub moved_or_made : {K V S E : Type 0} (eq : K → K → Bool) (Makes : V → Type 0) (old new : MapState K V S)
+    (k : K) (r : Result (MutBor V) E) (v : MutBor V) → r ≡ Ok v
+    → UnwrapsOrElse (lookup (eq k) old.entries) Makes v.now → (IsOk r → PutsLast eq old new k v.now)
     → MovesOrMakes eq Makes old new k
 moved_or_made eq Makes old new k r v is made puts = (v.now, made, puts (subst IsOk (sym is) refl))
 
@@ -208,7 +208,8 @@ module _ {K V S : Type 0} (eq : K → K → Bool) (laws : IsEquivalence eq) (Mak
           let one = ap length m.2.adds.entries ∙ m.2.adds.more in
           let fits = ⊎_elim (λ same. absurd (omega (arith, same.0))) (λ more. more.1) s.1 in
           let p = subst (λ c. PutsNewIn eq old c k w) (sym s.2) (put_written eq laws old s.0 k m.0
-          (record { map = record { between = between; inserts = m.2; fits = fits.map }; cap = fits.cap }) w) in
+          (record { map = record { between = between; inserts = m.2; fits = fits.map }; cap = fits.cap })
+          w) in
           (p, put_within eq laws old new k w p)
       by (Some x) l m =
           let es = old.map.entries in

@@ -13,8 +13,8 @@ use Rattle.hashlink_map.specs.Lends.{map_row}
 use Rattle.hashlink_map.specs.declared.try_insert_error.TryInsertError.{TryInsertError}
 use Rattle.hashlink_lru.specs.contracts.cache.LruCache.{the_row}
 use Rattle.hashlink_lru.specs.declared.cache.LruCache.{LruCache}
-use Rattle.hashlink_lru.specs.Cached.{FailsToUse, FitsAndWritesLast, SameCapacity, StaysWithin, StaysWithinOne}
-use Rattle.hashlink_lru.specs.Cached.{UsesAndWrites}
+use Rattle.hashlink_lru.specs.Cached.{FailsToUse, FitsAndWritesLast, SameCapacity, StaysWithin}
+use Rattle.hashlink_lru.specs.Cached.{StaysWithinOne, UsesAndWrites}
 use Rattle.hashlink_lru.specs.Cached.{entries_of, state_of, with_map}
 
 module _ (K V S T : RattleType) (g : HashMembers K.Denot) (b : builder.Ghosts S.Denot T.Denot)

@@ -12,7 +12,8 @@ unreachable-requires g c =
     let f = c.get_or_insert_with.follows in
     let new = keyed.state_of (f.lender i.field-0.now) in
     some_lent g.K.PartialEq.eq _ old new c.args.key (moved_or_made g.K.PartialEq.eq _ old new c.args.key
-    c.get_or_insert_with.result i.field-0 i.was i.ensures.value (f.holds i.field-0.now)) c.in-None.ensures.value
+    c.get_or_insert_with.result i.field-0 i.was i.ensures.value (f.holds i.field-0.now))
+    c.in-None.ensures.value
 
 pub returns : goal.returns
 returns g c =

@@ -11,7 +11,8 @@ returns-in_err-old-clause-inserts g c = search rules
 
 pub returns-in_err-old-clause-within : goal.returns-in_err-old-clause-within
 returns-in_err-old-clause-within g c = λ n within.
-    subst (λ es. length es ≤ c.args.self.now.capacity + n) (sym c.in_err-old.ensures.inserts.grows.entries) within
+    subst (λ es. length es ≤ c.args.self.now.capacity + n) (sym c.in_err-old.ensures.inserts.grows.entries)
+    within
 
 pub returns : goal.returns
 returns g c =
