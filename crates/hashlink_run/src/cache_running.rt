@@ -5,7 +5,7 @@ ghost use Rattle.hashlink_model.specs.Entries.{IsEntries};
 ghost use Rattle.hashlink_run.specs.CacheRun.{LawfulCacheRun, ShownByCache, StaysBounded};
 ghost use Rattle.hashlink_run.specs.Reads.{CallableOn, ClosureSays};
 
-use crate::cache_steps::answer_cache;
+use crate::cache_steps::reply_to_command;
 use crate::{CacheCommand, Reply};
 use hashlink_lru::LruCache;
 use std::alloc::AllocError;
@@ -48,7 +48,7 @@ where
 {
     let mut replies = Vec::with_capacity(cache.allocator(), commands.len())?;
     for command in commands {
-        replies.push_reserved(answer_cache(cache, command, keep));
+        replies.push_reserved(reply_to_command(cache, command, keep));
     }
 
     // What `len` says of every cache, that no two keys are equal, is said of this one.

@@ -2,7 +2,7 @@ use Rattle.hashlink_run.proofs.Names.{◌≡◌, Bool, ap, subst, sym, ◌∙◌
 use Rattle.hashlink_run.proofs.Names.{CacheState}
 use Rattle.hashlink_lru.specs.Cached.{state_of}
 use Rattle.hashlink_run.specs.CacheStep.{CommandReads, ReadFromCache}
-use Rattle.hashlink_run.proofs.cache_steps.answer_cache.Goals as goal
+use Rattle.hashlink_run.proofs.cache_steps.reply_to_command.Goals as goal
 
 -- what the command of an arm reads, the command that was given reads
 reads_of : {K V S : Type 0} (eq : K → K → Bool) (old : CacheState K V S) (pair : K × V)
