@@ -1,10 +1,9 @@
 -- Items that go to those that were seen, one after another, where they appear first.
-use Rattle.std.proofs.Common.{◌≡◌, Bool, cond, ◌||◌, List, [], ◌∷◌, ◌++◌, ap, map, refl, arith}
-use Rattle.std.proofs.Common.{append_assoc}
-use Rattle.std.specs.List.{list_any}
+use Rattle.std.proofs.Common.{cond, ◌||◌, map}
 use Rattle.std.specs.Set.{is_member}
 use Rattle.std.proofs.lemmas.List.{map_push}
-use Rattle.hashlink_uses.specs.Appearances.{first_appearances}
+use Rattle.hashlink_uses.proofs.Common.{◌≡◌, Bool, List, [], ◌∷◌, ◌++◌, ap, refl, arith, append_assoc}
+use Rattle.hashlink_uses.proofs.Common.{list_any, first_appearances}
 
 module _ {X : Type 0} (eq : X → X → Bool) where
   pub appears : (seen : List X) (x : X) (xs : List X)

@@ -1,11 +1,9 @@
 //! Forms that a caller writes by habit: loops over borrowed containers, `?` on what needs memory, operators.
-ghost use Rattle.std.specs.Prelude.{◌≡◌, [], IfOk, OnErr, OnOk, nat_eq};
+ghost use Rattle.std.specs.Prelude.{◌≡◌, [], IfOk, OnErr, nat_eq};
 ghost use Rattle.std.specs.List.{list_any};
 ghost use Rattle.hashlink.specs.Algebra.{intersection_of};
 ghost use Rattle.hashlink.specs.Cached.{entries_of};
 ghost use Rattle.hashlink.specs.Keyed as keyed;
-ghost use Rattle.hashlink.specs.Keyed.{state_of};
-ghost use Rattle.hashlink.specs.Many.{AcceptsAll, InsertsPair};
 ghost use Rattle.hashlink.specs.Sets.{elements_of};
 
 use hashlink::{LinkedHashMap, LinkedHashSet, LruCache};
@@ -65,19 +63,6 @@ pub fn insert_with_room<K: Eq + Hash + Drop, V: Drop, S: BuildHasher>(
 {
     map.reserve(3)?;
     map.insert(key, value).map_err(|_| AllocError)?;
-    Ok(())
-}
-
-/// Moves another map's entries to the back of this one, in turn. If memory runs out, those before the one
-/// whose insert failed stay inserted.
-pub fn append<K: Eq + Hash + Drop, V: Drop, S: BuildHasher + Drop>(
-    map: &mut LinkedHashMap<K, V, S>,
-    other: LinkedHashMap<K, V, S>,
-) -> Result<(), AllocError>
-    ensures all { OnOk result
-        (AcceptsAll (InsertsPair K.eq) (state_of map.old) (keyed.entries_of other) (state_of map.new)) }
-{
-    map.extend(other)?;
     Ok(())
 }
 

@@ -1,7 +1,5 @@
-use Rattle.std.proofs.Common.{sym}
-use Rattle.std.proofs.lemmas.Result.{on_ok_weaker, IfErr-weaker}
-use Rattle.hashlink.specs.Keyed.{state_of}
 use Rattle.hashlink.proofs.Ends.{evicted}
+use Rattle.hashlink_uses.proofs.Common.{sym, on_ok_weaker, IfErr-weaker, state_of}
 use Rattle.hashlink_uses.proofs.caches.count_word.Goals as goal
 
 pub returns-clause-counts : goal.returns-clause-counts

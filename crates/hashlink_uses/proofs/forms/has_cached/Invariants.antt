@@ -1,6 +1,5 @@
-use Rattle.std.specs.Prelude.{◌≡◌}
-use Rattle.std.specs.List.{list_any}
 use Rattle.hashlink.specs.Cached.{entries_of}
+use Rattle.hashlink_uses.proofs.Common.{◌≡◌, list_any}
 use Rattle.hashlink_uses.proofs.forms.has_cached.Given as goal
 
 -- no entry so far has the value

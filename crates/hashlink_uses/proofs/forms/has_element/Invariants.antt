@@ -1,6 +1,4 @@
-use Rattle.std.specs.Prelude.{◌≡◌}
-use Rattle.std.specs.List.{list_any}
-use Rattle.hashlink.specs.Sets.{elements_of}
+use Rattle.hashlink_uses.proofs.Common.{◌≡◌, list_any, elements_of}
 use Rattle.hashlink_uses.proofs.forms.has_element.Given as goal
 
 -- no element so far is equal

@@ -1,6 +1,4 @@
-use Rattle.std.specs.Prelude.{◌≡◌}
-use Rattle.std.specs.List.{list_any}
-use Rattle.hashlink.specs.Keyed.{entries_of}
+use Rattle.hashlink_uses.proofs.Common.{◌≡◌, list_any, entries_of}
 use Rattle.hashlink_uses.proofs.forms.has_value.Given as goal
 
 -- no entry so far has the value

@@ -1,5 +1,4 @@
-use Rattle.std.proofs.Common.{length}
-use Rattle.hashlink.specs.Keyed.{entries_of}
+use Rattle.hashlink_uses.proofs.Common.{length, entries_of}
 use Rattle.hashlink_uses.proofs.forms.pop_each.Given as goal
 
 -- each turn removes an entry

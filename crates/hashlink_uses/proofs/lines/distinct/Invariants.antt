@@ -1,6 +1,4 @@
-use Rattle.std.proofs.Common.{◌≡◌, ◌++◌, [], drop}
-use Rattle.hashlink.specs.Sets.{elements_of}
-use Rattle.hashlink_uses.specs.Appearances.{first_appearances}
+use Rattle.hashlink_uses.proofs.Common.{◌≡◌, ◌++◌, [], drop, elements_of, first_appearances}
 use Rattle.hashlink_uses.proofs.lines.distinct.Given as goal
 
 -- what is there and what appears first among the others is all

@@ -1,8 +1,7 @@
-use Rattle.std.proofs.Common.{[], ap, map, ◌∙◌}
-use Rattle.std.proofs.lemmas.Result.{IfOk-weaker}
+use Rattle.std.proofs.Common.{map}
 use Rattle.std.specs.Str.{bytes_eq}
-use Rattle.hashlink_uses.specs.Appearances.{first_appearances}
 use Rattle.hashlink_uses.proofs.Appearing.{map-appearances}
+use Rattle.hashlink_uses.proofs.Common.{[], ap, ◌∙◌, IfOk-weaker, first_appearances}
 use Rattle.hashlink_uses.proofs.lines.distinct_lines.Goals as goal
 
 pub returns : goal.returns

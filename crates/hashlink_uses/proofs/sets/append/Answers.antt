@@ -1,9 +1,7 @@
-use Rattle.std.proofs.Common.{subst}
 use Rattle.std.specs.Iterator.{Yields}
 use Rattle.std.specs.Map.Iter.{TakesFirst}
-use Rattle.std.proofs.lemmas.Result.{on_ok_weaker, IfErr-weaker}
 use Rattle.hashlink.specs.Sets.{SetInserts}
-use Rattle.hashlink.proofs.CallerLemmas.{extended_by_all, extended_until}
+use Rattle.hashlink_uses.proofs.Common.{subst, on_ok_weaker, IfErr-weaker, extended_by_all, extended_until}
 use Rattle.hashlink_uses.proofs.sets.append.Goals as goal
 
 pub returns-clause-all : goal.returns-clause-all

@@ -1,5 +1,4 @@
-use Rattle.std.proofs.Common.{rules}
-use Rattle.std.proofs.lemmas.Result.{IfOk-weaker}
+use Rattle.hashlink_uses.proofs.Common.{rules, IfOk-weaker}
 use Rattle.hashlink_uses.proofs.sets.copy_of.Goals as goal
 
 pub returns-clause-same : goal.returns-clause-same

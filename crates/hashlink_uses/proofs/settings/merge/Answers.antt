@@ -1,10 +1,8 @@
-use Rattle.std.proofs.Common.{List, [], ◌∷◌, ◌++◌, append_assoc, ap, refl, sym, ◌∙◌}
-use Rattle.std.proofs.lemmas.List.{append-nil}
 use Rattle.std.proofs.lemmas.List.Sums.{fold-append}
 use Rattle.std.proofs.lemmas.Result.{err_from_is_err_and}
 use Rattle.hashlink.specs.Entries.{place_or_end, put}
-use Rattle.hashlink.specs.Keyed.{entries_of}
-use Rattle.hashlink_uses.specs.Merged.{merged}
+use Rattle.hashlink_uses.proofs.Common.{List, [], ◌∷◌, ◌++◌, append_assoc, ap, refl, sym, ◌∙◌, append-nil}
+use Rattle.hashlink_uses.proofs.Common.{entries_of, merged}
 use Rattle.hashlink_uses.proofs.settings.merge.Goals as goal
 
 pub returns-in_err-set-clause-stopped : goal.returns-in_err-set-clause-stopped

@@ -1,6 +1,4 @@
-use Rattle.std.proofs.Common.{◌≡◌, ◌++◌, List}
-use Rattle.hashlink.specs.Keyed.{entries_of}
-use Rattle.hashlink_uses.specs.Merged.{merged}
+use Rattle.hashlink_uses.proofs.Common.{◌≡◌, ◌++◌, List, entries_of, merged}
 use Rattle.hashlink_uses.proofs.settings.merge.Given as goal
 
 -- those that have gone were set in turn

@@ -1,11 +1,8 @@
-use Rattle.std.proofs.Common.{◌≡◌, Bool, List, [], ◌∷◌, ◌++◌, ap, sym, ◌∙◌}
-use Rattle.std.specs.Map.{keys_of}
-use Rattle.std.proofs.lemmas.List.{append-nil}
 use Rattle.hashlink.specs.Entries.{place_or_end, put}
 use Rattle.hashlink.proofs.CallerLemmas.{keys-put_in_place, lookup-replaced_each}
-use Rattle.hashlink_uses.specs.Appearances.{first_appearances}
-use Rattle.hashlink_uses.specs.Merged.{merged}
 use Rattle.hashlink_uses.proofs.Appearing.{appears}
+use Rattle.hashlink_uses.proofs.Common.{◌≡◌, Bool, List, [], ◌∷◌, ◌++◌, ap, sym, ◌∙◌, keys_of, append-nil}
+use Rattle.hashlink_uses.proofs.Common.{first_appearances, merged}
 use Rattle.hashlink_uses.proofs.settings.what_a_merge_leaves.Goals as goal
 
 keys-merged : {K V : Type 0} (eq : K → K → Bool) (es pairs : List (K × V))

@@ -1,5 +1,4 @@
-use Rattle.std.proofs.Common.{rules}
-use Rattle.hashlink.specs.MapEntry.{occupied_place}
+use Rattle.hashlink_uses.proofs.Common.{rules, occupied_place}
 use Rattle.hashlink_uses.proofs.maps.cursors.put_after.Goals as goal
 
 pub returns-in-Occupied-clause-inserts : goal.returns-in-Occupied-clause-inserts

@@ -1,6 +1,5 @@
-use Rattle.std.specs.Prelude.{◌≡◌}
-use Rattle.hashlink.specs.Keyed.{state_of}
 use Rattle.hashlink.proofs.Taking.{Kept}
+use Rattle.hashlink_uses.proofs.Common.{◌≡◌, state_of}
 use Rattle.hashlink_uses.proofs.maps.drains.take_ends.Given as goal
 
 -- the same map, of which only entries that were there at the start are left

@@ -1,8 +1,7 @@
-use Rattle.std.proofs.Common.{◌≡◌, ◌+◌, ap, subst, ◌∙◌, is_ok, rules}
-use Rattle.std.specs.Prelude.{unwrap_or, IsOk}
-use Rattle.hashlink.specs.Keyed.{state_of, entries_of}
-use Rattle.std.specs.Map.{lookup}
+use Rattle.std.specs.Prelude.{unwrap_or}
 use Rattle.hashlink.specs.MapEntryLends.{PutsLast}
+use Rattle.hashlink_uses.proofs.Common.{◌≡◌, ◌+◌, ap, subst, ◌∙◌, is_ok, rules, IsOk, state_of, entries_of}
+use Rattle.hashlink_uses.proofs.Common.{lookup}
 use Rattle.hashlink_uses.proofs.maps.entries.count_word.Goals as goal
 
 pub returns-clause-counts : goal.returns-clause-counts

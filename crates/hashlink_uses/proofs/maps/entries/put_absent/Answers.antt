@@ -1,9 +1,7 @@
-use Rattle.std.proofs.Common.{◌≡◌, length, subst, rules}
 use Rattle.hashlink.specs.MapState.{AddsEntry}
-use Rattle.hashlink.specs.Keyed.{state_of, entries_of}
-use Rattle.hashlink.specs.RawEntry.{raw_place}
 use Rattle.hashlink.proofs.AtNode.{adds-rewritten-at}
 use Rattle.hashlink_uses.proofs.Found.{is-not-absent}
+use Rattle.hashlink_uses.proofs.Common.{◌≡◌, length, subst, rules, state_of, entries_of, raw_place}
 use Rattle.hashlink_uses.proofs.maps.entries.put_absent.Goals as goal
 
 pub returns-in_ok-map-in-Vacant-clause-put : goal.returns-in_ok-map-in-Vacant-clause-put

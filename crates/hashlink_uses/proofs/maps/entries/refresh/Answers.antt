@@ -1,7 +1,5 @@
-use Rattle.std.proofs.Common.{rules}
-use Rattle.hashlink.specs.Keyed.{state_of}
-use Rattle.hashlink.specs.MapEntry.{occupied_place}
 use Rattle.hashlink.proofs.AtKey.{inserted-key}
+use Rattle.hashlink_uses.proofs.Common.{rules, state_of, occupied_place}
 use Rattle.hashlink_uses.proofs.maps.entries.refresh.Goals as goal
 
 pub returns-in-Occupied-clause-puts : goal.returns-in-Occupied-clause-puts

@@ -1,7 +1,4 @@
-use Rattle.std.proofs.Common.{◌∙◌, rules}
-use Rattle.hashlink.specs.Keyed.{state_of}
-use Rattle.hashlink.specs.MapEntry.{occupied_place}
-use Rattle.hashlink.proofs.AtKey.{written-key, absent-written}
+use Rattle.hashlink_uses.proofs.Common.{◌∙◌, rules, state_of, occupied_place, written-key, absent-written}
 use Rattle.hashlink_uses.proofs.maps.entries.set_to_seven.Goals as goal
 
 pub returns-in-Occupied : goal.returns-in-Occupied

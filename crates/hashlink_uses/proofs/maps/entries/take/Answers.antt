@@ -1,8 +1,6 @@
 use Rattle.hashlink.specs.Steps.{RemovesKey}
-use Rattle.std.proofs.Common.{◌≡◌, None, sym, subst, rules}
-use Rattle.hashlink.specs.Keyed.{state_of}
-use Rattle.hashlink.specs.MapEntry.{occupied_place}
 use Rattle.hashlink.proofs.AtKey.{taken-key, absent-taken}
+use Rattle.hashlink_uses.proofs.Common.{◌≡◌, None, sym, subst, rules, state_of, occupied_place}
 use Rattle.hashlink_uses.proofs.maps.entries.take.Goals as goal
 
 pub returns-in-Occupied : goal.returns-in-Occupied

@@ -1,7 +1,6 @@
-use Rattle.std.proofs.Common.{◌≡◌, None, sym, subst, rules}
-use Rattle.std.specs.Prelude.{◌<◌, length, IfNone}
-use Rattle.hashlink.specs.Keyed.{entries_of}
+use Rattle.std.specs.Prelude.{◌<◌, IfNone}
 use Rattle.hashlink_uses.proofs.Found.{few-before-last}
+use Rattle.hashlink_uses.proofs.Common.{◌≡◌, None, sym, subst, rules, length, entries_of}
 use Rattle.hashlink_uses.proofs.maps.entries.take_before_last.Goals as goal
 
 pub returns-in_err-map-clause-none : goal.returns-in_err-map-clause-none

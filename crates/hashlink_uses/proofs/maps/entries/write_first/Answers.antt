@@ -1,9 +1,8 @@
-use Rattle.std.proofs.Common.{◌∙◌, ap, ap₂, subst, rules}
+use Rattle.std.proofs.Common.{ap₂}
 use Rattle.std.specs.Prelude.{OnSome}
-use Rattle.hashlink.specs.MapState.{with_value}
-use Rattle.hashlink.specs.Keyed.{entries_of, state_of}
 use Rattle.hashlink.specs.MapCursor.{CursorWritten, cursor_state}
 use Rattle.hashlink_uses.proofs.Found.{no-value-first}
+use Rattle.hashlink_uses.proofs.Common.{◌∙◌, ap, subst, rules, with_value, entries_of, state_of}
 use Rattle.hashlink_uses.proofs.maps.entries.write_first.Goals as goal
 
 pub returns-in-Some-clause-there : goal.returns-in-Some-clause-there

@@ -1,7 +1,5 @@
-use Rattle.std.proofs.Common.{◌≡◌, ap, ◌∙◌, rules}
-use Rattle.hashlink.specs.Keyed.{state_of}
-use Rattle.hashlink.specs.MapEntry.{occupied_place}
-use Rattle.hashlink.proofs.AtKey.{written-key, absent-written}
+use Rattle.hashlink_uses.proofs.Common.{◌≡◌, ap, ◌∙◌, rules, state_of, occupied_place, written-key}
+use Rattle.hashlink_uses.proofs.Common.{absent-written}
 use Rattle.hashlink_uses.proofs.maps.entries.write_for_good.Goals as goal
 
 pub returns-in-Occupied : goal.returns-in-Occupied

@@ -1,8 +1,6 @@
-use Rattle.std.proofs.Common.{rules}
-use Rattle.hashlink.specs.Keyed.{entries_of, state_of}
-use Rattle.hashlink.specs.RawEntry.{raw_place}
 use Rattle.hashlink.proofs.AtKey.{replaced-key}
 use Rattle.hashlink_uses.proofs.Found.{is-found, is-not-found}
+use Rattle.hashlink_uses.proofs.Common.{rules, entries_of, state_of, raw_place}
 use Rattle.hashlink_uses.proofs.maps.entries.write_raw.Goals as goal
 
 pub returns-in-Occupied-clause-writes : goal.returns-in-Occupied-clause-writes

@@ -1,10 +1,7 @@
-use Rattle.std.proofs.Common.{subst}
 use Rattle.std.specs.Iterator.{Yields}
 use Rattle.std.specs.Map.Iter.{TakesFirst}
-use Rattle.std.proofs.lemmas.Result.{on_ok_weaker, IfErr-weaker}
-use Rattle.hashlink.specs.Keyed.{state_of}
-use Rattle.hashlink.specs.Many.{InsertsPair}
-use Rattle.hashlink.proofs.CallerLemmas.{extended_by_all, extended_until}
+use Rattle.hashlink_uses.proofs.Common.{subst, on_ok_weaker, IfErr-weaker, state_of, InsertsPair}
+use Rattle.hashlink_uses.proofs.Common.{extended_by_all, extended_until}
 use Rattle.hashlink_uses.proofs.maps.extended.append.Goals as goal
 
 pub returns-clause-all : goal.returns-clause-all

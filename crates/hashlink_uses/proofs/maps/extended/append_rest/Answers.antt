@@ -1,8 +1,5 @@
-use Rattle.std.proofs.Common.{refl}
-use Rattle.std.proofs.lemmas.Result.{on_ok_weaker, IfErr-weaker}
-use Rattle.hashlink.specs.Keyed.{state_of}
-use Rattle.hashlink.specs.Many.{InsertsPair}
-use Rattle.hashlink.proofs.CallerLemmas.{extended_by_all, extended_until}
+use Rattle.hashlink_uses.proofs.Common.{refl, on_ok_weaker, IfErr-weaker, state_of, InsertsPair}
+use Rattle.hashlink_uses.proofs.Common.{extended_by_all, extended_until}
 use Rattle.hashlink_uses.proofs.maps.extended.append_rest.Goals as goal
 
 pub returns-clause-all : goal.returns-clause-all

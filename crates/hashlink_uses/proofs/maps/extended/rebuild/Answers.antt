@@ -1,11 +1,7 @@
-use Rattle.std.proofs.Common.{◌∙◌}
-use Rattle.std.proofs.lemmas.Result.{IfOk-weaker}
 use Rattle.hashlink.specs.MapState.{empty_map}
 use Rattle.hashlink.proofs.Extends.{extended-own}
 use Rattle.hashlink.proofs.InTurn.{accepts_entries}
-use Rattle.hashlink.specs.Keyed.{entries_of, state_of}
-use Rattle.hashlink.specs.Many.{InsertsPair}
-use Rattle.hashlink.proofs.CallerLemmas.{extended_by_all}
+use Rattle.hashlink_uses.proofs.Common.{◌∙◌, IfOk-weaker, entries_of, state_of, InsertsPair, extended_by_all}
 use Rattle.hashlink_uses.proofs.maps.extended.rebuild.Goals as goal
 
 pub returns : goal.returns

@@ -1,8 +1,6 @@
-use Rattle.std.proofs.Common.{Result, Ok, Err, refl, arith}
-use Rattle.std.specs.Prelude.{IsOk, IfErr}
-use Rattle.std.proofs.lemmas.Result.{IfErr-weaker}
-use Rattle.hashlink.specs.Keyed.{entries_of, state_of}
+use Rattle.std.proofs.Common.{Result, Ok, Err}
 use Rattle.hashlink.proofs.InTurn.{drained_takes}
+use Rattle.hashlink_uses.proofs.Common.{refl, arith, IsOk, IfErr, IfErr-weaker, entries_of, state_of}
 use Rattle.hashlink_uses.proofs.maps.extended.refill.Goals as goal
 
 never_err : {A E : Type 0} (r : Result A E) → IfErr r (λ _. ⊥) → IsOk r

@@ -1,7 +1,5 @@
-use Rattle.std.proofs.Common.{rules}
-use Rattle.hashlink.specs.Keyed.{state_of}
-use Rattle.hashlink.specs.RawEntry.{raw_place}
 use Rattle.hashlink.proofs.AtKey.{taken-key}
+use Rattle.hashlink_uses.proofs.Common.{rules, state_of, raw_place}
 use Rattle.hashlink_uses.proofs.maps.raw_entries.take_by_hash.Goals as goal
 
 pub returns-in-Occupied : goal.returns-in-Occupied

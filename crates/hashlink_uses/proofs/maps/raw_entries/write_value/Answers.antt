@@ -1,8 +1,5 @@
-use Rattle.std.proofs.Common.{rules}
-use Rattle.hashlink.specs.Keyed.{entries_of, state_of}
-use Rattle.hashlink.specs.RawEntry.{raw_place}
-use Rattle.hashlink.proofs.AtKey.{written-key}
 use Rattle.hashlink_uses.proofs.Found.{is-found, is-not-found}
+use Rattle.hashlink_uses.proofs.Common.{rules, entries_of, state_of, raw_place, written-key}
 use Rattle.hashlink_uses.proofs.maps.raw_entries.write_value.Goals as goal
 
 pub returns-in-Occupied-clause-there : goal.returns-in-Occupied-clause-there

@@ -1,7 +1,6 @@
-use Rattle.std.proofs.Common.{◌%◌, ◌∙◌, ap, arith, nat_eq, rules}
 use Rattle.std.proofs.lemmas.List.{length-map}
-use Rattle.std.specs.Map.{keys_of}
 use Rattle.hashlink_uses.proofs.Counting.{removes_first, without_first-keys}
+use Rattle.hashlink_uses.proofs.Common.{◌%◌, ◌∙◌, ap, arith, nat_eq, rules, keys_of}
 use Rattle.hashlink_uses.proofs.maps.retains.take_even.Goals as goal
 
 pub overflow_sub-result : goal.overflow_sub-result

@@ -1,8 +1,6 @@
-use Rattle.std.proofs.Common.{rules, ap, arith, length, ◌∙◌}
-use Rattle.hashlink.specs.Keyed.{entries_of}
-use Rattle.hashlink.specs.MapState.{with_value}
-use Rattle.hashlink.proofs.Walking.{on-some, walk-ends}
+use Rattle.hashlink.proofs.Walking.{walk-ends}
 use Rattle.hashlink_uses.proofs.Found.{no-value-left}
+use Rattle.hashlink_uses.proofs.Common.{rules, ap, arith, length, ◌∙◌, entries_of, with_value, on-some}
 use Rattle.hashlink_uses.proofs.maps.writing_walks.write_first.Goals as goal
 
 pub returns-clause-written : goal.returns-clause-written

@@ -1,6 +1,5 @@
-use Rattle.std.proofs.Common.{nat_eq}
-use Rattle.std.proofs.lemmas.Cmp.{nat_eq_equiv}
 use Rattle.hashlink.proofs.CallerLemmas.{lookup-moved}
+use Rattle.hashlink_uses.proofs.Common.{nat_eq, nat_eq_equiv}
 use Rattle.hashlink_uses.proofs.pages.PageCache.find.Goals as goal
 
 pub invariant_of-self : goal.invariant_of-self

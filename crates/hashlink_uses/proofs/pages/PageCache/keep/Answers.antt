@@ -1,7 +1,6 @@
-use Rattle.std.proofs.Common.{arith, nat_eq}
 use Rattle.std.proofs.lemmas.Bool.{eqb-true}
-use Rattle.std.proofs.lemmas.Cmp.{nat_eq_equiv}
 use Rattle.hashlink.proofs.CallerLemmas.{lookup-cache_inserts}
+use Rattle.hashlink_uses.proofs.Common.{arith, nat_eq, nat_eq_equiv}
 use Rattle.hashlink_uses.proofs.pages.PageCache.keep.Goals as goal
 
 pub invariant_of-self-2 : goal.invariant_of-self-2

@@ -1,7 +1,5 @@
-use Rattle.std.proofs.Common.{None, Some, sym, ◌∙◌}
-use Rattle.std.specs.Prelude.{drop}
-use Rattle.hashlink.specs.Sets.{elements_of}
 use Rattle.hashlink.proofs.CallerLemmas.{by_first, set_moves_first}
+use Rattle.hashlink_uses.proofs.Common.{None, Some, sym, ◌∙◌, drop, elements_of}
 use Rattle.hashlink_uses.proofs.tasks.RoundRobin.next.Goals as goal
 
 pub returns-in_err-task : goal.returns-in_err-task
