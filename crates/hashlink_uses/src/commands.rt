@@ -104,7 +104,7 @@ pub fn insert_then_keep_divisors<K: Eq + Hash + Drop, S: BuildHasher>(
         map,
         commands,
         &|_: &K, value: &u64|
-            requires { value.now ≢ 0 }
+            requires divides { value.now ≢ 0 }
         { total % *value == 0 },
     )
 }
