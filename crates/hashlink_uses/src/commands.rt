@@ -7,8 +7,7 @@ ghost use Rattle.hashlink.specs.Cache.{IsWithin};
 ghost use Rattle.hashlink.specs.CacheRun.{names_no_entry};
 ghost use Rattle.hashlink.specs.Cached.{entries_of, state_of};
 ghost use Rattle.hashlink.specs.Keyed as keyed;
-ghost use Rattle.hashlink.specs.Reads.{CallableOn, ClosureSays};
-ghost use Rattle.hashlink.specs.Run.{ShownBy, keeps_nodes};
+ghost use Rattle.hashlink.specs.Run.{keeps_nodes};
 ghost use Rattle.hashlink.specs.declared.run.Reply.TheVariants.{Value};
 
 use hashlink::run::{CacheCommand, Command, Reply, run, run_cache};
@@ -100,25 +99,11 @@ pub fn insert_then_keep_divisors<K: Eq + Hash + Drop, S: BuildHasher>(
     requires held { All (λ e. e.1 ≢ 0) (keyed.entries_of map.old) }
 {
     let commands = two_commands(alloc, Command::Insert(key, value), Command::Keep)?;
-    run_by(
+    run(
         map,
         commands,
         &|_: &K, value: &u64|
             requires divides { value.now ≢ 0 }
         { total % *value == 0 },
     )
-}
-
-// Does what the run of a map does. That its condition has a name makes it a record, which is compared at
-// little cost where the closure is known.
-fn run_by<K: Eq + Hash + Drop, V: Drop, S: BuildHasher, F: Fn(&K, &V) -> bool>(
-    map: &mut LinkedHashMap<K, V, S>,
-    commands: Vec<Command<K, V>>,
-    keep: &F,
-) -> Result<Vec<Reply<K, V>>, AllocError>
-    requires callable { CallableOn F.Fn keep.now
-        (ShownBy K.eq (ClosureSays F.Fn keep.now) (ClosureSays F.Fn keep.now) (keyed.state_of map.old)
-        commands.items) }
-{
-    run(map, commands, keep)
 }

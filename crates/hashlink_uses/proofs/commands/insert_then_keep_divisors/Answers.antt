@@ -28,10 +28,8 @@ module _ {K B S : Type 0} {eq : K → K → Bool} {Says : K → ℕ → B → Ty
         shown_by_keep (inserts later.1.1 given held) later.2
   ]
 
-pub run_by-requires : goal.run_by-requires
-run_by-requires g c = record {
-  callable = λ pair shown key value first second.
-      let commands = c.in_ok-commands.ensures in
-      let not_zero = shown_by_both c.requires.given c.requires.held (rw commands at shown) in
-      subst (λ n. n ≢ 0) (sym second) not_zero;
-}
+pub run-requires : goal.run-requires
+run-requires g c = λ pair shown key value first second.
+    let commands = c.in_ok-commands.ensures in
+    let not_zero = shown_by_both c.requires.given c.requires.held (rw commands at shown) in
+    subst (λ n. n ≢ 0) (sym second) not_zero
