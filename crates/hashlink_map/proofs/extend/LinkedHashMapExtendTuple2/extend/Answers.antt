@@ -23,5 +23,4 @@ pub returns-clause-ran : goal.returns-clause-ran
 returns-clause-ran g c =
     took_all g.I.IntoIter.Iterator.next_gives (λ raw. raw) g.I.IntoIterator.into_iter_gives
     (InsertsPair g.K.PartialEq.eq) (Grows 1) c.args.iter (state_of c.args.self.now)
-    (state_of c.extend.new.self)
-    c.in_ok-extend.ensures.all (grows-none (state_of c.extend.new.self))
+    (state_of c.extend.new.self) c.in_ok-extend.ensures.all (grows-none (state_of c.extend.new.self))

@@ -18,8 +18,7 @@ returns-in_err-extend_ref-clause-stopped g c =
     stopped_at_last g.I.IntoIter.Iterator.next_gives (map deref_pair) g.I.IntoIterator.into_iter_gives
     (InsertsPair g.K.PartialEq.eq) (Grows 1)
     c.args.iter (state_of c.args.self.now) (state_of c.extend_ref.new.self)
-    c.from_residual.result e.taken e.pair
-    c.in_err-extend_ref.ensures.stopped
+    c.from_residual.result e.taken e.pair c.in_err-extend_ref.ensures.stopped
 
 pub returns-clause-ran : goal.returns-clause-ran
 returns-clause-ran g c =

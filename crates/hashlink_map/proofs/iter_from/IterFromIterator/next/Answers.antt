@@ -6,8 +6,7 @@ use Rattle.hashlink_core.proofs.Edits.{drop-at}
 
 -- the entry at a place, and those from the place after it on
 from-following : {X : Type 0} (xs : List X) (i j : ℕ) (x : X) → slice_get xs i ≡ Some x
-    → j ≡ following_place (length xs) i
-    → drop i xs ≡ x ∷ drop j xs
+    → j ≡ following_place (length xs) i → drop i xs ≡ x ∷ drop j xs
 from-following xs i j x at is =
     let here = drop-at xs i x at in
     let within : i < length xs = omega (arith, ap length here, length-drop i xs) in
@@ -17,8 +16,7 @@ pub returns-clause-steps : goal.returns-clause-steps
 returns-clause-steps g c =
     let i = c.self.inside in
     let ns = i.map.now.nodes in
-    sym c.self.view_is
-    ∙ ap (λ p. drop (place_number ns p) (entries_of i.map.now)) c.in_ok-node.was
+    sym c.self.view_is ∙ ap (λ p. drop (place_number ns p) (entries_of i.map.now)) c.in_ok-node.was
     ∙ from-following (entries_of i.map.now) _ _ (deref_pair c.pair_at.result) c.pair_at.ensures
     c.place_after-self-inside.ensures.number
 

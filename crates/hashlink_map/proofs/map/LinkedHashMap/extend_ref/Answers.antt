@@ -10,8 +10,7 @@ returns-clause-all g c =
     (λ items. AcceptsAll (InsertsPair g.K.PartialEq.eq) (state_of c.args.self.now) items
     (state_of c.extend_from.new.self))
     _ (λ p q x y called. search rules) c.into_iter.result c.map-copies.result c.extend_from.new.iter
-    c.map-copies.ensures.source c.into_iter.ensures.into_iter_gives)
-    c.extend_from.ensures.all
+    c.map-copies.ensures.source c.into_iter.ensures.into_iter_gives) c.extend_from.ensures.all
 
 pub returns-clause-stopped : goal.returns-clause-stopped
 returns-clause-stopped g c =
@@ -20,5 +19,4 @@ returns-clause-stopped g c =
     (λ items. StopsAt (InsertsPair g.K.PartialEq.eq) (state_of c.args.self.now) items
     (state_of c.extend_from.new.self) e.taken e.pair [])
     _ (λ p q x y called. search rules) c.into_iter.result c.map-copies.result c.extend_from.new.iter
-    c.map-copies.ensures.source c.into_iter.ensures.into_iter_gives)
-    c.extend_from.ensures.stopped
+    c.map-copies.ensures.source c.into_iter.ensures.into_iter_gives) c.extend_from.ensures.stopped

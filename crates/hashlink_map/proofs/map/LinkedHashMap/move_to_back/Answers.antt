@@ -15,6 +15,5 @@ returns-clause-stays g c =
 pub returns-clause-distinct : goal.returns-clause-distinct
 returns-clause-distinct g c =
     let old = c.args.self.now in
-    distinct_before g.K.PartialEq.eq g.met.K.Eq.laws (entries_of old) _ _
-    (at-node old c.args.node c.requires)
+    distinct_before g.K.PartialEq.eq g.met.K.Eq.laws (entries_of old) _ _ (at-node old c.args.node c.requires)
     (rw ((returns-clause-moves g c).entries) at c.move_before.ensures.sound.distinct)

@@ -13,8 +13,6 @@ returns-clause-inserts g c =
       map =
           subst
           (λ i. Inserts g.K.PartialEq.eq (state_of s.map.now) (state_of c.insert_at.new.self)
-          c.args.key c.args.value i
-          c.insert_at.result)
-          (search rules) c.insert_at.ensures.inserts;
+          c.args.key c.args.value i c.insert_at.result) (search rules) c.insert_at.ensures.inserts;
       place = (c.insert_at.ensures.keeps (cursor_node s) s.within).number;
     }

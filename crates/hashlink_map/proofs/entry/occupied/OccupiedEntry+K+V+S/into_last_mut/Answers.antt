@@ -7,13 +7,11 @@ returns g c =
     let o = c.args.self in
     let e = c.move_to_back.ensures in
     let put = moves-and-writes g.K.PartialEq.eq _ c.move_to_back.new.self o.key _
-    o.stands.place o.node e.moves
-    e.stays.place in (
+    o.stands.place o.node e.moves e.stays.place in (
       (refl, λ w _. put w, tt),
       record {
         lends = tt;
         value = moved-value g.K.PartialEq.eq _ c.move_to_back.new.self o.key _ o.stands.place o.node e.moves
-            e.stays.place
-            _ c.value_at_mut.ensures.value;
+            e.stays.place _ c.value_at_mut.ensures.value;
       },
     )

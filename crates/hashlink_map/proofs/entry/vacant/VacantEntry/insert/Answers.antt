@@ -7,14 +7,12 @@ returns g c =
     let e = c.in_ok-node.ensures in
     let laws = g.met.K.Eq.laws in
     let put = adds-written laws _ c.push_back.new.self c.args.self.key c.args.value
-    c.in_ok-node.node e.inserts
-    e.place in (
+    c.in_ok-node.node e.inserts e.place in (
       (refl, λ w _. put w, tt),
       record {
         lends = tt;
         handed_back = tt;
         value = added-value laws _ c.push_back.new.self c.args.self.key c.args.value
-            c.in_ok-node.node e.inserts e.place _
-            c.value_at_mut.ensures.value;
+            c.in_ok-node.node e.inserts e.place _ c.value_at_mut.ensures.value;
       },
     )

@@ -12,9 +12,7 @@ returns-in-Ok-push_back g c =
       record {
         lends = tt;
         handed_back = tt;
-        value = c.in-Ok.is
-            ∙ ap Ok (sym (added-value laws _ c.push_back.new.self c.args.self.key c.in-Ok.value
-            n e.inserts e.place _
-            c.value_at_mut.ensures.value));
+        value = c.in-Ok.is ∙ ap Ok (sym (added-value laws _ c.push_back.new.self c.args.self.key c.in-Ok.value
+            n e.inserts e.place _ c.value_at_mut.ensures.value));
       },
     )
