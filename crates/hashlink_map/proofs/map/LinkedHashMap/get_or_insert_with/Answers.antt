@@ -25,8 +25,7 @@ returns-in-Some g c =
 
 pub make-requires : goal.make-requires
 make-requires g c =
-    c.requires
-    (lookup-unplaced (g.K.PartialEq.eq c.args.key) (entries_of c.args.self.now)
+    c.requires (lookup-unplaced (g.K.PartialEq.eq c.args.key) (entries_of c.args.self.now)
     (rw c.self.view_is at c.in-None.ensures.found))
 
 pub returns : goal.returns

@@ -1,5 +1,4 @@
-use Rattle.hashlink_map.proofs.Names.{length, subst, place_number, MovesNode, around}
-use Rattle.std.specs.Prelude.{Some}
+use Rattle.hashlink_map.proofs.Names.{Some, length, subst, place_number, MovesNode, around}
 use Rattle.hashlink_map.proofs.AtNode.{stays-first}
 use Rattle.hashlink_map.proofs.map.LinkedHashMap.move_to_front.Goals as goal
 

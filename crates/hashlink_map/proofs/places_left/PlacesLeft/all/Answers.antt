@@ -9,8 +9,7 @@ returns g c =
     let last = c.back.ensures.place.number in
     let count = c.len.ensures.len in
     let long = length-map m.nodes (λ e. e.1) in
-    rw (← c.map.view_is)
-    (record {
+    rw (← c.map.view_is) (record {
       stands = rw (same-place c.front.result, same-place c.back.result) (record {
         few = omega (arith, first, count, long);
         ends = λ some. omega (arith, some, first, last, count, long);

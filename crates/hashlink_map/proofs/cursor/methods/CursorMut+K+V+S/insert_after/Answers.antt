@@ -11,8 +11,7 @@ returns-clause-inserts g c =
     let s = c.args.self.now in
     record {
       map =
-          subst
-          (λ i. Inserts g.K.PartialEq.eq (state_of s.map.now) (state_of c.insert_at.new.self)
+          subst (λ i. Inserts g.K.PartialEq.eq (state_of s.map.now) (state_of c.insert_at.new.self)
           c.args.key c.args.value i c.insert_at.result) (search rules) c.insert_at.ensures.inserts;
       place = (c.insert_at.ensures.keeps (cursor_node s) s.within).number;
     }

@@ -9,6 +9,5 @@ returns-in_err-node g c k told =
 
 pub returns : goal.returns
 returns g c k told =
-    sym
-    (lookup_entry-place (g.K.PartialEq.eq k) (entries_of c.args.self.map.now) _ (search rules)
+    sym (lookup_entry-place (g.K.PartialEq.eq k) (entries_of c.args.self.map.now) _ (search rules)
     ∙ c.pair_at.ensures)

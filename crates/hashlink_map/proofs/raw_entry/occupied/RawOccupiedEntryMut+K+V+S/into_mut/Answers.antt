@@ -5,6 +5,5 @@ use Rattle.hashlink_map.proofs.raw_entry.occupied.RawOccupiedEntryMut+K+V+S.into
 pub returns : goal.returns
 returns g c = (
   (refl, λ w. refl),
-  record
-      { lends = tt; value = c.value_at_mut.ensures.value; written = raw_is_written c.args.self },
+  record { lends = tt; value = c.value_at_mut.ensures.value; written = raw_is_written c.args.self },
 )
