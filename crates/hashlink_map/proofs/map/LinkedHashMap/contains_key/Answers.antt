@@ -1,5 +1,4 @@
-use Rattle.hashlink_map.proofs.Names.{ap, sym, ◌∙◌, is_some-map}
-use Rattle.std.specs.Prelude.{is_some}
+use Rattle.hashlink_map.proofs.Names.{ap, sym, ◌∙◌, is_some, is_some-map}
 use Rattle.hashlink_map.proofs.map.LinkedHashMap.contains_key.Goals as goal
 
 pub returns-clause-found : goal.returns-clause-found

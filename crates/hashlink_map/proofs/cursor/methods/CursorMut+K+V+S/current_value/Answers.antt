@@ -24,7 +24,6 @@ returns-in-None g c =
       (refl, λ w. tt, (refl, refl, refl)),
       record {
         lends = tt;
-        value =
-            sym (ap (value_at (entries_of m)) guard ∙ ap (option_map (λ e. e.1)) (at-guard m));
+        value = sym (ap (value_at (entries_of m)) guard ∙ ap (option_map (λ e. e.1)) (at-guard m));
       },
     )

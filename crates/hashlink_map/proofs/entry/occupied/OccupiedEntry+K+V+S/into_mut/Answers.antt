@@ -8,7 +8,6 @@ returns g c = (
   record {
     lends = tt;
     value = c.value_at_mut.ensures.value;
-    written =
-        is_written c.args.self;
+    written = is_written c.args.self;
   },
 )
