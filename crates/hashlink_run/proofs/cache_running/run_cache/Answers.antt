@@ -24,7 +24,9 @@ loop-command-preserved g c =
           (rw left at so_far.0) c.reply_to_command.ensures),
       omega (arith, so_far.1, ap length left, c.push_reserved.ensures.len, c.push_reserved.ensures.capacity),
       λ pair shown. (rw left at so_far.2) pair
-          (record { comes = inr (record { replies = _; state = _ }, c.reply_to_command.ensures, shown.comes) }),
+          (record {
+            comes = inr (record { replies = _; state = _ }, c.reply_to_command.ensures, shown.comes)
+          }),
     )
 
 pub reply_to_command-requires : goal.reply_to_command-requires

@@ -4,7 +4,8 @@ use Rattle.hashlink_map.proofs.map.LinkedHashMap.replace_value_at.Goals as goal
 
 pub returns-clause-replaces : goal.returns-clause-replaces
 returns-clause-replaces g c =
-    let e = c.replace_value.ensures in rw (← c.self.view_is) (record { answer = e.value; step = e.written.state })
+    let e = c.replace_value.ensures in
+    rw (← c.self.view_is) (record { answer = e.value; step = e.written.state })
 
 pub returns-clause-stays : goal.returns-clause-stays
 returns-clause-stays g c =
