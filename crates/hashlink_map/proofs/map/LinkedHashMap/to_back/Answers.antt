@@ -40,8 +40,7 @@ returns-in-Some g c =
 
 pub returns-in-None : goal.returns-in-None
 returns-in-None g c =
-    let e = c.in-None.ensures in
-    rw (← c.self.view_is) (
+    let e = c.in-None.ensures in rw (← c.self.view_is) (
       (refl, λ w. tt, refl),
       record {
         lends = tt;
