@@ -25,7 +25,7 @@ loop-command-preserved g c =
       omega (arith, so_far.1, ap length left, c.push_reserved.ensures.len, c.push_reserved.ensures.capacity),
       λ pair shown. (rw left at so_far.2) pair
           (record {
-            comes = inr (record { replies = _; state = _ }, c.reply_to_command.ensures, shown.comes)
+            comes = inr (record { replies = _; state = _ }, c.reply_to_command.ensures, shown.comes);
           }),
     )
 

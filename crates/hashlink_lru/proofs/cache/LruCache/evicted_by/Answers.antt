@@ -5,8 +5,11 @@ use Rattle.hashlink_lru.proofs.cache.LruCache.evicted_by.Goals as goal
 
 pub overflow_add-len : goal.overflow_add-len
 overflow_add-len g c =
-    omega (arith, c.len.ensures.small,
-    at_most_one c.from.result (not c.contains_key-absent.result) c.from.ensures)
+    omega (
+      arith,
+      c.len.ensures.small,
+      at_most_one c.from.result (not c.contains_key-absent.result) c.from.ensures,
+    )
 
 pub returns-then-len-from-clause-found : goal.returns-then-len-from-clause-found
 returns-then-len-from-clause-found g c =
