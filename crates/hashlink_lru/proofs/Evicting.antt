@@ -2,8 +2,7 @@
 use Rattle.std.specs.Prelude.{◌≡◌, ℕ, suc, ◌+◌, ◌-◌, ◌≤◌, ◌<◌, Bool, List, [], ◌∷◌, ◌++◌, length, take, drop}
 use Rattle.std.specs.Prelude.{Option, None, Some, Ok}
 use Rattle.std.specs.Map.{lookup, remove_entry}
-use mir.Val.{bool_byte}
-use Rattle.std.proofs.Common.{true, false, not, true≢false, is_some, refl, ap, ap₂, sym, ◌∙◌, ⊎_elim, arith}
+use Rattle.std.proofs.Common.{true, false, true≢false, is_some, refl, ap, ap₂, sym, ◌∙◌, ⊎_elim, arith}
 use Rattle.std.proofs.lemmas.Bool.{lt-ltb, le-ltb, cases_lt}
 use Rattle.std.proofs.lemmas.List.{take-append-drop, length-append}
 use Rattle.std.proofs.lemmas.Option.{none-some, same_Some}
@@ -46,25 +45,32 @@ module _ {K V : Type 0} (test : K → Bool) (es : List (K × V)) where
       by None l f = absurd (true≢false (sym f))
       by (Some w) l f = length-without_there (λ _. test) es (stands_from_lookup test es w l).1.0 w l
 
-  -- with a place for the key, which is more where it is absent
-  pub others-more : (more : ℕ) (there : Bool) → there ≡ is_some (lookup test es)
-      → more ≡ bool_byte (not there) → length (remove_entry test es) + 1 ≡ length es + more
-  others-more more true f one = let none : more ≡ 0 = one in omega (arith, others-there (sym f))
-  others-more more false f one =
-      let some : more ≡ 1 = one in omega (arith, ap length (others-absent (sym f)))
-
   module _ (cap : ℕ) where
-    pub evicted-room : length (remove_entry test es) < cap → evicted_by test es cap ≡ None
+    evicted-room : length (remove_entry test es) < cap → evicted_by test es cap ≡ None
     evicted-room l = rw (lt-ltb (length (remove_entry test es)) cap l) refl
 
-    pub evicted-full : cap ≤ length (remove_entry test es)
+    evicted-full : cap ≤ length (remove_entry test es)
         → evicted_by test es cap ≡ first_of (remove_entry test es)
     evicted-full l = rw (le-ltb (length (remove_entry test es)) cap l) refl
 
--- one at most
-pub at_most_one : (more : ℕ) (b : Bool) → more ≡ bool_byte b → more ≤ 1
-at_most_one more true is = let some : more ≡ 1 = is in omega arith
-at_most_one more false is = let none : more ≡ 0 = is in omega arith
+    -- an absent key
+    pub evicted-absent_room : is_some (lookup test es) ≡ false → length es < cap
+        → evicted_by test es cap ≡ None
+    evicted-absent_room a l = evicted-room (omega (arith, ap length (others-absent a)))
+
+    pub evicted-absent_full : is_some (lookup test es) ≡ false → cap ≤ length es
+        → evicted_by test es cap ≡ first_of es
+    evicted-absent_full a l =
+        evicted-full (omega (arith, ap length (others-absent a))) ∙ ap first_of (others-absent a)
+
+    -- a key that is there
+    pub evicted-there_room : is_some (lookup test es) ≡ true → length es ≤ cap
+        → evicted_by test es cap ≡ None
+    evicted-there_room f l = evicted-room (omega (arith, others-there f))
+
+    pub evicted-there_full : is_some (lookup test es) ≡ true → cap < length es
+        → evicted_by test es cap ≡ first_of (remove_entry test es)
+    evicted-there_full f l = evicted-full (omega (arith, others-there f))
 
 -- ---- what an insert evicts
 

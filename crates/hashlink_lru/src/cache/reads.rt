@@ -75,8 +75,15 @@ impl<K: Eq + Hash, V, S: BuildHasher> LruCache<K, V, S> {
             ≡ evicted_by (Q.matches key) (entries_of self.now) (state_of self.now).cap }
         ensures distinct { IsEntries K.eq (entries_of self.now) }
     {
-        let absent = !self.map.contains_key(key);
-        if self.map.len() + usize::from(absent) <= self.capacity {
+        let len = self.map.len();
+        if !self.map.contains_key(key) {
+            return if len < self.capacity {
+                None
+            } else {
+                self.map.front()
+            };
+        }
+        if len <= self.capacity {
             return None;
         }
         self.first_other(key)

@@ -1,27 +1,31 @@
-use Rattle.std.proofs.Common.{sym, ◌∙◌, arith, not}
-use Rattle.hashlink_lru.specs.Cached.{entries_of}
-use Rattle.hashlink_lru.proofs.Evicting.{others-more, evicted-room, evicted-full, at_most_one}
+use Rattle.std.proofs.Common.{sym, ◌∙◌, arith}
+use Rattle.hashlink_lru.specs.Cached.{entries_of, state_of}
+use Rattle.hashlink_lru.proofs.Evicting.{evicted-absent_room, evicted-absent_full, evicted-there_room}
+use Rattle.hashlink_lru.proofs.Evicting.{evicted-there_full}
 use Rattle.hashlink_lru.proofs.cache.LruCache.evicted_by.Goals as goal
 
-pub overflow_add-len : goal.overflow_add-len
-overflow_add-len g c =
-    omega (
-      arith,
-      c.len.ensures.small,
-      at_most_one c.from.result (not c.contains_key-absent.result) c.from.ensures,
-    )
+pub returns-then-len-self-clause-found : goal.returns-then-len-self-clause-found
+returns-then-len-self-clause-found g c =
+    sym (evicted-absent_room (g.Q.Equivalent.matches c.args.key) (entries_of c.args.self.now)
+    (state_of c.args.self.now).cap (sym c.contains_key.ensures.found ∙ c.if-not-contains_key.true)
+    (omega arith))
 
-pub returns-then-len-from-clause-found : goal.returns-then-len-from-clause-found
-returns-then-len-from-clause-found g c =
-    let test = g.Q.Equivalent.matches c.args.key in
-    let more = others-more test (entries_of c.args.self.now) c.from.result c.contains_key-absent.result
-    c.contains_key-absent.ensures.found c.from.ensures in
-    sym (evicted-room test (entries_of c.args.self.now) c.args.self.now.capacity (omega arith))
+pub returns-else-len-self-clause-found : goal.returns-else-len-self-clause-found
+returns-else-len-self-clause-found g c =
+    c.front.ensures.found
+    ∙ sym (evicted-absent_full (g.Q.Equivalent.matches c.args.key) (entries_of c.args.self.now)
+    (state_of c.args.self.now).cap (sym c.contains_key.ensures.found ∙ c.if-not-contains_key.true)
+    (omega arith))
+
+pub returns-then-len-self-2-clause-found : goal.returns-then-len-self-2-clause-found
+returns-then-len-self-2-clause-found g c =
+    sym (evicted-there_room (g.Q.Equivalent.matches c.args.key) (entries_of c.args.self.now)
+    (state_of c.args.self.now).cap (sym c.contains_key.ensures.found ∙ c.if-not-contains_key.false)
+    (omega arith))
 
 pub returns-clause-found : goal.returns-clause-found
 returns-clause-found g c =
-    let test = g.Q.Equivalent.matches c.args.key in
-    let more = others-more test (entries_of c.args.self.now) c.from.result c.contains_key-absent.result
-    c.contains_key-absent.ensures.found c.from.ensures in
     c.first_other.ensures
-    ∙ sym (evicted-full test (entries_of c.args.self.now) c.args.self.now.capacity (omega arith))
+    ∙ sym (evicted-there_full (g.Q.Equivalent.matches c.args.key) (entries_of c.args.self.now)
+    (state_of c.args.self.now).cap (sym c.contains_key.ensures.found ∙ c.if-not-contains_key.false)
+    (omega arith))
