@@ -1,5 +1,5 @@
 //! The texts of `{:?}`, and of errors.
-use crate::few::{Map, cache_of, map_of, passes, says, set_of, shows};
+use crate::few::{Map, cache_of, is_cloned, map_of, passes, says, set_of, shows};
 use hashlink::linked_hash_map::ExtendError;
 use hashlink::lru_cache::TryInsertError;
 use hashlink::weighted::{WeightError, WeightedCache};
@@ -135,6 +135,7 @@ fn an_entry_shows_the_stored_key_and_a_builder_its_name(rt: HostRuntime) -> Exit
 /// Whether an extend that ran out of memory says after how many.
 fn extend_says_why(alloc: Global, error: ExtendError<u64, u64>) -> bool {
     says(alloc, &error, "no memory for an item, after 2 items")
+        & is_cloned(&error)
         & shows(alloc, error, "ExtendError { taken: 2, pair: (3, 30) }")
 }
 
@@ -144,6 +145,7 @@ type Refused = WeightError<u64, u64>;
 fn weight_says_why(alloc: Global, heavy: Refused, refused: Refused) -> bool {
     says(alloc, &heavy, "the weight is above the budget")
         & says(alloc, &refused, "memory allocation failed")
+        & is_cloned(&heavy)
         & shows(alloc, refused, "Memory((2, 20))")
         & (heavy.into_pair() == (1, 10))
 }
@@ -152,7 +154,9 @@ type NotMade = TryInsertError<u64, u64, u8>;
 
 /// Whether a value that was not made or not kept says why.
 fn value_says_why(alloc: Global, failed: NotMade, refused: NotMade) -> bool {
-    says(alloc, &failed, "no value was made: 7") & says(alloc, &refused, "memory allocation failed")
+    says(alloc, &failed, "no value was made: 7")
+        & says(alloc, &refused, "memory allocation failed")
+        & is_cloned(&failed)
 }
 
 #[test]

@@ -1,6 +1,6 @@
 //! The default hasher hashes as std's does, and what containers feed a hasher.
 use crate::few::{map_of, passes, set_of};
-use hashlink::DefaultHashBuilder;
+use hashlink::{DefaultHashBuilder, DefaultHasher};
 use std::hash::{BuildHasher, FoldHasher, Hash, Hasher};
 use std::process::ExitCode;
 
@@ -27,6 +27,23 @@ fn hash_of_each<H: Hasher>(state: &mut H) -> u64 {
 fn the_default_hasher_hashes_as_that_of_std(rt: HostRuntime) -> ExitCode {
     let own = hash_of_each(&mut DefaultHashBuilder::default().build_hasher());
     passes(own == hash_of_each(&mut FoldHasher::default()))
+}
+
+/// Whether a clone of a hasher that was fed is the same.
+fn is_cloned(hasher: &mut DefaultHasher) -> bool {
+    let hash = hash_of_each(hasher);
+    match hasher.clone() {
+        Ok(clone) => clone.finish() == hash,
+        Err(_) => false,
+    }
+}
+
+#[test]
+fn hashers_and_their_builders_are_cloned(rt: HostRuntime) -> ExitCode {
+    passes(match DefaultHashBuilder::default().clone() {
+        Ok(builder) => is_cloned(&mut builder.build_hasher()),
+        Err(_) => false,
+    })
 }
 
 /// The hash of what a hasher is fed. It takes the value, so that a test has none to drop.
