@@ -27,6 +27,10 @@ use Rattle.hashlink_core.proofs.Stepping.{pair-at, length-pairs, step-in, step-o
 use Rattle.hashlink_core.proofs.Steps.{none_passes_from_place}
 use Rattle.hashlink_nodes.specs.NodesLends.{with_value_at as ring_with_value_at}
 
+pub on_err : {A E : Type 0} (r : Result A E) (P : Type 0) → P → OnErr r P
+on_err (Ok x) P p = tt
+on_err (Err e) P p = p
+
 -- a step that stored n links stored n at most
 stores-exactly : (n old new : ℕ) → new ≡ old + n → StoresAtMost n old new
 stores-exactly n old new is = record { grows = omega (arith, is); bound = omega (arith, is) }

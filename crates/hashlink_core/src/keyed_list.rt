@@ -33,7 +33,6 @@ fn short_hash(hash: u64) -> u32
 const MARKED: usize = 1 << 32;
 
 /// A list of pairs in a ring of nodes, found by a hash table of the nodes. No two keys are equal.
-#[derive(Drop)]
 pub struct KeyedList<K: Eq + Hash, V, S: BuildHasher> {
     nodes: Nodes<K, V>,
     table: Table<Node>,
@@ -51,6 +50,17 @@ impl<K: Eq + Hash, V, S: BuildHasher> Model for KeyedList<K, V, S> {
     ghost invariant = { λ m. IsInStep K.eq
         (hash_with S.build_hasher S.Hasher.write S.Hasher.finish K.hash_input m.hash_builder)
         m.nodes m.table };
+}
+
+// By hand, so that a drop is one call. What is derived is written out wherever a value ends.
+impl<K: Eq + Hash + Drop, V: Drop, S: BuildHasher + Drop> Drop for KeyedList<K, V, S> {
+    fn drop(self) {
+        let KeyedList {
+            nodes: _,
+            table: _,
+            hash_builder: _,
+        } = self;
+    }
 }
 
 impl<K: Eq + Hash, V, S: BuildHasher> KeyedList<K, V, S> {

@@ -2,12 +2,8 @@
 use Rattle.hashlink_map.proofs.Names.{◌≡◌, ℕ, List, [], ◌∷◌, ◌++◌, map, length, get_or, Option, refl, ap, ap₂}
 use Rattle.hashlink_map.proofs.Names.{sym, subst, arith, true≢false, Yields, Drains, DrainsIf, IsErr, IfOk}
 use Rattle.hashlink_map.proofs.Names.{OnErr, MatchResult, ⊤, AcceptsAll, StopsAt, StopsAtLast, MapState}
-use Rattle.hashlink_map.proofs.Names.{Grows, TakesItems, ReadsAll, ReadsSome}
+use Rattle.hashlink_map.proofs.Names.{Grows, TakesItems, ReadsAll, ReadsSome, on_err}
 use Rattle.std.proofs.Common.{drop, Result, Ok, Err}
-
-pub on_err : {A E : Type 0} (r : Result A E) (P : Type 0) → P → OnErr r P
-on_err (Ok x) P p = tt
-on_err (Err e) P p = p
 
 module _ {It Raw : Type 0} (nexts : It → Option Raw → It → Type 0) where
   module _ {Item : Type 0} (fs : List Raw → List Item) where

@@ -1,6 +1,7 @@
 -- What the proofs of this crate import again and again.
 pub use Rattle.hashlink_core.proofs.AtKeyNode.{added, guard-number, is_some-map, lent, lent-moved}
 pub use Rattle.hashlink_core.proofs.AtKeyNode.{moved-found, moved-value, refused, stored, stored-value}
+pub use Rattle.hashlink_core.proofs.Calls.{on_err}
 pub use Rattle.hashlink_core.proofs.Holding.{at-node, equals-stored, holds-at, holds_key-at, number-at}
 pub use Rattle.hashlink_core.proofs.InTurn.{accepts_another}
 pub use Rattle.hashlink_core.proofs.Keeping.{at-guard}

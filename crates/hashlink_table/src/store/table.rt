@@ -35,7 +35,6 @@ const MIN_ROOM: usize = 4;
 /// as many as it has room for nodes, or twice as many in a small table, and at least 16; a shrink may leave
 /// up to twice these. It takes 8 bytes and a node more for each node of its room, for the overflow cells;
 /// after a growth that was refused up to eight times these.
-#[derive(Drop)]
 pub struct Table<N> {
     // The slots. There are none or a power of two, and whole groups.
     slots: Slots<N>,
@@ -63,6 +62,20 @@ impl<N> Model for Table<N> {
 
     ghost invariant = { λ t. IsSound t.slots t.overflow.items (vec_capacity t.overflow) t.free t.len
         t.room };
+}
+
+// By hand, so that a drop is one call. What is derived is written out wherever a value ends.
+impl<N: Drop> Drop for Table<N> {
+    fn drop(self) {
+        let Table {
+            slots: _,
+            overflow: _,
+            free: _,
+            len: _,
+            room: _,
+            filler: _,
+        } = self;
+    }
 }
 
 impl<N: Copy> Table<N> {

@@ -1,6 +1,6 @@
 use Rattle.hashlink_core.proofs.Names.{◌≡◌, ℕ, ◌+◌, ◌≤◌, length, true≢false, refl, ap, sym, ◌∙◌, arith}
 use Rattle.hashlink_core.proofs.Names.{length-values_of, Keyed, short}
-use Rattle.hashlink_core.proofs.Calls.{sound, place-inside, added-step, added-node}
+use Rattle.hashlink_core.proofs.Calls.{on_err, sound, place-inside, added-step, added-node}
 use Rattle.hashlink_core.proofs.keyed_list.KeyedList.insert_before.Goals as goal
 
 -- where there is no room for one more, none is spare
@@ -43,3 +43,8 @@ returns-in_default-clause-no_spare g c =
     full (length old.nodes) old.spare old.room
     (omega (arith, c.reserve.ensures.sound.fits, length-values_of old.nodes))
     (λ more. true≢false (sym (c.in_default.ensures.enough more).0))
+
+pub returns-in_err-node-clause-refused : goal.returns-in_err-node-clause-refused
+returns-in_err-node-clause-refused g c =
+    let grown = rw (sym c.self.view_is) at c.reserve.ensures.grown in
+    on_err _ _ (rw (sym c.in_err-node.ensures.refused) at grown)

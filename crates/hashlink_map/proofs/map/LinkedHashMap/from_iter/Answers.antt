@@ -1,5 +1,4 @@
-use Rattle.hashlink_map.proofs.Names.{state_of}
-use Rattle.hashlink_map.proofs.Extending.{on_err}
+use Rattle.hashlink_map.proofs.Names.{state_of, on_err}
 use Rattle.hashlink_map.proofs.map.LinkedHashMap.from_iter.Goals as goal
 
 pub returns-clause-made : goal.returns-clause-made

@@ -1,5 +1,6 @@
 use Rattle.hashlink_table.proofs.Names.{◌≡◌, ℕ, ◌+◌, ◌<◌, List, [], ◌++◌, length, take, Option, None, Some}
 use Rattle.hashlink_table.proofs.Names.{Global, Vec, vec_capacity, vec_len, ap, ◌∙◌, sym, arith, append-nil}
+use Rattle.std.proofs.Common.{take_all}
 use Rattle.hashlink_table.proofs.Names.{Hashed, Cell, kept_at, nodes_in, with_node}
 use Rattle.hashlink_table.proofs.Linking.{kept_at_read}
 use Rattle.hashlink_table.proofs.Nodes.{next_in}
@@ -38,3 +39,8 @@ loop-cell-preserved g c =
             omega (arith, ap (λ (l : V). vec_capacity l) same, v.2),
           )
     ]
+
+pub returns : goal.returns
+returns g c =
+    c.loop-cell.invariant.0
+    ∙ ap nodes_in (take_all c.loop-cell.cell-index c.args.cells.now (omega (arith, c.loop-cell-test.false)))

@@ -29,7 +29,7 @@ insert_all-requires g c =
 
 pub returns-clause-nodes : goal.returns-clause-nodes
 returns-clause-nodes g c =
-    let t = c.self.inside in let new = c.table-2.inside in
+    let t = c.self.inside in let new = c.drop.inside in
     let own = into_empty c.in_ok-table.table c.args.room _ _ c.in_ok-table.ensures
     c.insert_slots.ensures.inserted in
     let over = c.deref-2.ensures.value ∙ c.in_ok-chained.ensures ∙ ap nodes_in c.deref.ensures.value in
@@ -40,4 +40,4 @@ returns-clause-nodes g c =
     c.self.view_is
     (subst (λ (u : Contents g.row.N.Denot). IsPermutation (nodes_in t.slots ++ nodes_in t.overflow.items)
     u.nodes)
-    (sym c.table-2.view_is) both)
+    (sym c.drop.view_is) both)
