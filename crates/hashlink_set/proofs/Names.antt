@@ -1,5 +1,6 @@
 -- What the proofs of this crate import again and again.
-pub use Rattle.hashlink_map.proofs.Extending.{grows-none, on_err, stopped_at_last, took_all, took_some}
+pub use Rattle.hashlink_core.proofs.Calls.{on_err}
+pub use Rattle.hashlink_map.proofs.Extending.{grows-none, stopped_at_last, took_all, took_some}
 pub use Rattle.hashlink_map.proofs.InTurn.{accepts_another}
 pub use Rattle.hashlink_map.proofs.PairValues.{value_of, valued}
 pub use Rattle.hashlink_map.proofs.Names.{AcceptsAll, Bor, Goes-dropped, Goes-spent_ref, Grows, Is}

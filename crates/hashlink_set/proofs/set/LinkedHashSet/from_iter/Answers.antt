@@ -1,4 +1,4 @@
-use Rattle.hashlink_map.proofs.Extending.{on_err}
+use Rattle.hashlink_set.proofs.Names.{on_err}
 use Rattle.hashlink_set.proofs.set.LinkedHashSet.from_iter.Goals as goal
 
 pub returns-clause-made : goal.returns-clause-made
