@@ -5,6 +5,18 @@ lines of SYMBOLS. With `?` it may be left out, and with `*` any number of it com
 is how often it is drawn beside the others.
 """
 
+from plain_list.commands import ENTRY_NUMBERS, NUMBERS, STEP_NUMBERS
+from plain_list.texts import PAIR_WORDS
+
+from .texts import OFTEN, SELDOM
+
+
+def spelled(numbers):
+    """Each word with as many numbers as it takes."""
+    often = {**dict.fromkeys(OFTEN, 30), **dict.fromkeys(SELDOM, 1)}
+    return tuple(f"{often.get(word, 10)} {word}{' NUMBER' * count}" for word, count in numbers.items())
+
+
 SYMBOLS = {
     "END": ("front", "back"),
     "WAY": ("key", "hash", "test", "of_key", "of_hash", "of_test"),
@@ -12,6 +24,7 @@ SYMBOLS = {
     "SET_KEEP": ("odd", "others"),
     "CACHE_KEEP": ("even", "odd"),
     "PAIR": ("KEY VALUE",),
+    "WHOLE": ("whole",),
     # steps of iterators
     "STEP": ("4 next", "4 back", "left", "2 times COUNT GOES"),
     "GOES": ("next", "back"),
@@ -51,6 +64,10 @@ SYMBOLS = {
     ),
 }
 
+# those of commands
+SYMBOLS["COMMAND_MOVE"] = spelled(STEP_NUMBERS)
+SYMBOLS["COMMAND_ENTRY"] = (*spelled(ENTRY_NUMBERS), "5 replace_key", "5 remove_entry")
+
 #: calls of many pairs, of a map and of a cache
 MANY = ("extend PAIR*", "extend_from PAIR*", "extend_kept PAIR*", "extend_by_trait PAIR*")
 WALKS = (
@@ -66,7 +83,7 @@ MAP = {
     ),
     "put": (
         *("6 insert KEY VALUE", "3 insert_front KEY VALUE", "3 replace KEY VALUE"),
-        *("3 get_or_insert_with KEY VALUE NEW?", "each RANGE insert n n", "each RANGE insert_front n VALUE"),
+        *("3 get_or_insert_with KEY VALUE NEW?", "2 each RANGE insert n n", "each RANGE insert_front n VALUE"),
         "each RANGE entry n or_insert VALUE",
     ),
     "take": (
@@ -83,9 +100,9 @@ MAP = {
     "walk": (*WALKS, "values_mut VALUE_STEP*", "iter_from KEY"),
     "drain": ("2 drain STEP*", "3 forgotten_drain STEP*", "into_iter STEP*"),
     "retain": ("retain KEEP", "retain_with_order KEEP", "retain_from KEEP"),
-    "room": ("reserve SIZE", "try_reserve SIZE", "3 shrink"),
+    "room": ("reserve SIZE", "try_reserve SIZE", "3 shrink", "4 clone", "collect"),
     "many": MANY,
-    "make": ("6 clone", "2 collect", "3 from_iter PAIR*", "clear", "with_capacity SIZE"),
+    "make": ("2 from_iter PAIR*", "clear", "with_capacity SIZE"),
     "both": ("eq", "less", "cmp", "hash"),
 }
 
@@ -96,16 +113,16 @@ SET = {
     ),
     "put": (
         *("6 insert KEY", "3 replace KEY", "3 get_or_insert KEY", "3 get_or_insert_with KEY"),
-        "each RANGE insert n",
+        "2 each RANGE insert n",
     ),
     "take": ("4 remove KEY", "4 take KEY", "3 pop_front", "3 pop_back", "each RANGE remove n"),
     "lend": ("to_front KEY", "to_back KEY"),
     "walk": ("iter STEP* CLONED?",),
     "drain": MAP["drain"],
     "retain": ("retain SET_KEEP", "retain_with_order SET_KEEP"),
-    "room": MAP["room"],
+    "room": ("reserve SIZE", "try_reserve SIZE", "3 shrink", "4 clone"),
     "many": ("extend KEY*", "extend_from KEY*", "extend_kept KEY*", "extend_by_trait KEY*"),
-    "make": ("6 clone", "3 from_iter KEY*", "clear", "with_capacity SIZE"),
+    "make": ("2 from_iter KEY*", "clear", "with_capacity SIZE"),
     "both": (
         *("eq", "hash", "is_disjoint", "is_subset", "is_superset", "|", "&", "^", "-"),
         *("2 union COUNT?", "2 intersection COUNT?", "2 difference COUNT?"),
@@ -126,11 +143,11 @@ CACHE = {
     "walk": WALKS,
     "drain": ("drain STEP*", "into_iter STEP*"),
     "retain": ("retain CACHE_KEEP", "retain_from CACHE_KEEP"),
-    "room": ("set_capacity CAPACITY",),
+    "room": ("set_capacity CAPACITY", "clone"),
     "many": MANY,
-    "make": ("6 clone", "clear"),
-    # what the map of the cache is called by
-    "inside": MAP,
+    "make": ("clear",),
+    # calls of the cache's map
+    "inside": {name: lines for name, lines in MAP.items() if name != "both"},
 }
 
 WEIGHTED = {
@@ -139,6 +156,19 @@ WEIGHTED = {
     "take": ("6 remove KEY", "each RANGE remove n"),
     "walk": ("iter STEP* CLONED?",),
 }
+
+ENTRY_COMMAND = "60 entry NUMBER COMMAND_ENTRY"
+COMMANDS = {
+    "command": (
+        *(*spelled(NUMBERS["map"]), ENTRY_COMMAND, "60 cursor COMMAND_MOVE COMMAND_MOVE*"),
+        "5 remove_entry NUMBER",
+    )
+}
+# A cache's length is asked for by texts alone.
+CACHE_WORDS = {word: count for word, count in NUMBERS["cache"].items() if word != "len"}
+CACHE_COMMANDS = {"command": (*spelled(CACHE_WORDS), ENTRY_COMMAND)}
+PAIR_COMMANDS = {"command": spelled({word: NUMBERS["cache"][word] for word in PAIR_WORDS})}
+USES = {"command": ("use NUMBER NUMBER",)}
 
 COPIED_MAP = {"many": ("extend_ref PAIR*", "extend_by_trait PAIR*")}
 COPIED_SET = {"many": ("extend_ref KEY*", "extend_by_trait KEY*")}
@@ -149,22 +179,26 @@ KINDS = {
     "set": (6, SET),
     "cache CAPACITY": (6, CACHE),
     "weighted CAPACITY": (2, WEIGHTED),
+    "commands WHOLE?": (1, COMMANDS),
+    "cache_commands CAPACITY WHOLE?": (1, CACHE_COMMANDS),
+    "pair_commands CAPACITY CAPACITY": (0.4, PAIR_COMMANDS),
+    "uses CAPACITY": (0.3, USES),
     "copied_map": (0.2, COPIED_MAP),
     "copied_set": (0.2, COPIED_SET),
 }
 
 #: how often each group of calls is drawn
 GROUPS = {
-    **dict(read=5, put=10, take=6, lend=5, entry=8, raw=8, cursor=9, walk=6, drain=1.2, retain=1.5),
-    **dict(room=3, many=2, make=1.2, both=8, inside=12),
+    **dict(read=4, put=9, take=4, lend=4, entry=8, raw=8, cursor=9, walk=6, drain=1.5, retain=1.5),
+    **dict(room=4, many=2, make=0.6, both=10, inside=12, command=1),
 }
 #: how much more or less often a group is drawn while a container is to grow, or to shrink
 MOODS = {
     "as it comes": {},
-    "grow": dict(put=3, many=3, take=0.3, drain=0.2, retain=0.2, make=0.5),
-    "shrink": dict(put=0.3, many=0.2, take=4, retain=2),
+    "grow": dict(put=3, many=3, take=0.3, drain=0.2, retain=0.2, make=0.3),
+    "shrink": dict(put=0.4, many=0.3, take=3, retain=2),
 }
 #: after a call of these groups a container may be empty
 EMPTYING = ("drain", "make")
 #: the groups of the calls that change a container most simply
-SIMPLE = ("put", "take", "lend")
+SIMPLE = ("put", "take", "lend", "command")

@@ -2,12 +2,13 @@
 
 import re
 
-from plain_list.judge import Judge, WrongRow
+from plain_list.judge import KINDS, Judge, WrongRow
 from plain_list.rows import Row
 
 OTHER_WORDS = {"yes": "no", "no": "yes", "ok": "no", "-": "0", "overflow": "no", "heavy": "memory"}
-#: what a list does not know of maps and sets
+#: what a list does not know of maps and sets, and the rows where they stand
 ASKED = ("room", "capacity", "under")
+SHOW_ROOM = ("map", "set", "copied_map", "copied_set", "commands")
 
 
 def judged(row: Row, said):
@@ -35,15 +36,17 @@ def damaged(row, said, random):
 def known_lines(row, lines):
     """The numbers of the lines that a list knows, and whether it knows the second word of each."""
     calls = [words.words for _, _, words in row.calls()]
-    has_capacity = row.mode.startswith(("cache", "weighted"))
+    kind = row.mode.split(" ")[0]
     known, count = [], 0
     for at, line in enumerate(lines):
         if line.startswith("row "):
             count = 0
         elif line.startswith(("=", "+")):
-            call, is_answer = calls[count // 3], count % 3 == 0
-            if not (is_answer and set(ASKED) & set(call)):
-                known.append((at, is_answer or has_capacity))
+            is_answer = line.startswith("=")
+            # Of each call there are three lines, if the row is no list of commands.
+            is_asked = is_answer and kind in KINDS and set(ASKED) & set(calls[count // 3])
+            if not is_asked:
+                known.append((at, is_answer or kind not in SHOW_ROOM))
             count += 1
     return known
 
