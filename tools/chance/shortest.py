@@ -5,6 +5,8 @@ import time
 
 #: for so many seconds shorter texts are tried
 PATIENCE = 120
+#: so many pieces in a row, or fewer, are left out wherever they stand
+FEW = 3
 
 
 def shortest(text, short_lines, is_kept):
@@ -28,17 +30,24 @@ def shortest(text, short_lines, is_kept):
 
 def less(pieces, is_kept):
     """Leaves out many of the pieces at a time first, and one at a time last."""
-    size = len(pieces) // 2 or 1
-    while size:
+    for size in sizes(len(pieces)):
         at = 0
         while at < len(pieces):
             rest = pieces[:at] + pieces[at + size :]
             if is_kept("".join(rest)):
                 pieces = rest
             else:
-                at += size
-        size //= 2
+                at += 1 if size <= FEW else size
     return pieces
+
+
+def sizes(count):
+    """How many are left out at a time."""
+    size = count // 2
+    while size > FEW:
+        yield size
+        size //= 2
+    yield from range(FEW, 0, -1)
 
 
 def with_short_lines(lines, short_lines, is_kept):
