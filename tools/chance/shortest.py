@@ -11,8 +11,8 @@ FEW = 3
 
 def shortest(text, short_lines, is_kept):
     """The text without the lines, words and bytes that can be left out while the rest is kept, and with the
-    shortest lines, and the least, that can stand in place of the others, and the least numbers. `short_lines`
-    has those that may stand in place of one of the lines, in the order in which they are tried."""
+    shortest lines, and the least, that can stand in place of the others, and less numbers. `short_lines` has
+    those that may stand in place of one of the lines, in the order in which they are tried."""
     end = time.monotonic() + PATIENCE
 
     def is_kept_in_time(text):
@@ -23,6 +23,7 @@ def shortest(text, short_lines, is_kept):
         before = text
         for piece in (r"[^\n]*\n|[^\n]+", r"[^ \n]*[ \n]|[^ \n]+", r"(?s)."):
             text = "".join(less(re.findall(piece, text), is_kept_in_time))
+        text = without_words(text, is_kept_in_time)
         text = with_short_lines(text.split("\n"), short_lines, is_kept_in_time)
         text = with_less_numbers(text, is_kept_in_time)
     return text
@@ -62,10 +63,19 @@ def with_short_lines(lines, short_lines, is_kept):
     return "\n".join(lines)
 
 
+def without_words(text, is_kept):
+    """Leaves out words, each wherever it stands."""
+    for word in sorted(set(text.split())):
+        shorter = re.sub(rf"(?<!\S){re.escape(word)} ", "", text)
+        if is_kept(shorter):
+            text = shorter
+    return text
+
+
 def with_less_numbers(text, is_kept):
     """Puts a less number in place of each, wherever it stands."""
     for number in sorted(set(re.findall(r"\b\d+\b", text)), key=int):
-        for other in range(min(int(number), 10)):
+        for other in range(min(int(number), 64)):
             shorter = re.sub(rf"\b{number}\b", str(other), text)
             if is_kept(shorter):
                 text = shorter
