@@ -1,0 +1,115 @@
+"""Rows of random calls (docs/dev/rows.md)."""
+
+import random
+
+from plain_list.words import GREATEST
+
+from .calls import EMPTYING, GROUPS, KINDS, MOODS, SYMBOLS
+from .grammar import NAME, WRITTEN, are_two, weights_of, with_words
+
+#: how many there are at most of what may come any number of times
+MANY = (0, 1, 2, 3, 5, 12)
+
+
+class RandomRow:
+    """Random lines out of a number of keys that is random as well."""
+
+    def __init__(self, seed):
+        self.random = random.Random(seed)
+        self.keys = self.random.choice((3, 8, 20, 40, 60))
+        self.mood = "grow"
+        #: how often a call is one of the second container, and how often one of each
+        self.other, self.alike = self.random.choice(((0, 0), (0.3, 0), (0.1, 0.7)))
+
+    def chosen(self, weights):
+        """One of the keys of a dictionary, as often as it says."""
+        return self.random.choices(list(weights), weights.values())[0]
+
+    def below(self, number):
+        return self.random.randrange(number)
+
+    def text(self):
+        kind = self.chosen({kind: often for kind, (often, _) in KINDS.items()})
+        calls = KINDS[kind][1]
+        if not are_two(calls):
+            self.other, self.alike = 0, 0
+        lines = [NAME, self.words(kind)]
+        for _ in range(self.random.choice((5, 20, 60, 120))):
+            lines += self.lines(calls)
+        return "\n".join(lines) + "\n"
+
+    def lines(self, calls):
+        """A call of one of two containers, of the two, or of each."""
+        call = self.call(calls)
+        draw = self.random.random()
+        if call.startswith("both ") or draw >= self.other + self.alike:
+            return [call]
+        other = with_words("other", call)
+        return [call, other] if draw < self.alike else [other]
+
+    def call(self, calls):
+        """A call of one container, or of the two."""
+        if self.below(8) == 0:
+            self.mood = self.random.choice(list(MOODS))
+        left_out = () if self.other else ("both",)
+        moods = MOODS[self.mood]
+        group = self.chosen({it: GROUPS[it] * moods.get(it, 1) for it in calls if it not in left_out})
+        if group in EMPTYING:
+            self.mood = "grow"
+        if group == "inside":
+            return with_words("inside", self.call(calls["inside"]))
+        return f"both {self.line_of(calls[group])}" if group == "both" else self.line_of(calls[group])
+
+    def line_of(self, lines):
+        return self.words(self.chosen(weights_of(lines)))
+
+    def words(self, line):
+        """The line with something in place of each symbol."""
+        return " ".join(words for symbol in line.split(" ") if (words := self.symbol(symbol)))
+
+    def symbol(self, symbol):
+        if symbol.endswith("?"):
+            return self.symbol(symbol[:-1]) if self.below(2) else ""
+        if symbol.endswith("*"):
+            count = self.below(self.random.choice(MANY) + 1)
+            return " ".join(self.symbol(symbol[:-1]) for _ in range(count))
+        if symbol in SYMBOLS:
+            return self.line_of(SYMBOLS[symbol])
+        return getattr(self, symbol.lower())() if symbol in WRITTEN else symbol
+
+    def group(self):
+        return self.below(self.keys) if self.below(50) else GREATEST - 1
+
+    def item(self, group):
+        """An item of the group, whose number tells which of equal ones it is."""
+        return f"{group}.{1 + self.below(9)}" if self.below(3) == 0 else str(group)
+
+    def key(self):
+        return self.item(self.group())
+
+    def value(self):
+        return self.item(self.below(10))
+
+    def new(self):
+        return self.value()
+
+    def number(self):
+        return str(self.group())
+
+    def weighed(self):
+        """A value whose number is its weight, which at times is more than any budget but the greatest."""
+        return f"{self.below(10)}.{self.random.choice((0, 1, 1, 2, 3, self.below(10), self.below(200)))}"
+
+    def size(self):
+        return str(self.below(2 * self.keys)) if self.below(12) else "max"
+
+    def capacity(self):
+        return str(self.random.choice((0, 1, 2, 3, 5, 12, 40, "max")))
+
+    def count(self):
+        return str(self.below(self.keys + 2))
+
+    def range(self):
+        """The first and the last of some numbers."""
+        first = self.below(self.keys)
+        return f"{first} {first + self.below(min(self.keys, 30))}"
