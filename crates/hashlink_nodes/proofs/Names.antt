@@ -54,7 +54,7 @@ pub use types.Kit.{use2, ‵, ◌$◌, ◌∵◌, ◌⊛◌}
 pub use types.Run.{Opd, addr, and_then, assigns, assigns_last, blocks, enter, exec, first, fld, init, load}
 pub use types.Run.{look, no_more, of_opd, returns, stop, store, unit_lit, well_typed}
 pub use specs.{ArenaLends.altered, Pool.state_of, PoolLends.pool_with, declared.arena.Arena.Arena}
-pub use specs.{declared.node.Node.Node, declared.nodes.Nodes.TheInside.Inside, declared.pool.links.Link.Link}
+pub use specs.{declared.node.Node.Node, declared.nodes.Nodes.TheInside.Inside, declared.pool.link.Link.Link}
 pub use Rattle.std.{proofs.ResultValues.and_tt, proofs.alloc.Shapes.after, proofs.lemmas.List.map-append}
 pub use Rattle.std.{proofs.lemmas.List.nil_from_length, proofs.lemmas.Map.Entries.length-keys_of}
 pub use Rattle.std.{specs.Bool.then_some, specs.List.AllByRecursion, specs.Option.option_map}

@@ -7,6 +7,7 @@ ghost use Rattle.std.specs.Borrow.{sem};
 ghost use Rattle.hashlink_nodes.specs.Ring.{held, pair_of, with_key};
 ghost use Rattle.hashlink_nodes.specs.Pool.{state_of};
 
+mod link;
 mod links;
 
 pub(crate) use self::links::Links;

@@ -1,9 +1,10 @@
-//! The links of the blocks. All code that makes a link or stores one is in this file.
+//! The links of the blocks.
 ghost use Rattle.std.specs.Prelude.{◌≡◌, ◌+◌, false, true, IfOk, OnErr};
 ghost use Rattle.hashlink_nodes.specs.Pool.{state_of};
 ghost use Rattle.hashlink_nodes.specs.State.{store_next, store_prev, Adds, MakesGuard};
 
 use super::Pool;
+use super::link::Link;
 use crate::link_writes::LinkWrites;
 use crate::node::Node;
 use std::alloc::{AllocError, Global};
@@ -15,43 +16,12 @@ pub(crate) struct Links {
     prev: Link,
 }
 
-/// A link of a node, to the one after it or to the one before it. It is made leading nowhere, and only
-/// `store` changes it.
-struct Link {
-    to: Node,
-}
-
 impl Links {
     fn nowhere() -> Links {
         Links {
             next: Link::nowhere(),
             prev: Link::nowhere(),
         }
-    }
-}
-
-impl Link {
-    fn nowhere() -> Link {
-        Link {
-            to: Node::nowhere(),
-        }
-    }
-
-    #[inline]
-    fn to(&self) -> Node
-        ensures { result ≡ self.now.to }
-    {
-        self.to
-    }
-
-    /// Stores the link, and counts it.
-    #[inline]
-    fn store(&mut self, to: Node, writes: &mut LinkWrites)
-        ensures stored { self.new ≡ record { to = to } }
-        ensures counted { writes.new.count ≡ writes.old.count + 1 }
-    {
-        self.to = to;
-        writes.raise();
     }
 }
 
