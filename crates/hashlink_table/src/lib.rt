@@ -10,11 +10,12 @@ mod hashed;
 mod search;
 mod steps;
 mod store;
+mod table;
 
 pub use error::TryReserveError;
 pub use hashed::Hashed;
 pub use steps::Steps;
-pub use store::table::{MAX_ROOM, Table};
+pub use table::{MAX_ROOM, Table};
 
 // An overflow cell takes 8 bytes beside its node, and a slot 9.
 const _: () = prove!(std::mem::size_of::<store::cell::Stored<u64>>() == 16);

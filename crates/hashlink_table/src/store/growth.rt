@@ -4,16 +4,32 @@ ghost use Rattle.std.specs.Prelude.{IfOk, IsPermutation, OnErr, OnOk, Some};
 ghost use Rattle.std.specs.Prelude.{length, max, min, vec_capacity, vec_len};
 ghost use Rattle.std.specs.Int.{IsPowerOfTwo};
 ghost use Rattle.hashlink_table.specs.Chains.{nodes_in, IsArranged, IsInPlace};
+ghost use Rattle.hashlink_table.specs.Contents.{len_of};
 
 use super::cell::{END, Stored};
 use super::lanes::LANES;
 use super::slots::Slots;
 use crate::hashed::Hashed;
+use crate::table::Table;
 use std::alloc::{AllocError, Global};
 
+/// The nodes of overflow cells, on their way into others. Only this file reads their hashes.
+#[derive(Drop)]
+pub struct OverflowNodes<N> {
+    nodes: Vec<Hashed<N>>,
+}
+
+impl<N> OverflowNodes<N> {
+    pub fn len(&self) -> usize
+        ensures { result ≡ vec_len self.now.nodes }
+    {
+        self.nodes.len()
+    }
+}
+
 /// Returns the nodes of the overflow cells.
-pub fn chained<N: Copy>(alloc: Global, cells: &[Stored<N>]) -> Result<Vec<Hashed<N>>, AllocError>
-    ensures { IfOk result (λ list. list.items ≡ nodes_in cells.now) }
+pub fn chained<N: Copy>(alloc: Global, cells: &[Stored<N>]) -> Result<OverflowNodes<N>, AllocError>
+    ensures { IfOk result (λ chained. chained.nodes.items ≡ nodes_in cells.now) }
 {
     let mut nodes = Vec::with_capacity(alloc, cells.len())?;
     for cell in cells {
@@ -21,7 +37,7 @@ pub fn chained<N: Copy>(alloc: Global, cells: &[Stored<N>]) -> Result<Vec<Hashed
             nodes.push_reserved(kept);
         }
     }
-    Ok(nodes)
+    Ok(OverflowNodes { nodes })
 }
 
 /// Moves the overflow cells to this block.
@@ -48,7 +64,7 @@ pub fn double<N: Copy>(
     cells: &mut Vec<Stored<N>>,
     block: Vec<Stored<N>>,
     filler: N,
-) -> Result<Vec<Hashed<N>>, AllocError>
+) -> Result<OverflowNodes<N>, AllocError>
     requires power { IsPowerOfTwo (length slots.old) }
     requires whole { length slots.old % LANES ≡ 0 }
     requires small { length slots.old ≤ 2 ^ 30 }
@@ -58,8 +74,8 @@ pub fn double<N: Copy>(
     ensures arranged { OnOk result (IsArranged slots.new cells.new.items END) }
     ensures no_overflow { OnOk result (cells.new.items ≡ []) }
     ensures len { OnOk result (length slots.new ≡ 2 * length slots.old) }
-    ensures nodes { IfOk result (λ list. IsPermutation (nodes_in slots.old ++ nodes_in cells.old.items)
-        (nodes_in slots.new ++ list.items)) }
+    ensures nodes { IfOk result (λ chained. IsPermutation (nodes_in slots.old ++ nodes_in cells.old.items)
+        (nodes_in slots.new ++ chained.nodes.items)) }
     ensures moved { OnOk result (vec_capacity cells.new ≡ vec_capacity block) }
     ensures slots_same { OnErr result (slots.new ≡ slots.old) }
     ensures cells_same { OnErr result (cells.new.items ≡ cells.old.items) }
@@ -71,4 +87,30 @@ pub fn double<N: Copy>(
     slots.double(filler)?;
     cells.clear();
     Ok(nodes)
+}
+
+impl<N: Copy> Table<N> {
+    /// Puts the nodes in that another table has in its slots.
+    pub(crate) fn insert_slots(&mut self, slots: &Slots<N>)
+        requires { len_of self.old + length (nodes_in slots.now) ≤ self.old.room }
+        ensures inserted { IsPermutation (self.old.nodes ++ nodes_in slots.now) self.new.nodes }
+        ensures room { self.new.room ≡ self.old.room }
+    {
+        for at in 0..slots.len() {
+            if let Some(kept) = slots.kept(at) {
+                self.insert_reserved(kept.hash, kept.node);
+            }
+        }
+    }
+
+    /// Puts these nodes in.
+    pub(crate) fn insert_chained(&mut self, chained: &OverflowNodes<N>)
+        requires { len_of self.old + vec_len chained.now.nodes ≤ self.old.room }
+        ensures inserted { IsPermutation (self.old.nodes ++ chained.now.nodes.items) self.new.nodes }
+        ensures room { self.new.room ≡ self.old.room }
+    {
+        for kept in &chained.nodes {
+            self.insert_reserved(kept.hash, kept.node);
+        }
+    }
 }

@@ -40,7 +40,7 @@ fn unlink<N: Copy>(slots: &mut Slots<N>, cells: &mut [Stored<N>], bucket: usize,
 }
 
 // Removes a node from its overflow cell, which is then the first free one.
-pub fn take_out<N: Copy>(
+fn take_out<N: Copy>(
     slots: &mut Slots<N>,
     cells: &mut [Stored<N>],
     free: &mut usize,
@@ -85,14 +85,9 @@ fn first_chained<N: Copy>(slots: &Slots<N>, base: usize) -> Option<usize>
     None
 }
 
-// Removes the node that a search found. If it was in a slot and a bucket of the group has a
-// chain, the first of that chain moves there.
-pub fn take<N: Copy>(
-    slots: &mut Slots<N>,
-    cells: &mut [Stored<N>],
-    free: &mut usize,
-    spot: Spot,
-) -> Hashed<N>
+// Removes the node that a search found. If it was in a slot and a bucket of the group has a chain, the first
+// of that chain moves there. It returns nothing, so that no caller reads a hash by it.
+pub fn take<N: Copy>(slots: &mut Slots<N>, cells: &mut [Stored<N>], free: &mut usize, spot: Spot)
     requires masked { IsPowerOfTwo (length slots.old) }
     requires whole { length slots.old % LANES ≡ 0 }
     requires there { IsSome (kept_by slots.old cells.old spot) }
@@ -100,26 +95,22 @@ pub fn take<N: Copy>(
     requires small { length cells.old < END }
     ensures arranged { IsArranged slots.new cells.new free.new }
     ensures len { length slots.new ≡ length slots.old }
-    ensures kept { kept_by slots.old cells.old spot ≡ Some result }
-    ensures nodes { IsPermutation (nodes_in slots.old ++ nodes_in cells.old)
-        (result ∷ nodes_in slots.new ++ nodes_in cells.new) }
+    ensures nodes { IfSome (kept_by slots.old cells.old spot) (λ kept.
+        IsPermutation (nodes_in slots.old ++ nodes_in cells.old)
+        (kept ∷ nodes_in slots.new ++ nodes_in cells.new)) }
 {
     match spot {
-        Spot::Slot(at) => {
-            let kept = slots.known(at);
-            match first_chained(slots, group_of(at)) {
-                None => slots.set_free(at),
-                Some(chained) => {
-                    let next = slots.next(chained);
-                    let follower = take_out(slots, cells, free, chained, next);
-                    slots.put(at, follower);
-                }
+        Spot::Slot(at) => match first_chained(slots, group_of(at)) {
+            None => slots.set_free(at),
+            Some(chained) => {
+                let next = slots.next(chained);
+                let follower = take_out(slots, cells, free, chained, next);
+                slots.put(at, follower);
             }
-            kept
-        }
+        },
         Spot::Overflow(at) => {
             let bucket = bucket_of(cells[at].known().hash, slots.len());
-            take_out(slots, cells, free, bucket, at)
+            let _taken = take_out(slots, cells, free, bucket, at);
         }
     }
 }

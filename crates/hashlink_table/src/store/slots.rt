@@ -191,18 +191,6 @@ impl<N: Copy> Slots<N> {
         self.nodes[at]
     }
 
-    /// What a cell has that is known to have a node, for a move of the node.
-    #[inline]
-    pub(super) fn known(&self, at: usize) -> Hashed<N>
-        requires { IsSome (kept_at self.now at) }
-        ensures { kept_at self.now at ≡ Some result }
-    {
-        Hashed {
-            hash: self.rests[at].hash,
-            node: self.nodes[at],
-        }
-    }
-
     /// What a cell has, for a move of its node.
     #[inline]
     pub(super) fn kept(&self, at: usize) -> Option<Hashed<N>>

@@ -1,5 +1,5 @@
-use Rattle.hashlink_table.proofs.Names.{◌≡◌, ◌/◌, ◌%◌, ◌<◌, inl, inr, length, None, Some, refl, sym, ap, ◌∙◌}
-use Rattle.hashlink_table.proofs.Names.{arith, same_Some, IsPermutation-trans, common_steps, Hashed, chain_at}
+use Rattle.hashlink_table.proofs.Names.{◌≡◌, ◌/◌, ◌%◌, ◌<◌, inl, inr, length, Option, None, Some, refl, sym, ap, ◌∙◌}
+use Rattle.hashlink_table.proofs.Names.{arith, same_Some, IsPermutation-trans, common_steps, IfSome, Hashed, chain_at}
 use Rattle.hashlink_table.proofs.Names.{nodes_in}
 use Rattle.hashlink_table.proofs.Linking.{within_by_kept, kept-same, on_hash}
 use Rattle.hashlink_table.proofs.Groups.{group_within, grouped_in}
@@ -7,6 +7,11 @@ use Rattle.hashlink_table.proofs.Moving.{arranged-set, follower_on, same_length,
 use Rattle.hashlink_table.proofs.store.removal.take.Given as given
 use Rattle.hashlink_table.proofs.store.removal.take.Goals.{After-next-next, In-Slot}
 use Rattle.hashlink_table.proofs.store.removal.take.Goals as goal
+
+-- what is so of what a cell has
+if_kept : {K : Type 0} (o : Option K) (P : K → Type 0) → ((k : K) → o ≡ Some k → P k) → IfSome o P
+if_kept None P so = tt
+if_kept (Some k) P so = so k refl
 
 -- the slot is one of the slots
 low : (g : given.Over) (c : In-Slot g) → c.in-Slot.at < length c.args.slots.now
@@ -44,9 +49,9 @@ returns-in-None-clause-arranged g c =
 
 pub returns-in-None-clause-nodes : goal.returns-in-None-clause-nodes
 returns-in-None-clause-nodes g c =
-    rw c.set_free.ensures
-    (set-nodes c.args.slots.now c.in-Slot.at _ (nodes_in c.args.cells.now) None _
-    (low g (goal.at.returns-in-None-clause-nodes g c).In-Slot) refl c.known-kept.ensures)
+    rw (c.set_free.ensures, c.in-Slot.is)
+    (if_kept _ _ (λ kept is. set-nodes c.args.slots.now c.in-Slot.at _ (nodes_in c.args.cells.now) None (Some kept)
+    (low g (goal.at.returns-in-None-clause-nodes g c).In-Slot) refl is))
 
 pub returns-in-Some-clause-arranged : goal.returns-in-Some-clause-arranged
 returns-in-Some-clause-arranged g c =
@@ -69,11 +74,11 @@ pub returns-in-Some-clause-nodes : goal.returns-in-Some-clause-nodes
 returns-in-Some-clause-nodes g c =
     let t = c.take_out-follower in let at = c.in-Slot.at in let slots = c.args.slots.now in
     let here = low g (goal.at.returns-in-Some-clause-nodes g c).In-Slot in
-    rw c.put.ensures
-    (IsPermutation-trans _ _ _ t.ensures.nodes
-    (set-nodes t.new.slots at _ (nodes_in t.new.cells) (Some t.result) (Some c.known-kept.result)
+    rw (c.put.ensures, c.in-Slot.is)
+    (if_kept _ _ (λ kept is. IsPermutation-trans _ _ _ t.ensures.nodes
+    (set-nodes t.new.slots at _ (nodes_in t.new.cells) (Some t.result) (Some kept)
     (omega (arith, here, same_length slots t.new.slots t.ensures.slots)) refl
-    (kept-same slots t.new.slots t.ensures.slots at ∙ c.known-kept.ensures)))
+    (kept-same slots t.new.slots t.ensures.slots at ∙ is))))
 
 pub first_chained-requires-clause-within : goal.first_chained-requires-clause-within
 first_chained-requires-clause-within g c = grind (arith, common_steps)
@@ -99,8 +104,8 @@ bounds-cells-at g c = grind (arith, common_steps)
 pub known-requires : goal.known-requires
 known-requires g c = grind (arith, common_steps)
 
-pub take_out-requires-clause-on_chain : goal.take_out-requires-clause-on_chain
-take_out-requires-clause-on_chain g c = grind (arith, common_steps)
+pub take_out-taken-requires-clause-on_chain : goal.take_out-taken-requires-clause-on_chain
+take_out-taken-requires-clause-on_chain g c = grind (arith, common_steps)
 
 pub returns-in-Some-clause-len : goal.returns-in-Some-clause-len
 returns-in-Some-clause-len g c = grind (arith, common_steps)

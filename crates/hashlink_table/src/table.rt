@@ -1,0 +1,429 @@
+ghost use Rattle.std.specs.Prelude.{◌≡◌, ℕ, ◌+◌, ◌*◌, ◌%◌, ◌^◌, ◌<◌, ◌≤◌, ◌↔◌, ◌∷◌, ◌++◌, [], false, true};
+ghost use Rattle.std.specs.Prelude.{IfNone, IfOk, IfSome, IsOk, IsPermutation, OnErr, OnOk, Ok, Err};
+ghost use Rattle.std.specs.Prelude.{length, max};
+ghost use Rattle.std.specs.Int.{IsPowerOfTwo};
+ghost use Rattle.hashlink_table.specs.declared.error.TryReserveError.TheVariants.{CapacityOverflow};
+ghost use Rattle.hashlink_table.specs.Chains.{nodes_in};
+ghost use Rattle.hashlink_table.specs.Contents.{agreeing, len_of, AcceptsOnly, AreBuckets, CanAsk, Keeps};
+
+use crate::error::TryReserveError;
+use crate::hashed::Hashed;
+use crate::search;
+use crate::steps::Steps;
+use crate::store::bucket::{bucket_of, buckets_for};
+use crate::store::cell::{END, Stored};
+use crate::store::lanes::LANES;
+use crate::store::slots::Slots;
+use crate::store::{growth, insertion, removal};
+use std::alloc::{AllocError, Global};
+use std::marker::{Brand, Model};
+use std::sync::ledger::{Blank, Ledger};
+
+/// The most nodes that a table can be asked to have room for.
+pub const MAX_ROOM: usize = 1 << 62;
+
+// The most buckets that a table has, so that the cells' numbers fit into a link. A request for more fails as
+// an allocation does.
+const MAX_BUCKETS: usize = 1 << 31;
+
+// The least room that a table grows to.
+const MIN_ROOM: usize = 4;
+
+/// Nodes by their hashes.
+///
+/// A new table does not allocate. One with room takes 9 bytes and a node for each bucket, of which there are
+/// as many as it has room for nodes, or twice as many in a small table, and at least 16; a shrink may leave
+/// up to twice these. It takes 8 bytes and a node more for each node of its room, for the overflow cells;
+/// after a growth that was refused up to eight times these.
+pub struct Table<N> {
+    // The slots. There are none or a power of two, and whole groups.
+    slots: Slots<N>,
+    // The cells of the nodes for which there was no place in their group.
+    overflow: Vec<Stored<N>>,
+    // The first overflow cell without a node, or `END`.
+    free: usize,
+    len: usize,
+    room: usize,
+    // What a cell without a node has in place of one.
+    filler: N,
+}
+
+impl<N> Model for Table<N> {
+    ghost use Rattle.std.specs.Prelude.{vec_capacity};
+    ghost use Rattle.hashlink_table.specs.Contents.{Contents, contents_code};
+
+    ghost Value = { Contents N };
+
+    ghost coded = { contents_code N.code };
+
+    ghost use Rattle.hashlink_table.specs.Chains.{contents, IsSound};
+
+    ghost view = { λ t. contents t.slots t.overflow.items t.room };
+
+    ghost invariant = { λ t. IsSound t.slots t.overflow.items (vec_capacity t.overflow) t.free t.len
+        t.room };
+}
+
+// By hand, so that a drop is one call. What is derived is written out wherever a value ends.
+impl<N: Drop> Drop for Table<N> {
+    fn drop(self) {
+        let Table {
+            slots: _,
+            overflow: _,
+            free: _,
+            len: _,
+            room: _,
+            filler: _,
+        } = self;
+    }
+}
+
+impl<N: Copy> Table<N> {
+    /// Creates an empty table. It does not allocate. The filler is any node; cells that have none are filled
+    /// with it.
+    pub fn new(alloc: Global, filler: N) -> Self
+        ensures { result ≡ record { nodes = []; room = 0 } }
+    {
+        Table {
+            slots: Slots::new(alloc),
+            overflow: Vec::new(alloc),
+            free: END,
+            len: 0,
+            room: 0,
+            filler,
+        }
+    }
+
+    /// Creates an empty table with room for so many nodes. For none it does not allocate.
+    pub fn with_room(alloc: Global, filler: N, room: usize) -> Result<Self, TryReserveError>
+        ensures empty { IfOk result (λ t. t.nodes ≡ []) }
+        ensures room { IfOk result (λ t. room ≤ t.room) }
+        ensures bound { IfOk result (λ t. t.room ≤ 2 * max 4 room) }
+        ensures nothing { room ≡ 0 → result ≡ Ok (record { nodes = []; room = 0 }) }
+        ensures overflow { (result ≡ Err CapacityOverflow) ↔ (MAX_ROOM < room) }
+    {
+        let mut table = Table::new(alloc, filler);
+        table.reserve(room)?;
+        Ok(table)
+    }
+
+    // Creates an empty table with so many buckets.
+    fn with_buckets(
+        alloc: Global,
+        filler: N,
+        buckets: usize,
+        room: usize,
+    ) -> Result<Self, AllocError>
+        requires power { IsPowerOfTwo buckets }
+        requires small { buckets ≤ 2 ^ 31 }
+        requires some { 0 < room }
+        requires headed { room ≤ buckets }
+        requires bounded { buckets ≤ 4 * max 8 room }
+        requires whole { buckets % LANES ≡ 0 }
+        ensures { IfOk result (λ t. t ≡ record { nodes = []; room = room }) }
+    {
+        let slots = Slots::with_cells(alloc, filler, buckets)?;
+        let overflow = Vec::with_capacity(alloc, room)?;
+        Ok(Table {
+            slots,
+            overflow,
+            free: END,
+            len: 0,
+            room,
+            filler,
+        })
+    }
+
+    /// Returns the number of nodes.
+    #[inline]
+    pub fn len(&self) -> usize
+        ensures value { result ≡ len_of self.now }
+        ensures within { result ≤ self.now.room }
+    {
+        self.len // counted, so nothing is walked
+    }
+
+    /// Returns the number of nodes that fit without an allocation.
+    #[inline]
+    pub fn room(&self) -> usize
+        ensures value { result ≡ self.now.room }
+        ensures small { result ≤ 2 ^ 62 }
+    {
+        self.room // which the buckets and the memory of the overflow cells allow
+    }
+
+    /// Inserts a node under its hash. It does not allocate.
+    #[inline]
+    pub fn insert_reserved(&mut self, hash: u32, node: N)
+        requires { len_of self.old < self.old.room }
+        ensures inserted { IsPermutation (record { hash = hash; node = node } ∷ self.old.nodes)
+            self.new.nodes }
+        ensures room { self.new.room ≡ self.old.room }
+    {
+        let bucket = bucket_of(hash, self.slots.len());
+        let kept = Hashed { hash, node };
+        insertion::put(
+            &mut self.slots,
+            &mut self.overflow,
+            &mut self.free,
+            bucket,
+            kept,
+        );
+        self.len += 1;
+    }
+
+    /// Removes a node of this hash that matches, which frees its room, and returns it: `remove_counted`,
+    /// where nobody counts the steps.
+    #[inline]
+    pub fn remove<F: Fn(N) -> bool>(&mut self, hash: u32, is_match: F) -> Option<N>
+        requires callable { CanAsk self.old hash (λ node. F.pre is_match node) }
+        requires telling { AcceptsOnly self.old hash (λ node. F.post is_match node true) }
+        ensures removed { IfSome result (λ node. IsPermutation self.old.nodes
+            (record { hash = hash; node = node } ∷ self.new.nodes)
+            × F.post is_match node true) }
+        ensures none { IfNone result
+            ((node : N) → Keeps self.old hash node → F.post is_match node false) }
+        ensures same { IfNone result (self.new ≡ self.old) }
+        ensures room { self.new.room ≡ self.old.room }
+    {
+        self.remove_from::<F, Brand>(hash, is_match, Blank::new(1))
+    }
+
+    // `remove_counted`, with a counter of its own.
+    fn remove_from<F: Fn(N) -> bool, L: Ledger>(
+        &mut self,
+        hash: u32,
+        is_match: F,
+        blank: Blank,
+    ) -> Option<N>
+        requires name { blank.name ≡ L.name }
+        requires parts { blank.parts ≡ L.parts }
+        requires some_part { 0 < blank.parts }
+        requires callable { CanAsk self.old hash (λ node. F.pre is_match node) }
+        requires telling { AcceptsOnly self.old hash (λ node. F.post is_match node true) }
+        ensures removed { IfSome result (λ node. IsPermutation self.old.nodes
+            (record { hash = hash; node = node } ∷ self.new.nodes)
+            × F.post is_match node true) }
+        ensures none { IfNone result
+            ((node : N) → Keeps self.old hash node → F.post is_match node false) }
+        ensures same { IfNone result (self.new ≡ self.old) }
+        ensures room { self.new.room ≡ self.old.room }
+    {
+        let mut steps = Steps::<L>::new(blank);
+        self.remove_counted(hash, is_match, &mut steps)
+    }
+
+    /// Removes a node of this hash that matches, which frees its room, and returns it. It looks for it as
+    /// `find` does, and compares no keys.
+    #[inline]
+    pub fn remove_counted<F: Fn(N) -> bool, L: Ledger>(
+        &mut self,
+        hash: u32,
+        is_match: F,
+        steps: &mut Steps<L>,
+    ) -> Option<N>
+        requires callable { CanAsk self.old hash (λ node. F.pre is_match node) }
+        requires telling { AcceptsOnly self.old hash (λ node. F.post is_match node true) }
+        ensures removed { IfSome result (λ node. IsPermutation self.old.nodes
+            (record { hash = hash; node = node } ∷ self.new.nodes)
+            × F.post is_match node true) }
+        ensures none { IfNone result
+            ((node : N) → Keeps self.old hash node → F.post is_match node false) }
+        ensures same { IfNone result (self.new ≡ self.old) }
+        ensures room { self.new.room ≡ self.old.room }
+        ensures goes_on { steps.old ≤ steps.new }
+        ensures cost { (m : ℕ) × AreBuckets self.old m × (steps.new ≤ steps.old + agreeing self.old hash m) }
+    {
+        if self.len == 0 {
+            return None;
+        }
+        match search::seek(&self.slots, &self.overflow, hash, &is_match, steps) {
+            None => None,
+            Some(found) => {
+                removal::take(
+                    &mut self.slots,
+                    &mut self.overflow,
+                    &mut self.free,
+                    found.spot,
+                );
+                self.len -= 1;
+                Some(found.node)
+            }
+        }
+    }
+
+    /// Returns the node of this hash that matches, if no more than one does: the first that it looks at. It
+    /// takes a step for each node that it looks at: those of the hash's group of which the tag is the hash's,
+    /// and then those of its chain. They are all of the hash's bucket. It calls `is_match` on nodes that it
+    /// looks at alone, which may be of other hashes.
+    #[inline]
+    pub fn find<F: Fn(N) -> bool, L: Ledger>(
+        &self,
+        hash: u32,
+        is_match: F,
+        steps: &mut Steps<L>,
+    ) -> Option<N>
+        requires callable { CanAsk self.now hash (λ node. F.pre is_match node) }
+        requires telling { AcceptsOnly self.now hash (λ node. F.post is_match node true) }
+        ensures found { IfSome result (λ node. Keeps self.now hash node × F.post is_match node true) }
+        ensures none { IfNone result
+            ((node : N) → Keeps self.now hash node → F.post is_match node false) }
+        ensures goes_on { steps.old ≤ steps.new }
+        ensures cost { (m : ℕ) × AreBuckets self.now m × (steps.new ≤ steps.old + agreeing self.now hash m) }
+    {
+        if self.len == 0 {
+            return None;
+        }
+        match search::seek(&self.slots, &self.overflow, hash, &is_match, steps) {
+            None => None,
+            Some(found) => Some(found.node),
+        }
+    }
+
+    /// `find`, where nobody counts the steps.
+    #[inline]
+    pub fn look_up<F: Fn(N) -> bool>(&self, hash: u32, is_match: F) -> Option<N>
+        requires callable { CanAsk self.now hash (λ node. F.pre is_match node) }
+        requires telling { AcceptsOnly self.now hash (λ node. F.post is_match node true) }
+        ensures found { IfSome result
+            (λ node. Keeps self.now hash node × F.post is_match node true) }
+        ensures none { IfNone result
+            ((node : N) → Keeps self.now hash node → F.post is_match node false) }
+    {
+        self.find_from::<F, Brand>(hash, is_match, Blank::new(1))
+    }
+
+    // `find`, with a counter of its own.
+    #[inline]
+    fn find_from<F: Fn(N) -> bool, L: Ledger>(
+        &self,
+        hash: u32,
+        is_match: F,
+        blank: Blank,
+    ) -> Option<N>
+        requires name { blank.name ≡ L.name }
+        requires parts { blank.parts ≡ L.parts }
+        requires some_part { 0 < blank.parts }
+        requires callable { CanAsk self.now hash (λ node. F.pre is_match node) }
+        requires telling { AcceptsOnly self.now hash (λ node. F.post is_match node true) }
+        ensures found { IfSome result
+            (λ node. Keeps self.now hash node × F.post is_match node true) }
+        ensures none { IfNone result
+            ((node : N) → Keeps self.now hash node → F.post is_match node false) }
+    {
+        let mut steps = Steps::<L>::new(blank);
+        self.find(hash, is_match, &mut steps)
+    }
+
+    /// Removes every node, and keeps the room. It takes linear time in the number of buckets.
+    pub fn clear(&mut self)
+        ensures { self.new ≡ record self.old { nodes = [] } }
+    {
+        self.slots.clear();
+        self.overflow.clear();
+        self.free = END;
+        self.len = 0;
+    }
+
+    /// Makes room for so many more nodes, by doubling, if there is less. It hashes nothing. If it fails, it
+    /// changes nothing.
+    #[inline]
+    pub fn reserve(&mut self, additional: usize) -> Result<(), TryReserveError>
+        ensures ok { OnOk result (len_of self.old + additional ≤ self.new.room) }
+        ensures nodes { IsPermutation self.old.nodes self.new.nodes }
+        ensures room { self.old.room ≤ self.new.room }
+        ensures bound { self.new.room ≤ max self.old.room (2 * max 4 (len_of self.old + additional)) }
+        ensures power { self.old.room < self.new.room → IsPowerOfTwo self.new.room }
+        ensures err { OnErr result (self.new ≡ self.old) }
+
+        // If there is enough room it does not fail, and changes nothing.
+        ensures enough { len_of self.old + additional ≤ self.old.room → IsOk result × (self.new ≡ self.old) }
+        ensures overflow { (result ≡ Err CapacityOverflow) ↔ (MAX_ROOM < len_of self.old + additional) }
+    {
+        if additional <= self.room - self.len {
+            return Ok(());
+        }
+        if additional > MAX_ROOM - self.len {
+            return Err(TryReserveError::CapacityOverflow);
+        }
+        let needed = self.len + additional;
+        let room = needed.max(MIN_ROOM).next_power_of_two();
+        self.grow(buckets_for(room), room)?;
+        Ok(())
+    }
+
+    /// Frees memory: the room is the length afterwards, and without nodes the table holds no memory. If it
+    /// fails, it changes nothing.
+    pub fn shrink(&mut self) -> Result<(), AllocError>
+        ensures nodes { IsPermutation self.old.nodes self.new.nodes }
+        ensures ok { OnOk result (self.new.room ≡ len_of self.old) }
+        ensures err { OnErr result (self.new ≡ self.old) }
+        ensures empty { len_of self.old ≡ 0 → IsOk result }
+    {
+        if self.len == 0 {
+            let alloc = *self.overflow.allocator();
+            *self = Table::new(alloc, self.filler);
+            return Ok(());
+        }
+        let len = self.len;
+        self.rebuild(buckets_for(len.next_power_of_two()), len)
+    }
+
+    // Grows to so many buckets, for this room. If they stay as many, only the overflow cells get more memory.
+    // If they double, the nodes in the slots move without a search. Else a new table is made. If it fails, it
+    // changes no node and no room, but may keep memory that it took.
+    #[cold]
+    fn grow(&mut self, buckets: usize, room: usize) -> Result<(), AllocError>
+        requires power { IsPowerOfTwo buckets }
+        requires more { self.old.room ≤ room }
+        requires some { 0 < room }
+        requires headed { room ≤ buckets }
+        requires bounded { buckets ≤ 4 * max 8 room }
+        requires whole { buckets % LANES ≡ 0 }
+        ensures nodes { IsPermutation self.old.nodes self.new.nodes }
+        ensures ok { OnOk result (self.new.room ≡ room) }
+        ensures err { OnErr result (self.new ≡ self.old) }
+    {
+        let now = self.slots.len();
+        if (buckets != now && buckets != 2 * now) || buckets > MAX_BUCKETS {
+            return self.rebuild(buckets, room);
+        }
+        let block = Vec::with_capacity(*self.overflow.allocator(), room)?;
+        if buckets == now {
+            growth::move_to(&mut self.overflow, block);
+            self.room = room;
+            return Ok(());
+        }
+        let chained = growth::double(&mut self.slots, &mut self.overflow, block, self.filler)?;
+        self.free = END;
+        self.len -= chained.len();
+        self.room = room;
+        self.insert_chained(&chained);
+        Ok(())
+    }
+
+    // Puts the nodes into so many new buckets, for this room. If it fails, it changes nothing.
+    #[cold]
+    fn rebuild(&mut self, buckets: usize, room: usize) -> Result<(), AllocError>
+        requires power { IsPowerOfTwo buckets }
+        requires held { len_of self.old ≤ room }
+        requires some { 0 < room }
+        requires headed { room ≤ buckets }
+        requires bounded { buckets ≤ 4 * max 8 room }
+        requires whole { buckets % LANES ≡ 0 }
+        ensures nodes { IsPermutation self.old.nodes self.new.nodes }
+        ensures ok { OnOk result (self.new.room ≡ room) }
+        ensures err { OnErr result (self.new ≡ self.old) }
+    {
+        if buckets > MAX_BUCKETS {
+            return Err(AllocError);
+        }
+        let alloc = *self.overflow.allocator();
+        let mut table = Table::with_buckets(alloc, self.filler, buckets, room)?;
+        let chained = growth::chained(alloc, &self.overflow)?;
+        table.insert_slots(&self.slots);
+        table.insert_chained(&chained);
+        *self = table;
+        Ok(())
+    }
+}
