@@ -73,6 +73,8 @@ impl<K: Eq + Hash, V, S: BuildHasher> KeyedList<K, V, S> {
     }
 
     /// Inserts the pair at the back, as `insert_at` does.
+    // It is inlined as a look-up is. What only an absent key takes is a call.
+    #[inline(always)]
     pub fn insert(&mut self, key: K, value: V) -> Result<Option<V>, (K, V)>
     where
         K: Drop,
@@ -80,7 +82,18 @@ impl<K: Eq + Hash, V, S: BuildHasher> KeyedList<K, V, S> {
             (length (entries_of self.old)) result }
         ensures sound { IsKeyed K.eq self.new }
     {
-        self.insert_at(None, key, value)
+        let hash = self.hash_of(&key);
+        match self.find(hash, &key) {
+            Some(node) => {
+                let old = self.replace_value(node, value);
+                self.move_before(node, None);
+                Ok(Some(old))
+            }
+            None => {
+                self.insert_before(None, hash, key, value)?;
+                Ok(None)
+            }
+        }
     }
 
     /// Inserts the pair at the front, as `insert_at` does.

@@ -22,6 +22,8 @@ impl<K: Eq + Hash, V, S: BuildHasher> KeyedList<K, V, S> {
     ///
     /// It allocates only if no node is spare, and changes the list only after that. If an allocation fails,
     /// it returns the pair in `Err`.
+    // It is a call, so that what is inlined of an insert is what a present key takes.
+    #[inline(never)]
     pub fn insert_before(
         &mut self,
         place: Option<Node>,
