@@ -7,7 +7,6 @@ mod extend_error;
 mod hash_builder;
 mod hasher;
 mod iter;
-mod iterators;
 mod keyed_list;
 
 pub use compare::{iter_cmp, iter_eq, iter_partial_cmp};
@@ -18,5 +17,4 @@ pub use hasher::DefaultHasher;
 pub use hashlink_nodes::Node;
 pub use hashlink_table::TryReserveError;
 pub use iter::{Iter, Keys, Values};
-pub use iterators::next_of_two;
 pub use keyed_list::KeyedList;

@@ -207,17 +207,6 @@ module _ {K V : Type 0} where
         link_writes = refl;
       }
 
-  -- a store changes no node's block
-  pub next_has : {s' : State K V} (n to : Node) (s : State K V) → s' ≡ store_next n to s → (m : Node)
-      → s.has m ≡ true → s'.has m ≡ true
-  unfolding store_next
-  next_has n to s is m h = ap (λ (t : State K V). t.has m) is ∙ h
-
-  pub prev_has : {s' : State K V} (n to : Node) (s : State K V) → s' ≡ store_prev n to s → (m : Node)
-      → s.has m ≡ true → s'.has m ≡ true
-  unfolding store_prev
-  prev_has n to s is m h = ap (λ (t : State K V). t.has m) is ∙ h
-
 -- a node that holds a pair holds another
 pub pair_anew : {K V : Type 0} (bs : Blocks K V) (count : ℕ) (n : Node) (p : K × V) (at : PairAt bs n p)
     (w : K × V) (h : Held K V → Held K V) → h (held at.number p.0 p.1) ≡ held at.number w.0 w.1

@@ -10,6 +10,7 @@ mod drain;
 mod extend;
 mod into_iter;
 mod iter;
+mod iterators;
 mod lookup;
 mod set;
 mod sifted;

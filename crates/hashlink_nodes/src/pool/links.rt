@@ -1,5 +1,6 @@
 //! The links of the blocks.
 ghost use Rattle.std.specs.Prelude.{◌≡◌, ◌+◌, false, true, IfOk, OnErr};
+ghost use Rattle.hashlink_nodes.specs.declared.node.Node.{Node};
 ghost use Rattle.hashlink_nodes.specs.Pool.{state_of};
 ghost use Rattle.hashlink_nodes.specs.State.{store_next, store_prev, Adds, MakesGuard};
 
@@ -45,7 +46,8 @@ impl<K, V> Pool<K, V> {
     #[inline]
     pub(crate) fn store_next(&mut self, node: Node, to: Node)
         requires { (state_of self.old).has node ≡ true }
-        ensures { state_of self.new ≡ store_next node to (state_of self.old) }
+        ensures stored { state_of self.new ≡ store_next node to (state_of self.old) }
+        ensures there { (n : Node) → (state_of self.new).has n ≡ (state_of self.old).has n }
     {
         self.arena.links_mut(node).next.store(to, &mut self.writes);
     }
@@ -53,7 +55,8 @@ impl<K, V> Pool<K, V> {
     #[inline]
     pub(crate) fn store_prev(&mut self, node: Node, to: Node)
         requires { (state_of self.old).has node ≡ true }
-        ensures { state_of self.new ≡ store_prev node to (state_of self.old) }
+        ensures stored { state_of self.new ≡ store_prev node to (state_of self.old) }
+        ensures there { (n : Node) → (state_of self.new).has n ≡ (state_of self.old).has n }
     {
         self.arena.links_mut(node).prev.store(to, &mut self.writes);
     }

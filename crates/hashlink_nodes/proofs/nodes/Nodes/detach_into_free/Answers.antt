@@ -26,12 +26,12 @@ overflow_add-self g c =
 pub invariant_of-self : goal.invariant_of-self
 invariant_of-self g c =
     seal (removed (node_in c.self.invariant c.self.view_is c.args.node c.requires) c.detach.ensures
-    c.take-pair.ensures.is c.store_next.ensures).sound
+    c.take-pair.ensures.is c.store_next.ensures.stored).sound
 
 pub returns : goal.returns
 returns g c =
     let at = node_in c.self.invariant c.self.view_is c.args.node c.requires in
-    let l = removed at c.detach.ensures c.take-pair.ensures.is c.store_next.ensures in record {
+    let l = removed at c.detach.ensures c.take-pair.ensures.is c.store_next.ensures.stored in record {
       pair =
           ap (option_map pair_of) (at.shows ∙ at.here.holds ∙ sym (held_out at.here c.detach.ensures))
           ∙ c.take-pair.ensures.was;
