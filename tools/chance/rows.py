@@ -16,6 +16,7 @@ class RandomRow:
 
     def __init__(self, seed):
         self.random = random.Random(seed)
+        # The reader of rows lets an iterator over two sets take no more than 64 steps.
         self.keys = self.random.choice((3, 8, 20, 40, 60))
         self.mood = "grow"
         #: how often a call is one of the second container, and how often one of each
@@ -110,6 +111,6 @@ class RandomRow:
         return str(self.below(self.keys + 2))
 
     def range(self):
-        """The first and the last of some numbers."""
+        """The first and the last of some numbers, all of them keys."""
         first = self.below(self.keys)
-        return f"{first} {first + self.below(min(self.keys, 30))}"
+        return f"{first} {min(first + self.below(30), self.keys - 1)}"
