@@ -83,8 +83,8 @@ MAP = {
     ),
     "put": (
         *("6 insert KEY VALUE", "3 insert_front KEY VALUE", "3 replace KEY VALUE"),
-        *("3 get_or_insert_with KEY VALUE NEW?", "2 each RANGE insert n n", "each RANGE insert_front n VALUE"),
-        "each RANGE entry n or_insert VALUE",
+        *("3 get_or_insert_with KEY VALUE NEW?", "2 each RANGE insert n n"),
+        *("each RANGE insert_front n VALUE", "each RANGE entry n or_insert VALUE"),
     ),
     "take": (
         *("4 remove KEY", "4 remove_entry KEY", "3 pop_front", "3 pop_back", "each RANGE remove n"),
@@ -195,10 +195,10 @@ GROUPS = {
 #: how much more or less often a group is drawn while a container is to grow, or to shrink
 MOODS = {
     "as it comes": {},
-    "grow": dict(put=3, many=3, take=0.3, drain=0.2, retain=0.2, make=0.3),
+    "grow": dict(put=3, many=3, take=0.3, drain=0.3, retain=0.5, make=0.3),
     "shrink": dict(put=0.4, many=0.3, take=3, retain=2),
 }
-#: after a call of these groups a container may be empty
+#: after a call of these groups a container may be empty, and half of the time is to grow
 EMPTYING = ("drain", "make")
 #: the groups of the calls that change a container most simply
 SIMPLE = ("put", "take", "lend", "command")

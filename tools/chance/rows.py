@@ -55,7 +55,7 @@ class RandomRow:
         left_out = () if self.other else ("both",)
         moods = MOODS[self.mood]
         group = self.chosen({it: GROUPS[it] * moods.get(it, 1) for it in calls if it not in left_out})
-        if group in EMPTYING:
+        if group in EMPTYING and self.below(2):
             self.mood = "grow"
         if group == "inside":
             return with_words("inside", self.call(calls["inside"]))
@@ -105,7 +105,7 @@ class RandomRow:
         return str(self.below(2 * self.keys)) if self.below(12) else "max"
 
     def capacity(self):
-        return str(self.random.choice((0, 1, 2, 3, 5, 12, 40, "max")))
+        return str(self.random.choice((0, 1, 2, 3, 5, 12, 25, 50, "max")))
 
     def count(self):
         return str(self.below(self.keys + 2))
