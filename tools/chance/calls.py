@@ -190,7 +190,7 @@ KINDS = {
 #: how often each group of calls is drawn
 GROUPS = {
     **dict(read=4, put=9, take=4, lend=4, entry=8, raw=8, cursor=9, walk=6, drain=1.5, retain=1.5),
-    **dict(room=4, many=2, make=0.6, both=10, inside=12, command=1),
+    **dict(room=4, many=2, make=0.6, both=9, inside=12, command=1),
 }
 #: how much more or less often a group is drawn while a container is to grow, or to shrink
 MOODS = {

@@ -9,6 +9,9 @@ from .grammar import NAME, WRITTEN, are_two, weights_of, with_words
 
 #: how many there are at most of what may come any number of times
 MANY = (0, 1, 2, 3, 5, 12)
+#: how often a call is one of the second container, and how often one of each: where nothing or little is
+#: called of both, and where both are alike, or are so but for few calls
+APART, ALIKE = ((0, 0), (0.3, 0)), ((0.1, 0.7), (0.02, 0.95))
 
 
 class RandomRow:
@@ -20,7 +23,7 @@ class RandomRow:
         self.keys = self.random.choice((3, 8, 20, 40, 60))
         self.mood = "grow"
         #: how often a call is one of the second container, and how often one of each
-        self.other, self.alike = self.random.choice(((0, 0), (0.3, 0), (0.1, 0.7)))
+        self.other, self.alike = 0, 0
 
     def chosen(self, weights):
         """One of the keys of a dictionary, as often as it says."""
@@ -32,21 +35,24 @@ class RandomRow:
     def text(self):
         kind = self.chosen({kind: often for kind, (often, _) in KINDS.items()})
         calls = KINDS[kind][1]
-        if not are_two(calls):
-            self.other, self.alike = 0, 0
+        if are_two(calls):
+            self.other, self.alike = self.random.choice(APART + ALIKE if "both" in calls else APART)
         lines = [NAME, self.words(kind)]
         for _ in range(self.random.choice((5, 20, 60, 120))):
             lines += self.lines(calls)
         return "\n".join(lines) + "\n"
 
     def lines(self, calls):
-        """A call of one of two containers, of the two, or of each."""
+        """A call of one of two containers, of the two, or of each. Where both are alike, a call of one is at
+        times followed by one of the two."""
         call = self.call(calls)
         draw = self.random.random()
-        if call.startswith("both ") or draw >= self.other + self.alike:
+        if call.startswith("both "):
             return [call]
-        other = with_words("other", call)
-        return [call, other] if draw < self.alike else [other]
+        if draw < self.alike:
+            return [call, with_words("other", call)]
+        last = [self.both(calls)] if self.alike and self.below(2) else []
+        return [with_words("other", call) if draw < self.alike + self.other else call, *last]
 
     def call(self, calls):
         """A call of one container, or of the two."""
@@ -59,7 +65,10 @@ class RandomRow:
             self.mood = "grow"
         if group == "inside":
             return with_words("inside", self.call(calls["inside"]))
-        return f"both {self.line_of(calls[group])}" if group == "both" else self.line_of(calls[group])
+        return self.both(calls) if group == "both" else self.line_of(calls[group])
+
+    def both(self, calls):
+        return f"both {self.line_of(calls['both'])}"
 
     def line_of(self, lines):
         return self.words(self.chosen(weights_of(lines)))
@@ -111,6 +120,8 @@ class RandomRow:
         return str(self.below(self.keys + 2))
 
     def range(self):
-        """The first and the last of some numbers, all of them keys."""
+        """The first and the last of some numbers, all of them keys, and at times the whole of them."""
+        if self.below(6) == 0:
+            return f"0 {self.keys - 1}"
         first = self.below(self.keys)
         return f"{first} {min(first + self.below(30), self.keys - 1)}"
