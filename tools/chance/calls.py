@@ -102,7 +102,7 @@ MAP = {
     "retain": ("retain KEEP", "retain_with_order KEEP", "retain_from KEEP"),
     "room": ("reserve SIZE", "try_reserve SIZE", "3 shrink", "4 clone", "collect"),
     "many": MANY,
-    "make": ("2 from_iter PAIR*", "clear", "with_capacity SIZE"),
+    "make": ("2 from_iter PAIR*", "2 clear", "with_capacity SIZE"),
     "both": ("eq", "less", "cmp", "hash"),
 }
 
@@ -122,7 +122,7 @@ SET = {
     "retain": ("retain SET_KEEP", "retain_with_order SET_KEEP"),
     "room": ("reserve SIZE", "try_reserve SIZE", "3 shrink", "4 clone"),
     "many": ("extend KEY*", "extend_from KEY*", "extend_kept KEY*", "extend_by_trait KEY*"),
-    "make": ("2 from_iter KEY*", "clear", "with_capacity SIZE"),
+    "make": ("2 from_iter KEY*", "2 clear", "with_capacity SIZE"),
     "both": (
         *("eq", "hash", "is_disjoint", "is_subset", "is_superset", "|", "&", "^", "-"),
         *("2 union COUNT?", "2 intersection COUNT?", "2 difference COUNT?"),
@@ -190,7 +190,7 @@ KINDS = {
 #: how often each group of calls is drawn
 GROUPS = {
     **dict(read=4, put=9, take=4, lend=4, entry=8, raw=8, cursor=9, walk=6, drain=1.5, retain=1.5),
-    **dict(room=4, many=2, make=0.6, both=9, inside=12, command=1),
+    **dict(room=4, many=2, make=1, both=9, inside=12, command=1),
 }
 #: how much more or less often a group is drawn while a container is to grow, or to shrink
 MOODS = {

@@ -1,8 +1,12 @@
 """Rows of random calls (docs/dev/rows.md)."""
 
+import contextlib
 import random
 
-from plain_list.words import GREATEST
+from plain_list.judge import KINDS as LISTS
+from plain_list.judge import say
+from plain_list.rows import Row
+from plain_list.words import DONE, GREATEST, Answers, Words
 
 from .calls import EMPTYING, GROUPS, KINDS, MOODS, SYMBOLS
 from .grammar import NAME, WRITTEN, are_two, weights_of, with_words
@@ -15,7 +19,8 @@ APART, ALIKE = ((0, 0), (0.3, 0)), ((0.1, 0.7), (0.02, 0.95))
 
 
 class RandomRow:
-    """Random lines out of a number of keys that is random as well."""
+    """Random lines out of a number of keys that is random as well. A plain list follows them, so that some
+    calls are of keys that are there, and some steps go up to an end."""
 
     def __init__(self, seed):
         self.random = random.Random(seed)
@@ -24,6 +29,7 @@ class RandomRow:
         self.mood = "grow"
         #: how often a call is one of the second container, and how often one of each
         self.other, self.alike = 0, 0
+        self.lists = ()
 
     def chosen(self, weights):
         """One of the keys of a dictionary, as often as it says."""
@@ -38,9 +44,25 @@ class RandomRow:
         if are_two(calls):
             self.other, self.alike = self.random.choice(APART + ALIKE if "both" in calls else APART)
         lines = [NAME, self.words(kind)]
+        words = Words(lines[1])
+        if words.word() in LISTS:
+            sizes = [words.size() for _ in words.words[1:]]
+            self.lists = [LISTS[words.words[0]](*sizes) for _ in range(2)]
         for _ in range(self.random.choice((5, 20, 60, 120))):
-            lines += self.lines(calls)
+            more = self.lines(calls)
+            self.follow(lines[1], "\n".join(more))
+            lines += more
         return "\n".join(lines) + "\n"
+
+    def follow(self, kind, lines):
+        """Has the lists answer the lines. What is wrong with a line is for the judge to tell."""
+        with contextlib.suppress(Exception):
+            for _, _, words in Row(NAME, 1, NAME, kind, lines, 3).calls() if self.lists else ():
+                say(self.lists, words, Answers([DONE]))
+
+    def there(self):
+        """The pairs of the first list."""
+        return self.lists[0].list.pairs if self.lists else []
 
     def lines(self, calls):
         """A call of one of two containers, of the two, or of each. Where both are alike, a call of one is at
@@ -88,6 +110,9 @@ class RandomRow:
         return getattr(self, symbol.lower())() if symbol in WRITTEN else symbol
 
     def group(self):
+        """A key's group, which at times is there, and at times is the greatest."""
+        if self.there() and self.below(3) == 0:
+            return self.random.choice(self.there())[0][0]
         return self.below(self.keys) if self.below(50) else GREATEST - 1
 
     def item(self, group):
@@ -117,6 +142,9 @@ class RandomRow:
         return str(self.random.choice((0, 1, 2, 3, 5, 12, 25, 50, "max")))
 
     def count(self):
+        """A number of steps, half of the time so many that few are left."""
+        if self.below(2):
+            return str(max(len(self.there()) - self.below(4), 0))
         return str(self.below(self.keys + 2))
 
     def range(self):
