@@ -26,14 +26,14 @@ SYMBOLS = {
     "PAIR": ("KEY VALUE",),
     "WHOLE": ("whole",),
     # steps of iterators
-    "STEP": ("4 next", "4 back", "left", "2 times COUNT GOES"),
+    "STEP": ("3 next", "3 back", "left", "3 times COUNT GOES"),
     "GOES": ("next", "back"),
     "CLONED": ("clone STEP*",),
     "PAIR_STEP": (
-        *("3 next NUMBER?", "3 back NUMBER?", "value NUMBER?", "value_back NUMBER?"),
-        *("2 peek", "left", "times COUNT GOES", "times COUNT value", "times COUNT value_back"),
+        *("2 next NUMBER?", "2 back NUMBER?", "value NUMBER?", "value_back NUMBER?", "2 peek", "left"),
+        *("2 times COUNT GOES", "times COUNT value", "times COUNT value_back"),
     ),
-    "VALUE_STEP": ("3 next NUMBER?", "3 back NUMBER?", "left", "times COUNT GOES"),
+    "VALUE_STEP": ("3 next NUMBER?", "3 back NUMBER?", "left", "3 times COUNT GOES"),
     # steps of cursors
     "MOVE": (
         *("4 next", "4 prev", "2 at", "3 before KEY VALUE", "3 after KEY VALUE"),
@@ -189,7 +189,7 @@ KINDS = {
 
 #: how often each group of calls is drawn
 GROUPS = {
-    **dict(read=4, put=9, take=4, lend=4, entry=8, raw=8, cursor=9, walk=6, drain=1.5, retain=1.5),
+    **dict(read=4, put=9, take=4, lend=4, entry=8, raw=8, cursor=9, walk=8, drain=1.5, retain=1.5),
     **dict(room=4, many=2, make=1, both=9, inside=12, command=1),
 }
 #: how much more or less often a group is drawn while a container is to grow, or to shrink

@@ -12,7 +12,7 @@ from .calls import EMPTYING, GROUPS, KINDS, MOODS, SYMBOLS
 from .grammar import NAME, WRITTEN, are_two, weights_of, with_words
 
 #: how many there are at most of what may come any number of times
-MANY = (0, 1, 2, 3, 5, 12)
+MANY = (0, 2, 3, 5, 12)
 #: how often a call is one of the second container, and how often one of each: where nothing or little is
 #: called of both, and where both are alike, or are so but for few calls
 APART, ALIKE = ((0, 0), (0.3, 0)), ((0.1, 0.7), (0.02, 0.95))

@@ -1,5 +1,6 @@
 """What is as short as can be and shows the same."""
 
+import itertools
 import re
 import time
 
@@ -28,6 +29,7 @@ def shortest(text, short_lines, is_kept):
         text = without_words(text, is_kept_in_time)
         text = with_short_lines(text.split("\n"), short_lines, is_kept_in_time)
         text = with_less_words(text, is_kept_in_time)
+        text = with_two_less(text, is_kept_in_time)
     return text
 
 
@@ -87,6 +89,20 @@ def with_less_words(text, is_kept):
             if is_kept(shorter):
                 text = shorter
                 break
+    return text
+
+
+def with_two_less(text, is_kept):
+    """Makes two numbers less by as much, wherever they stand."""
+    numbers = [word for word in words_of(text) if word.isdigit()]
+    for two in itertools.combinations(numbers, 2):
+        by = min(map(int, two))
+        while by:
+            less = re.sub(rf"(?a)\b({'|'.join(two)})\b", lambda found: str(int(found[0]) - by), text)
+            if less != text and is_kept(less):
+                text = less
+                break
+            by //= 2
     return text
 
 
