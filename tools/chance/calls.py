@@ -26,14 +26,14 @@ SYMBOLS = {
     "PAIR": ("KEY VALUE",),
     "WHOLE": ("whole",),
     # steps of iterators
-    "STEP": ("4 next", "4 back", "left", "2 times COUNT GOES"),
+    "STEP": ("3 next", "3 back", "left", "3 times COUNT GOES"),
     "GOES": ("next", "back"),
     "CLONED": ("clone STEP*",),
     "PAIR_STEP": (
-        *("3 next NUMBER?", "3 back NUMBER?", "value NUMBER?", "value_back NUMBER?"),
-        *("2 peek", "left", "times COUNT GOES", "times COUNT value", "times COUNT value_back"),
+        *("2 next NUMBER?", "2 back NUMBER?", "value NUMBER?", "value_back NUMBER?", "2 peek", "left"),
+        *("2 times COUNT GOES", "times COUNT value", "times COUNT value_back"),
     ),
-    "VALUE_STEP": ("3 next NUMBER?", "3 back NUMBER?", "left", "times COUNT GOES"),
+    "VALUE_STEP": ("3 next NUMBER?", "3 back NUMBER?", "left", "3 times COUNT GOES"),
     # steps of cursors
     "MOVE": (
         *("4 next", "4 prev", "2 at", "3 before KEY VALUE", "3 after KEY VALUE"),
@@ -83,8 +83,8 @@ MAP = {
     ),
     "put": (
         *("6 insert KEY VALUE", "3 insert_front KEY VALUE", "3 replace KEY VALUE"),
-        *("3 get_or_insert_with KEY VALUE NEW?", "2 each RANGE insert n n", "each RANGE insert_front n VALUE"),
-        "each RANGE entry n or_insert VALUE",
+        *("3 get_or_insert_with KEY VALUE NEW?", "2 each RANGE insert n n"),
+        *("each RANGE insert_front n VALUE", "each RANGE entry n or_insert VALUE"),
     ),
     "take": (
         *("4 remove KEY", "4 remove_entry KEY", "3 pop_front", "3 pop_back", "each RANGE remove n"),
@@ -102,7 +102,7 @@ MAP = {
     "retain": ("retain KEEP", "retain_with_order KEEP", "retain_from KEEP"),
     "room": ("reserve SIZE", "try_reserve SIZE", "3 shrink", "4 clone", "collect"),
     "many": MANY,
-    "make": ("2 from_iter PAIR*", "clear", "with_capacity SIZE"),
+    "make": ("2 from_iter PAIR*", "2 clear", "with_capacity SIZE"),
     "both": ("eq", "less", "cmp", "hash"),
 }
 
@@ -122,7 +122,7 @@ SET = {
     "retain": ("retain SET_KEEP", "retain_with_order SET_KEEP"),
     "room": ("reserve SIZE", "try_reserve SIZE", "3 shrink", "4 clone"),
     "many": ("extend KEY*", "extend_from KEY*", "extend_kept KEY*", "extend_by_trait KEY*"),
-    "make": ("2 from_iter KEY*", "clear", "with_capacity SIZE"),
+    "make": ("2 from_iter KEY*", "2 clear", "with_capacity SIZE"),
     "both": (
         *("eq", "hash", "is_disjoint", "is_subset", "is_superset", "|", "&", "^", "-"),
         *("2 union COUNT?", "2 intersection COUNT?", "2 difference COUNT?"),
@@ -189,16 +189,16 @@ KINDS = {
 
 #: how often each group of calls is drawn
 GROUPS = {
-    **dict(read=4, put=9, take=4, lend=4, entry=8, raw=8, cursor=9, walk=6, drain=1.5, retain=1.5),
-    **dict(room=4, many=2, make=0.6, both=10, inside=12, command=1),
+    **dict(read=4, put=9, take=4, lend=4, entry=8, raw=8, cursor=9, walk=8, drain=1.5, retain=1.5),
+    **dict(room=4, many=2, make=1, both=9, inside=12, command=1),
 }
 #: how much more or less often a group is drawn while a container is to grow, or to shrink
 MOODS = {
     "as it comes": {},
-    "grow": dict(put=3, many=3, take=0.3, drain=0.2, retain=0.2, make=0.3),
+    "grow": dict(put=3, many=3, take=0.3, drain=0.3, retain=0.5, make=0.3),
     "shrink": dict(put=0.4, many=0.3, take=3, retain=2),
 }
-#: after a call of these groups a container may be empty
+#: after a call of these groups a container may be empty, and half of the time is to grow
 EMPTYING = ("drain", "make")
 #: the groups of the calls that change a container most simply
 SIMPLE = ("put", "take", "lend", "command")

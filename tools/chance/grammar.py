@@ -11,15 +11,15 @@ from .calls import KINDS, SIMPLE, SYMBOLS
 
 NAME = "random calls"
 #: the symbols that are drawn in rows.py, and what reads them
-ITEM = r"\d+(?:\.\d+)?"
+DIGITS = r"(?:0|[1-9]\d*)"
 WRITTEN = {
-    **dict.fromkeys(("KEY", "VALUE", "NEW", "WEIGHED"), ITEM),
-    **dict.fromkeys(("SIZE", "CAPACITY"), r"(?:\d+|max)"),
-    **dict.fromkeys(("COUNT", "NUMBER"), r"\d+"),
-    "RANGE": r"\d+ \d+",
+    **dict.fromkeys(("KEY", "VALUE", "NEW", "WEIGHED"), rf"{DIGITS}(?:\.{DIGITS})?"),
+    **dict.fromkeys(("SIZE", "CAPACITY"), rf"(?:{DIGITS}|max)"),
+    **dict.fromkeys(("COUNT", "NUMBER"), DIGITS),
+    "RANGE": f"{DIGITS} {DIGITS}",
 }
 #: the words before a call: for which numbers it is made, which container it calls, and whether a cache's map
-BEFORE = re.compile(r"(each \d+ \d+ )?(other )?(inside )?(both )?")
+BEFORE = re.compile(rf"(each {WRITTEN['RANGE']} )?(other )?(inside )?(both )?")
 
 
 @cache

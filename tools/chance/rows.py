@@ -1,25 +1,35 @@
 """Rows of random calls (docs/dev/rows.md)."""
 
+import contextlib
 import random
 
-from plain_list.words import GREATEST
+from plain_list.judge import KINDS as LISTS
+from plain_list.judge import say
+from plain_list.rows import Row
+from plain_list.words import DONE, GREATEST, Answers, Words
 
 from .calls import EMPTYING, GROUPS, KINDS, MOODS, SYMBOLS
 from .grammar import NAME, WRITTEN, are_two, weights_of, with_words
 
 #: how many there are at most of what may come any number of times
-MANY = (0, 1, 2, 3, 5, 12)
+MANY = (0, 2, 3, 5, 12)
+#: how often a call is one of the second container, and how often one of each: where nothing or little is
+#: called of both, and where both are alike, or are so but for few calls
+APART, ALIKE = ((0, 0), (0.3, 0)), ((0.1, 0.7), (0.02, 0.95))
 
 
 class RandomRow:
-    """Random lines out of a number of keys that is random as well."""
+    """Random lines out of a number of keys that is random as well. A plain list follows them, so that some
+    calls are of keys that are there, and some steps go up to an end."""
 
     def __init__(self, seed):
         self.random = random.Random(seed)
+        # The reader of rows lets an iterator over two sets take no more than 64 steps.
         self.keys = self.random.choice((3, 8, 20, 40, 60))
         self.mood = "grow"
         #: how often a call is one of the second container, and how often one of each
-        self.other, self.alike = self.random.choice(((0, 0), (0.3, 0), (0.1, 0.7)))
+        self.other, self.alike = 0, 0
+        self.lists = ()
 
     def chosen(self, weights):
         """One of the keys of a dictionary, as often as it says."""
@@ -31,21 +41,40 @@ class RandomRow:
     def text(self):
         kind = self.chosen({kind: often for kind, (often, _) in KINDS.items()})
         calls = KINDS[kind][1]
-        if not are_two(calls):
-            self.other, self.alike = 0, 0
+        if are_two(calls):
+            self.other, self.alike = self.random.choice(APART + ALIKE if "both" in calls else APART)
         lines = [NAME, self.words(kind)]
+        words = Words(lines[1])
+        if words.word() in LISTS:
+            sizes = [words.size() for _ in words.words[1:]]
+            self.lists = [LISTS[words.words[0]](*sizes) for _ in range(2)]
         for _ in range(self.random.choice((5, 20, 60, 120))):
-            lines += self.lines(calls)
+            more = self.lines(calls)
+            self.follow(lines[1], "\n".join(more))
+            lines += more
         return "\n".join(lines) + "\n"
 
+    def follow(self, kind, lines):
+        """Has the lists answer the lines. What is wrong with a line is for the judge to tell."""
+        with contextlib.suppress(Exception):
+            for _, _, words in Row(NAME, 1, NAME, kind, lines, 3).calls() if self.lists else ():
+                say(self.lists, words, Answers([DONE]))
+
+    def there(self):
+        """The pairs of the first list."""
+        return self.lists[0].list.pairs if self.lists else []
+
     def lines(self, calls):
-        """A call of one of two containers, of the two, or of each."""
+        """A call of one of two containers, of the two, or of each. Where both are alike, a call of one is at
+        times followed by one of the two."""
         call = self.call(calls)
         draw = self.random.random()
-        if call.startswith("both ") or draw >= self.other + self.alike:
+        if call.startswith("both "):
             return [call]
-        other = with_words("other", call)
-        return [call, other] if draw < self.alike else [other]
+        if draw < self.alike:
+            return [call, with_words("other", call)]
+        last = [self.both(calls)] if self.alike and self.below(2) else []
+        return [with_words("other", call) if draw < self.alike + self.other else call, *last]
 
     def call(self, calls):
         """A call of one container, or of the two."""
@@ -54,11 +83,14 @@ class RandomRow:
         left_out = () if self.other else ("both",)
         moods = MOODS[self.mood]
         group = self.chosen({it: GROUPS[it] * moods.get(it, 1) for it in calls if it not in left_out})
-        if group in EMPTYING:
+        if group in EMPTYING and self.below(2):
             self.mood = "grow"
         if group == "inside":
             return with_words("inside", self.call(calls["inside"]))
-        return f"both {self.line_of(calls[group])}" if group == "both" else self.line_of(calls[group])
+        return self.both(calls) if group == "both" else self.line_of(calls[group])
+
+    def both(self, calls):
+        return f"both {self.line_of(calls['both'])}"
 
     def line_of(self, lines):
         return self.words(self.chosen(weights_of(lines)))
@@ -78,6 +110,9 @@ class RandomRow:
         return getattr(self, symbol.lower())() if symbol in WRITTEN else symbol
 
     def group(self):
+        """A key's group, which at times is there, and at times is the greatest."""
+        if self.there() and self.below(3) == 0:
+            return self.random.choice(self.there())[0][0]
         return self.below(self.keys) if self.below(50) else GREATEST - 1
 
     def item(self, group):
@@ -104,12 +139,17 @@ class RandomRow:
         return str(self.below(2 * self.keys)) if self.below(12) else "max"
 
     def capacity(self):
-        return str(self.random.choice((0, 1, 2, 3, 5, 12, 40, "max")))
+        return str(self.random.choice((0, 1, 2, 3, 5, 12, 25, 50, "max")))
 
     def count(self):
+        """A number of steps, half of the time so many that few are left."""
+        if self.below(2):
+            return str(max(len(self.there()) - self.below(4), 0))
         return str(self.below(self.keys + 2))
 
     def range(self):
-        """The first and the last of some numbers."""
+        """The first and the last of some numbers, all of them keys, and at times the whole of them."""
+        if self.below(6) == 0:
+            return f"0 {self.keys - 1}"
         first = self.below(self.keys)
-        return f"{first} {first + self.below(min(self.keys, 30))}"
+        return f"{first} {min(first + self.below(30), self.keys - 1)}"

@@ -1,18 +1,21 @@
 """What is as short as can be and shows the same."""
 
+import itertools
 import re
 import time
 
 #: for so many seconds shorter texts are tried
 PATIENCE = 120
 #: so many pieces in a row, or fewer, are left out wherever they stand
-FEW = 3
+FEW = 4
+#: less numbers than this stand in place of others
+SMALL = 64
 
 
 def shortest(text, short_lines, is_kept):
     """The text without the lines, words and bytes that can be left out while the rest is kept, and with the
-    shortest lines, and the least, that can stand in place of the others, and less numbers. `short_lines` has
-    those that may stand in place of one of the lines, in the order in which they are tried."""
+    shortest lines, words and numbers that can stand in place of the others. `short_lines` has those that may
+    stand in place of one of the lines, in the order in which they are tried."""
     end = time.monotonic() + PATIENCE
 
     def is_kept_in_time(text):
@@ -25,7 +28,8 @@ def shortest(text, short_lines, is_kept):
             text = "".join(less(re.findall(piece, text), is_kept_in_time))
         text = without_words(text, is_kept_in_time)
         text = with_short_lines(text.split("\n"), short_lines, is_kept_in_time)
-        text = with_less_numbers(text, is_kept_in_time)
+        text = with_less_words(text, is_kept_in_time)
+        text = with_two_less(text, is_kept_in_time)
     return text
 
 
@@ -72,12 +76,36 @@ def without_words(text, is_kept):
     return text
 
 
-def with_less_numbers(text, is_kept):
-    """Puts a less number in place of each, wherever it stands."""
-    for number in sorted(set(re.findall(r"\b\d+\b", text)), key=int):
-        for other in range(min(int(number), 64)):
-            shorter = re.sub(rf"\b{number}\b", str(other), text)
+def with_less_words(text, is_kept):
+    """Puts a shorter word of the text, or a less one, in place of each, wherever it stands, and less numbers
+    in place of numbers."""
+    for word in words_of(text):
+        if word.isdigit():
+            others = [str(number) for number in range(min(int(word), SMALL))]
+        else:
+            others = [other for other in words_of(text) if (len(other), other) < (len(word), word)]
+        for other in others:
+            shorter = re.sub(rf"(?a)\b{word}\b", other, text)
             if is_kept(shorter):
                 text = shorter
                 break
     return text
+
+
+def with_two_less(text, is_kept):
+    """Makes two numbers less by as much, wherever they stand."""
+    numbers = [word for word in words_of(text) if word.isdigit()]
+    for two in itertools.combinations(numbers, 2):
+        by = min(map(int, two))
+        while by:
+            less = re.sub(rf"(?a)\b({'|'.join(two)})\b", lambda found: str(int(found[0]) - by), text)
+            if less != text and is_kept(less):
+                text = less
+                break
+            by //= 2
+    return text
+
+
+def words_of(text):
+    """The words of letters and digits, the shortest first, then the least."""
+    return sorted(set(re.findall(r"(?a)\w+", text)), key=lambda it: (len(it), it))

@@ -3,7 +3,6 @@
 import re
 
 from plain_list.judge import KINDS, Judge, WrongRow
-from plain_list.rows import Row
 
 OTHER_WORDS = {"yes": "no", "no": "yes", "ok": "no", "-": "0", "overflow": "no", "heavy": "memory"}
 #: what a list does not know of maps and sets, and the rows where they stand
@@ -11,7 +10,7 @@ ASKED = ("room", "capacity", "under")
 SHOW_ROOM = ("map", "set", "copied_map", "copied_set", "commands")
 
 
-def judged(row: Row, said):
+def judged(row, said):
     """What is wrong with what was said of the row, or nothing."""
     try:
         counts = Judge().judge([row], said)
@@ -52,6 +51,7 @@ def known_lines(row, lines):
 
 
 def with_damage(words, places, random):
+    """The words of a line, of which those at these places are known to a list, with something wrong."""
     damage = random.randrange(5)
     if damage == 0 or not places:
         return [*words, "-"]
