@@ -4,7 +4,7 @@ ghost use Rattle.std.specs.Prelude.{◌≡◌, ◌*◌, ◌^◌, ◌<◌, ◌≤
 ghost use Rattle.hashlink_core.specs.Keyed.{keyed, entries_of, IsKeyed};
 ghost use Rattle.hashlink_core.specs.Tied.{short};
 ghost use Rattle.hashlink_table.specs.declared.error.TryReserveError.TheVariants.{CapacityOverflow};
-ghost use Rattle.hashlink_table.specs.declared.store.table.TheConstants.{MAX_ROOM};
+ghost use Rattle.hashlink_table.specs.declared.table.TheConstants.{MAX_ROOM};
 
 mod extend;
 mod growth;

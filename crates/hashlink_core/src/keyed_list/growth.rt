@@ -3,7 +3,7 @@ ghost use Rattle.std.specs.Prelude.{◌≡◌, ◌+◌, ◌<◌, ◌≤◌, ◌�
 ghost use Rattle.hashlink_core.specs.Keyed.{entries_of, IsKeyed};
 ghost use Rattle.hashlink_core.specs.Steps.{GrowsRoom};
 ghost use Rattle.hashlink_table.specs.declared.error.TryReserveError.TheVariants.{CapacityOverflow};
-ghost use Rattle.hashlink_table.specs.declared.store.table.TheConstants.{MAX_ROOM};
+ghost use Rattle.hashlink_table.specs.declared.table.TheConstants.{MAX_ROOM};
 
 use super::KeyedList;
 use hashlink_table::TryReserveError;
