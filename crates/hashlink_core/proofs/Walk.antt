@@ -51,7 +51,7 @@ module _ {X : Type 0} where
       [ true ↦ λ _. refl | false ↦ λ k. within-holds es n (omega (arith, k)) ])
       (rw (place_or_end-cons same_node e es n) at lt)
 
-pairs_in-last : {K V : Type 0} (es : List (Node × Held K V)) (n : Node) (h : Held K V)
+pub pairs_in-last : {K V : Type 0} (es : List (Node × Held K V)) (n : Node) (h : Held K V)
     → pairs_in (es ++ (n, h) ∷ []) ≡ pairs_in es ++ pair_of h ∷ []
 pairs_in-last [] n h = refl
 pairs_in-last (e ∷ es) n h = ap (λ ps. pair_of e.1 ∷ ps) (pairs_in-last es n h)

@@ -6,6 +6,7 @@ mod equivalent;
 mod extend_error;
 mod hash_builder;
 mod hasher;
+mod into_iter;
 mod iter;
 mod keyed_list;
 
@@ -16,5 +17,6 @@ pub use hash_builder::DefaultHashBuilder;
 pub use hasher::DefaultHasher;
 pub use hashlink_nodes::Node;
 pub use hashlink_table::TryReserveError;
+pub use into_iter::IntoIter;
 pub use iter::{Iter, Keys, Values};
 pub use keyed_list::KeyedList;

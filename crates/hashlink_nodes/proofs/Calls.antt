@@ -200,6 +200,51 @@ module _ {K V : Type 0} where
       (leaves is (dropped (spare_of o some).ring drops) o.is_len
       (omega (arith, length-drop 1 v.free, o.is_spare)))
 
+  -- the first node of the ring
+  pub record FirstIs (n : Node) (es : Entries K V) : Type 0 where
+    pub value : Held K V
+    pub after : Entries K V
+    pub is : es ≡ (n, value) ∷ after
+
+  first_of : (a : Node) (es : Entries K V) → 0 < length es → FirstIs (head_or a (keys_of es)) es
+  first_of a [] some = absurd (omega (arith, some))
+  first_of a (e ∷ es) some = record { value = e.1; after = es; is = refl }
+
+  module _ {n : Inside K V} (sound : IsSound n) {v : Ring K V} (view : ring_of n ≡ v) {g m : Node}
+      (is : n.guard ≡ Some g) (some : 0 < length v.entries) (is_m : m ≡ (state_of n.pool).next g) where
+    abbrev begun : Opened (state_of n.pool) g n.first_spare n.len n.spare v
+    begun = opened sound view is
+
+    pub front : FirstIs m v.entries
+    front =
+        subst (λ k. FirstIs k v.entries) (sym (is_m ∙ (linked begun.ring [] v.entries refl).on))
+        (first_of g v.entries some)
+
+    pub front_in : InRing (state_of n.pool) m front.value
+    front_in = in_ring begun.ring [] m front.value front.after front.is
+
+    pub front_bare : {s₁ s₂ : State K V} → s₁ ≡ detached m (state_of n.pool) → s₂ ≡ hold m None s₁
+        → IsRing s₂ (m ∷ []) g n.first_spare (ring front.after v.free (v.link_writes + 2))
+    front_bare {s₁} is₁ is₂ =
+        let first = n.first_spare in let s = state_of n.pool in
+        let r = subst (λ es. IsRing s [] g first (ring es v.free v.link_writes)) front.is begun.ring in
+        holds_now (detach front.value [] front.after r is₁) None is₂
+
+    pub front_gone : {s₁ s₂ s₃ : State K V} → s₁ ≡ detached m (state_of n.pool) → s₂ ≡ hold m None s₁
+        → Drops m s₂ s₃
+        → Leaves s₃ n.guard n.first_spare (n.len - 1) n.spare (ring front.after v.free (v.link_writes + 2))
+    front_gone is₁ is₂ drops =
+        leaves is (dropped (front_bare is₁ is₂) drops)
+        (omega (arith, begun.is_len, ap length front.is)) begun.is_spare
+
+    pub front_spared : {s₁ s₂ s₃ : State K V} → s₁ ≡ detached m (state_of n.pool) → s₂ ≡ hold m None s₁
+        → s₃ ≡ store_next m n.first_spare s₂
+        → Leaves s₃ n.guard m (n.len - 1) (n.spare + 1)
+        (ring front.after (m ∷ v.free) (v.link_writes + 2 + 1))
+    front_spared {s₁} is₁ is₂ is₃ =
+        leaves is (spared (front_bare is₁ is₂) (held_now s₁ is₂) is₃)
+        (omega (arith, begun.is_len, ap length front.is)) (omega (arith, begun.is_spare))
+
   -- the last node of the ring
   pub record LastIs (s : State K V) (n : Node) (es : Entries K V) : Type 0 where
     pub before : Entries K V
@@ -245,6 +290,15 @@ module _ {K V : Type 0} where
         leaves is (dropped (last_bare is₁ is₂) drops)
         (omega (arith, o.is_len, ap length last.is, length-append last.before ((m, last.value) ∷ [])))
         o.is_spare
+
+    pub last_spared : {s₁ s₂ s₃ : State K V} → s₁ ≡ detached m (state_of n.pool) → s₂ ≡ hold m None s₁
+        → s₃ ≡ store_next m n.first_spare s₂
+        → Leaves s₃ n.guard m (n.len - 1) (n.spare + 1)
+        (ring last.before (m ∷ v.free) (v.link_writes + 2 + 1))
+    last_spared {s₁} is₁ is₂ is₃ =
+        leaves is (spared (last_bare is₁ is₂) (held_now s₁ is₂) is₃)
+        (omega (arith, o.is_len, ap length last.is, length-append last.before ((m, last.value) ∷ [])))
+        (omega (arith, o.is_spare))
 
   -- the guard is the last to go
   pub guard_gone : {s s' : State K V} {g first : Node} {len spare : ℕ} {v : Ring K V} →

@@ -16,9 +16,11 @@ use super::store::slots::Slots;
 use super::store::spot::{Found, Spot};
 use std::sync::ledger::Ledger;
 
+// Searches are inlined into the look-ups of the layers above, which are inlined into their callers.
+
 // The first cell of a group whose node has this hash and matches, and the node. It looks closer at the nodes
 // alone of which the tag is the hash's, and takes a step for each.
-#[inline]
+#[inline(always)]
 fn seek_slots<N: Copy, F: Fn(N) -> bool, L: Ledger>(
     slots: &Slots<N>,
     base: usize,
@@ -59,6 +61,7 @@ fn seek_slots<N: Copy, F: Fn(N) -> bool, L: Ledger>(
 
 // The first cell of the bucket's chain whose node has this hash and matches, and the node. It takes a step
 // for each cell that it passes.
+#[inline(always)]
 fn seek_overflow<N: Copy, F: Fn(N) -> bool, L: Ledger>(
     slots: &Slots<N>,
     cells: &[Stored<N>],
@@ -97,7 +100,7 @@ fn seek_overflow<N: Copy, F: Fn(N) -> bool, L: Ledger>(
 
 // Where the first node is that has this hash and matches: in the cells of its group, or else in the chain of
 // its bucket.
-#[inline]
+#[inline(always)]
 pub fn seek<N: Copy, F: Fn(N) -> bool, L: Ledger>(
     slots: &Slots<N>,
     cells: &[Stored<N>],

@@ -256,7 +256,7 @@ impl<N: Copy> Table<N> {
     /// takes a step for each node that it looks at: those of the hash's group of which the tag is the hash's,
     /// and then those of its chain. They are all of the hash's bucket. It calls `is_match` on nodes that it
     /// looks at alone, which may be of other hashes.
-    #[inline]
+    #[inline(always)]
     pub fn find<F: Fn(N) -> bool, L: Ledger>(
         &self,
         hash: u32,
@@ -281,7 +281,7 @@ impl<N: Copy> Table<N> {
     }
 
     /// `find`, where nobody counts the steps.
-    #[inline]
+    #[inline(always)]
     pub fn look_up<F: Fn(N) -> bool>(&self, hash: u32, is_match: F) -> Option<N>
         requires callable { CanAsk self.now hash (λ node. F.pre is_match node) }
         requires telling { AcceptsOnly self.now hash (λ node. F.post is_match node true) }
@@ -294,7 +294,7 @@ impl<N: Copy> Table<N> {
     }
 
     // `find`, with a counter of its own.
-    #[inline]
+    #[inline(always)]
     fn find_from<F: Fn(N) -> bool, L: Ledger>(
         &self,
         hash: u32,

@@ -5,10 +5,11 @@ ghost use Rattle.std.specs.Map.{lookup};
 ghost use Rattle.hashlink_nodes.specs.Node.{same_node};
 ghost use Rattle.hashlink_nodes.specs.Ring.{Holds};
 ghost use Rattle.hashlink_model.specs.Steps.{RemovesMatch, PopsFront, PopsBack, Drains};
-ghost use Rattle.hashlink_core.specs.Keyed.{state_of, IsKeyed};
+ghost use Rattle.hashlink_core.specs.Keyed.{state_of, entries_of, IsKeyed};
 
 use super::{KeyedList, short_hash};
 use crate::equivalent::Equivalent;
+use crate::into_iter::IntoIter;
 use hashlink_nodes::Node;
 use std::hash::{BuildHasher, Hash};
 
@@ -48,6 +49,21 @@ impl<K: Eq + Hash, V, S: BuildHasher> KeyedList<K, V, S> {
     {
         let node = self.back()?;
         Some(self.remove(node))
+    }
+
+    /// Turns the list into an owning iterator over its entries, front to back. It takes constant time, and frees
+    /// the table.
+    pub fn into_entries(self) -> IntoIter<K, V>
+    where
+        S: Drop,
+        ensures { result ≡ entries_of self }
+    {
+        let KeyedList {
+            nodes,
+            table: _,
+            hash_builder: _,
+        } = self;
+        IntoIter::new(nodes)
     }
 
     /// Removes every entry and drops it. The nodes are then spare. It hashes nothing, and stores at most

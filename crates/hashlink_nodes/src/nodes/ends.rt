@@ -1,4 +1,4 @@
-//! How nodes are freed.
+//! How nodes are freed, and entries leave at the ends.
 ghost use Rattle.std.specs.Prelude.{◌≡◌, ◌+◌, ◌*◌, ◌<◌, [], ◌∷◌, ◌++◌, length, drop};
 ghost use Rattle.hashlink_nodes.specs.declared.node.Node.{Node};
 
@@ -45,7 +45,28 @@ impl<K, V> Nodes<K, V> {
         }
     }
 
-    fn give_back_last(&mut self) -> Held<K, V>
+    /// Removes the first entry, frees its node and returns what it held. It stores two links.
+    pub fn give_back_first(&mut self) -> Held<K, V>
+        requires { 0 < length self.old.entries }
+        ensures first { (node : Node) × (self.old.entries ≡ (node, result) ∷ self.new.entries) }
+        ensures free { self.new.free ≡ self.old.free }
+        ensures link_writes { self.new.link_writes ≡ self.old.link_writes + 2 }
+    {
+        let guard = match self.guard {
+            Some(guard) => guard,
+            None => unreachable!(),
+        };
+        let node = self.pool.next(guard);
+        self.pool.detach(node);
+        let number = self.pool.number(node);
+        let (key, value) = self.pool.take(node);
+        self.pool.give_back(node, self.alloc);
+        self.len -= 1;
+        Held { number, key, value }
+    }
+
+    /// Removes the last entry, frees its node and returns what it held. It stores two links.
+    pub fn give_back_last(&mut self) -> Held<K, V>
         requires { 0 < length self.old.entries }
         ensures last { (node : Node) × (self.old.entries ≡ self.new.entries ++ (node, result) ∷ []) }
         ensures free { self.new.free ≡ self.old.free }
@@ -62,6 +83,64 @@ impl<K, V> Nodes<K, V> {
         self.pool.give_back(node, self.alloc);
         self.len -= 1;
         Held { number, key, value }
+    }
+
+    /// Removes the first entry and returns what it held. The node is the next spare one. It stores three links.
+    pub fn spare_first(&mut self) -> Held<K, V>
+        requires { 0 < length self.old.entries }
+        ensures first { (node : Node) × (self.old.entries ≡ (node, result) ∷ self.new.entries) }
+        ensures free { length self.new.free ≡ length self.old.free + 1 }
+        ensures link_writes { self.new.link_writes ≡ self.old.link_writes + 3 }
+    {
+        let guard = match self.guard {
+            Some(guard) => guard,
+            None => unreachable!(),
+        };
+        let node = self.pool.next(guard);
+        self.pool.detach(node);
+        let number = self.pool.number(node);
+        let (key, value) = self.pool.take(node);
+        self.pool.store_next(node, self.first_spare);
+        self.first_spare = node;
+        self.len -= 1;
+        self.spare += 1;
+        Held { number, key, value }
+    }
+
+    /// Removes the last entry and returns what it held. The node is the next spare one. It stores three links.
+    pub fn spare_last(&mut self) -> Held<K, V>
+        requires { 0 < length self.old.entries }
+        ensures last { (node : Node) × (self.old.entries ≡ self.new.entries ++ (node, result) ∷ []) }
+        ensures free { length self.new.free ≡ length self.old.free + 1 }
+        ensures link_writes { self.new.link_writes ≡ self.old.link_writes + 3 }
+    {
+        let guard = match self.guard {
+            Some(guard) => guard,
+            None => unreachable!(),
+        };
+        let node = self.pool.prev(guard);
+        self.pool.detach(node);
+        let number = self.pool.number(node);
+        let (key, value) = self.pool.take(node);
+        self.pool.store_next(node, self.first_spare);
+        self.first_spare = node;
+        self.len -= 1;
+        self.spare += 1;
+        Held { number, key, value }
+    }
+
+    /// Drops the entries. Their nodes are then spare. It stores three links for each entry.
+    pub fn spare_all(&mut self)
+    where
+        K: Drop,
+        V: Drop,
+        ensures entries { self.new.entries ≡ [] }
+        ensures free { length self.new.free ≡ length self.old.free + length self.old.entries }
+        ensures link_writes { self.new.link_writes ≡ self.old.link_writes + 3 * length self.old.entries }
+    {
+        while self.len() > 0 {
+            let _held = self.spare_first();
+        }
     }
 
     /// Ends a ring without nodes, and frees the guard's block.

@@ -1,0 +1,91 @@
+//! The owning iterator over the entries of a keyed list.
+ghost use Rattle.std.specs.Prelude.{◌≡◌, Some, IfSome, length};
+ghost use Rattle.std.specs.Iterator.{at_most, UpTo};
+ghost use Rattle.std.specs.Iterator.SizeHint.{IsWithinCount};
+ghost use Rattle.std.specs.Map.Iter.{TakesFirst, TakesLast};
+
+use crate::iter::Iter;
+use hashlink_nodes::Nodes;
+use std::fmt;
+use std::iter::FusedIterator;
+use std::marker::Model;
+
+/// An owning iterator over the entries, from front to back. Contracts see it as the list of the pairs that
+/// are left. A step frees its entry's node. When the iterator is dropped, it drops the pairs that are left,
+/// and frees every node.
+#[derive(Drop)]
+pub struct IntoIter<K, V> {
+    // The table is freed before the first step.
+    nodes: Nodes<K, V>,
+}
+
+impl<K, V> Model for IntoIter<K, V> {
+    ghost use Rattle.std.specs.Prelude.{List};
+    ghost use Rattle.hashlink_core.specs.Keyed.{pairs_in};
+
+    ghost Value = { List (K × V) };
+
+    ghost view = { λ i. pairs_in i.nodes.entries };
+}
+
+impl<K, V> IntoIter<K, V> {
+    ghost use Rattle.hashlink_core.specs.Keyed.{pairs_in};
+
+    /// Returns an iterator over the whole ring.
+    pub(crate) fn new(nodes: Nodes<K, V>) -> Self
+        ensures { result ≡ pairs_in nodes.entries }
+    {
+        IntoIter { nodes }
+    }
+}
+
+impl<K: Drop, V: Drop> Iterator for IntoIter<K, V> {
+    type Item = (K, V);
+
+    ghost next_gives = { TakesFirst (λ p. p) };
+
+    ghost remaining = { λ s. at_most (length s) };
+
+    fn next(&mut self) -> Option<(K, V)> {
+        if self.nodes.len() == 0 {
+            return None;
+        }
+        let held = self.nodes.give_back_first();
+        Some((held.key, held.value))
+    }
+
+    fn size_hint(&self) -> (usize, Option<usize>)
+        ensures lower { IsWithinCount result.0 (at_most (length self.now)) }
+        ensures upper { IfSome result.1 (UpTo (at_most (length self.now))) }
+        ensures exact { result ≡ (length self.now, Some (length self.now)) }
+    {
+        let left = self.nodes.len();
+        (left, Some(left))
+    }
+}
+
+impl<K: Drop, V: Drop> DoubleEndedIterator for IntoIter<K, V> {
+    ghost next_back_gives = { TakesLast (λ p. p) };
+
+    fn next_back(&mut self) -> Option<(K, V)> {
+        if self.nodes.len() == 0 {
+            return None;
+        }
+        let held = self.nodes.give_back_last();
+        Some((held.key, held.value))
+    }
+}
+
+impl<K: Drop, V: Drop> ExactSizeIterator for IntoIter<K, V> {
+    fn len(&self) -> usize {
+        self.nodes.len()
+    }
+}
+
+impl<K: Drop, V: Drop> FusedIterator for IntoIter<K, V> {}
+
+impl<K: fmt::Debug, V: fmt::Debug> fmt::Debug for IntoIter<K, V> {
+    fn fmt<W: fmt::Write>(&self, f: &mut fmt::Formatter<W>) -> fmt::Result {
+        Iter::new(&self.nodes).fmt(f)
+    }
+}
