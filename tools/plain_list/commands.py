@@ -149,7 +149,7 @@ def entry_insert(model, step, pair, answers):
     if step == "or_insert":
         stands = old or pair
         model.put("back", stands)
-        answers.seen(stands, False)
+        answers.seen(stands if answers.form == "text" else old, False)
         return
     model.put("back", pair)
     if step == "insert":

@@ -2,7 +2,7 @@
 use Rattle.hashlink_run.proofs.Names.{◌≡◌, ◌≤◌, Bool, true, false, List, [], ◌∷◌, length, refl, sym, ap, ◌∙◌}
 use Rattle.hashlink_run.proofs.Names.{subst, Option, Result, Ok, Err, arith, lookup_entry, Length, MapState}
 use Rattle.hashlink_run.proofs.Names.{KeepsNodes, first_of, kept-inserts, kept-moves, kept-removes_key}
-use Rattle.hashlink_run.proofs.Names.{kept-pops_front, Reply, Seen, insert_reply, is_refused, first_place}
+use Rattle.hashlink_run.proofs.Names.{kept-pops_front, Reply, insert_reply, is_refused, first_place}
 use Rattle.hashlink_run.proofs.Names.{Step}
 use Rattle.std.specs.declared.alloc.AllocError.{AllocError}
 use Rattle.hashlink_history.specs.Peak.{Passes}
@@ -12,7 +12,6 @@ use Rattle.hashlink_model.specs.Walk.{last_of}
 use Rattle.hashlink_model.proofs.KeptNodes.{kept-replaces, kept-pops_back, kept-keeps}
 use Rattle.hashlink_run.specs.declared.commands.Command.{Command}
 use Rattle.hashlink_run.specs.declared.commands.Command.TheVariants as command
-use Rattle.hashlink_run.specs.declared.replies.Reply.TheVariants.{AtPlace}
 use Rattle.hashlink_run.specs.CallReplies.{shrink_reply}
 use Rattle.hashlink_run.specs.Run.{passed_at, keeps_nodes}
 use Rattle.hashlink_run.proofs.CursorNodes.{cursor-keeps, inserts-taken, walk-taken}
@@ -29,13 +28,13 @@ module _ {K V B : Type 0} (P Q : K → V → B → Type 0) (wider : (k : K) (v :
   pub step-wider : (command : Command K V) → Step eq P Keeps old command replies new
       → Step eq Q Also old command replies new
   step-wider (command.Get k) s =
-      reads-wider P Q wider old replies new Seen (lookup_entry (eq k) old.entries) s
+      reads-wider P Q wider old replies new (lookup_entry (eq k) old.entries) s
   step-wider (command.ToFront k) s =
-      (s.0, replies-wider P Q wider Seen (lookup_entry (eq k) old.entries) replies s.1)
+      (s.0, replies-wider P Q wider (lookup_entry (eq k) old.entries) replies s.1)
   step-wider (command.ToBack k) s =
-      (s.0, replies-wider P Q wider Seen (lookup_entry (eq k) old.entries) replies s.1)
-  step-wider command.Front s = reads-wider P Q wider old replies new AtPlace (first_of old.entries) s
-  step-wider command.Back s = reads-wider P Q wider old replies new AtPlace (last_of old.entries) s
+      (s.0, replies-wider P Q wider (lookup_entry (eq k) old.entries) replies s.1)
+  step-wider command.Front s = reads-wider P Q wider old replies new (first_of old.entries) s
+  step-wider command.Back s = reads-wider P Q wider old replies new (last_of old.entries) s
   step-wider command.Keep s = (keeps_where-wider Keeps Also also old new s.0, s.1)
   step-wider (command.Entry k step) s = entry-wider P Q wider old replies new eq k step s
   step-wider (command.Cursor steps) s = cursor-wider P Q wider eq old new steps.items replies s

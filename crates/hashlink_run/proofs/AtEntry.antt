@@ -1,9 +1,9 @@
 -- What is done through an entry is a step at the place of its key.
 use Rattle.hashlink_run.proofs.Names.{◌≡◌, ℕ, ◌-◌, Bool, List, [], ◌∷◌, ◌++◌, length, slice_get, Option, None}
 use Rattle.hashlink_run.proofs.Names.{Some, refl, sym, ap, ap₂, ◌∙◌, subst, arith, true, false, lookup_entry}
-use Rattle.hashlink_run.proofs.Names.{option_map, same_Some, place_of, MapState, none_from_lookup, EntryStep}
+use Rattle.hashlink_run.proofs.Names.{option_map, same_Some, place_of, MapState, EntryStep}
 use Rattle.hashlink_run.proofs.Names.{Reply, OccupiedStep, VacantStep, EntrySteps}
-use Rattle.std.proofs.Common.{length-append, nat_lt, if◌then◌else◌, unwrap_or}
+use Rattle.std.proofs.Common.{length-append, nat_lt, if◌then◌else◌}
 use Rattle.std.specs.Prelude.{insert, remove}
 use Rattle.std.proofs.lemmas.Option.{none-some}
 use Rattle.hashlink_model.specs.Entries.{moved_at}
@@ -11,9 +11,7 @@ use Rattle.hashlink_model.specs.Entry.{EntryState, entry_of, key_at, value_at, T
 use Rattle.hashlink_model.specs.MapState.{AddsEntry, MovesAt, RemovesAt}
 use Rattle.hashlink_model.proofs.ByPlace.{moved_at-last}
 use Rattle.hashlink_model.proofs.Places.{split_at, slice_get_here}
-use Rattle.hashlink_model.proofs.Puts.{put_back_absent}
 use Rattle.hashlink_model.proofs.Splits.{stands_from_place, lookup_entry-here}
-use Rattle.hashlink_run.proofs.Moved.{lookup_entry-absent}
 
 module _ {K V B S : Type 0} (eq : K → K → Bool) (Says : K → V → B → Type 0) {m : MapState K V S} {k : K}
     {e : EntryState K V S} (is : e ≡ entry_of eq m k) {step s : EntryStep V} (given : step ≡ s)
@@ -24,11 +22,11 @@ module _ {K V B S : Type 0} (eq : K → K → Bool) (Says : K → V → B → Ty
       let place : place_of (eq k) m.entries ≡ Some j = sym (ap (λ e. e.place) is) ∙ at in
       rw (place, given) (subst (λ e. OccupiedStep Says e.map j e.key s replies new) is done)
 
-  pub at_vacant : e.place ≡ None → VacantStep eq Says e.map e.key s replies new
+  pub at_vacant : e.place ≡ None → VacantStep eq e.map e.key s replies new
       → EntrySteps eq Says m k step replies new
   at_vacant at done =
       let place : place_of (eq k) m.entries ≡ None = sym (ap (λ e. e.place) is) ∙ at in
-      rw (place, given) (subst (λ e. VacantStep eq Says e.map e.key s replies new) is done)
+      rw (place, given) (subst (λ e. VacantStep eq e.map e.key s replies new) is done)
 
 -- with the value that stands where it was lent
 pub added : {K V S : Type 0} {eq : K → K → Bool} {old new : MapState K V S} {k : K} {w v : V} {b : ℕ} → w ≡ v
@@ -118,22 +116,3 @@ taken {K} {V} old new j v value removes = by (slice_get old.entries j) refl valu
         → (e : K × V) × TakesEntry old new j e × (v ≡ e.1)
     by None at value = absurd (none-some v value)
     by (Some e) at value = (e, record { answer = at; step = removes }, sym (same_Some e.1 v value))
-
--- the pair that went in is the last, and is the one that is read
-module _ {K V S : Type 0} (eq : K → K → Bool) {m : MapState K V S} {k : K} {e : EntryState K V S}
-    (is : e ≡ entry_of eq m k) {new : MapState K V S} {v : V} {p : ℕ} {pair : K × V} where
-  pub read_new : AddsEntry eq e.map new e.key v (length e.map.entries) → p ≡ length e.map.entries
-      → slice_get new.entries p ≡ Some pair
-      → (pair ≡ (e.key, v)) × (unwrap_or (lookup_entry (eq k) m.entries) (k, v) ≡ pair)
-  read_new adds end read =
-      let es = e.map.entries in
-      let last =
-      adds.adds.entries ∙ put_back_absent eq es e.key v (none_from_lookup (eq e.key) es adds.absent) in
-      let stands = ap₂ slice_get last end ∙ slice_get_here es (e.key, v) [] in
-      let same : pair ≡ (e.key, v) = same_Some _ _ (sym read ∙ stands) in
-      let none = lookup_entry-absent (eq e.key) es adds.absent in (
-        same,
-        ap₂ (λ m k. unwrap_or (lookup_entry (eq k) m.entries) (k, v)) (sym (ap (λ e. e.map) is))
-            (sym (ap (λ e. e.key) is))
-            ∙ ap (λ o. unwrap_or o (e.key, v)) none ∙ sym same,
-      )

@@ -4,7 +4,7 @@ use Rattle.hashlink_run.proofs.Names.{MatchResult, ⊎_elim, append_assoc, arith
 use Rattle.hashlink_run.proofs.Names.{lookup, lookup_entry, CacheState, CacheInserts, CacheUses, EvictsFront}
 use Rattle.hashlink_run.proofs.Names.{Passed, Length, PassesInTurn, MapState, node_count, KeepsNodes}
 use Rattle.hashlink_run.proofs.Names.{kept-inserts, kept-moves, kept-removes_key, kept-pops_front}
-use Rattle.hashlink_run.proofs.Names.{within_the_peak, CacheCommand, Reply, Refused, Seen, CacheStep}
+use Rattle.hashlink_run.proofs.Names.{within_the_peak, CacheCommand, Reply, Refused, CacheStep}
 use Rattle.hashlink_run.proofs.Names.{CacheRun, insert_reply, Answered, state_after, after, Replies}
 use Rattle.std.proofs.Common.{max}
 use Rattle.hashlink_history.specs.Peak.{Passes}
@@ -38,7 +38,7 @@ module _ {K V B S : Type 0} (eq : K → K → Bool) (Says : K → V → B → Ty
 
   used_so : (k : K) (v : V) (answer : Result (Option V) (K × V)) (replies : List (Reply K V B))
       → CacheUses eq old new k v answer
-      → MatchResult answer (λ w. Replies Says Seen (lookup_entry (eq k) old.map.entries) replies)
+      → MatchResult answer (λ w. Replies Says (lookup_entry (eq k) old.map.entries) replies)
       (λ pair. replies ≡ Refused pair.0 pair.1 ∷ [])
       → PassesBy (cache.Use k v) replies
   used_so k v (Ok w) replies s said =

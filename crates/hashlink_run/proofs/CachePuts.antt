@@ -3,7 +3,7 @@
 use Rattle.hashlink_run.proofs.Names.{◌≡◌, ℕ, Bool, List, [], ◌∷◌, length, Option, None, Some, Result, Ok}
 use Rattle.hashlink_run.proofs.Names.{Err, MatchOption, MatchResult, ap, subst, inl, inr, lookup}
 use Rattle.hashlink_run.proofs.Names.{lookup_entry, CacheState, CacheInserts, CacheGets, CacheUses, Passed}
-use Rattle.hashlink_run.proofs.Names.{Length, CacheCommand, Reply, Refused, Seen, CacheStep, CacheRun}
+use Rattle.hashlink_run.proofs.Names.{Length, CacheCommand, Reply, Refused, CacheStep, CacheRun}
 use Rattle.hashlink_run.proofs.Names.{insert_reply, is_refused, Answered, after, Replies}
 use Rattle.std.proofs.Common.{cond, ◌⊎◌}
 use Rattle.std.specs.Option.{option_map_or}
@@ -68,7 +68,7 @@ module _ {K V B S : Type 0} (eq : K → K → Bool) (Says : K → V → B → Ty
 
   used-puts : (k : K) (v : V) (answer : Result (Option V) (K × V)) (replies : List (Reply K V B)) (n : ℕ)
       → CacheUses eq old new k v answer
-      → MatchResult answer (λ w. Replies Says Seen (lookup_entry (eq k) old.map.entries) replies)
+      → MatchResult answer (λ w. Replies Says (lookup_entry (eq k) old.map.entries) replies)
       (λ pair. replies ≡ Refused pair.0 pair.1 ∷ [])
       → UsePassed k v (is_refused replies) ≡ Length n ∷ []
       → PutsIn n

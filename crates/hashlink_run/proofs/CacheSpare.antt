@@ -3,7 +3,7 @@ use Rattle.hashlink_run.proofs.Names.{◌≡◌, ℕ, ◌≤◌, ◌<◌, Bool, 
 use Rattle.hashlink_run.proofs.Names.{None, Some, Result, Ok, Err, MatchResult, ⊎_elim, sym, ap, subst, arith}
 use Rattle.hashlink_run.proofs.Names.{lookup_entry, CacheState, EvictsFront, CacheInserts, CacheGets}
 use Rattle.hashlink_run.proofs.Names.{CacheUses, MapState, kept-moves, kept-removes_key, kept-pops_front}
-use Rattle.hashlink_run.proofs.Names.{CacheCommand, Reply, Refused, Seen, CacheStep, CacheRun, insert_reply}
+use Rattle.hashlink_run.proofs.Names.{CacheCommand, Reply, Refused, CacheStep, CacheRun, insert_reply}
 use Rattle.hashlink_run.proofs.Names.{is_refused, Answered, after, Replies}
 use Rattle.hashlink_model.specs.Cache.{HasNodeToSpare}
 use Rattle.hashlink_model.specs.Steps.{RemovesKey, PopsFront}
@@ -29,7 +29,7 @@ module _ {K V B S : Type 0} (eq : K → K → Bool) (Says : K → V → B → Ty
 
   used-taken : (old new : CacheState K V S) (k : K) (v : V) (answer : Result (Option V) (K × V))
       → 1 ≤ old.map.spare → CacheUses eq old new k v answer
-      → MatchResult answer (λ w. Replies Says Seen (lookup_entry (eq k) old.map.entries) replies)
+      → MatchResult answer (λ w. Replies Says (lookup_entry (eq k) old.map.entries) replies)
       (λ pair. replies ≡ Refused pair.0 pair.1 ∷ [])
       → is_refused replies ≡ false
   used-taken old new k v (Ok w) spare s said = ap is_refused said.2

@@ -1,6 +1,6 @@
 -- What one closure says of a pair that a cache read, another may say that says at least that.
 use Rattle.hashlink_run.proofs.Names.{Bool, List, Option, Result, Ok, Err, MatchResult, ◌≡◌, [], ◌∷◌}
-use Rattle.hashlink_run.proofs.Names.{lookup_entry, CacheState, CacheCommand, Reply, Refused, Seen, CacheStep}
+use Rattle.hashlink_run.proofs.Names.{lookup_entry, CacheState, CacheCommand, Reply, Refused, CacheStep}
 use Rattle.hashlink_run.proofs.Names.{Replies}
 use Rattle.hashlink_run.specs.declared.cache_commands.CacheCommand.TheVariants as cache
 use Rattle.hashlink_run.specs.declared.cache_commands.WeightedCommand.{WeightedCommand}
@@ -13,11 +13,11 @@ module _ {K V B : Type 0} (P Q : K → V → B → Type 0) (wider : (k : K) (v :
     {S : Type 0} (eq : K → K → Bool) (old : CacheState K V S) (replies : List (Reply K V B))
     (new : CacheState K V S) where
   use-wider : (k : K) (answer : Result (Option V) (K × V))
-      → MatchResult answer (λ w. Replies P Seen (lookup_entry (eq k) old.map.entries) replies)
+      → MatchResult answer (λ w. Replies P (lookup_entry (eq k) old.map.entries) replies)
       (λ pair. replies ≡ Refused pair.0 pair.1 ∷ [])
-      → MatchResult answer (λ w. Replies Q Seen (lookup_entry (eq k) old.map.entries) replies)
+      → MatchResult answer (λ w. Replies Q (lookup_entry (eq k) old.map.entries) replies)
       (λ pair. replies ≡ Refused pair.0 pair.1 ∷ [])
-  use-wider k (Ok w) s = replies-wider P Q wider Seen (lookup_entry (eq k) old.map.entries) replies s
+  use-wider k (Ok w) s = replies-wider P Q wider (lookup_entry (eq k) old.map.entries) replies s
   use-wider k (Err pair) s = s
 
   pub cache_step-wider : (command : CacheCommand K V) → CacheStep eq P old command replies new
@@ -26,9 +26,9 @@ module _ {K V B : Type 0} (P Q : K → V → B → Type 0) (wider : (k : K) (v :
   cache_step-wider (cache.Entry k step) s =
       (s.0, s.1, entry-wider P Q wider s.0 replies new.map eq k step s.2, s.3)
   cache_step-wider (cache.Get k) s =
-      (s.0, replies-wider P Q wider Seen (lookup_entry (eq k) old.map.entries) replies s.1)
+      (s.0, replies-wider P Q wider (lookup_entry (eq k) old.map.entries) replies s.1)
   cache_step-wider (cache.Peek k) s =
-      (s.0, replies-wider P Q wider Seen (lookup_entry (eq k) old.map.entries) replies s.1)
+      (s.0, replies-wider P Q wider (lookup_entry (eq k) old.map.entries) replies s.1)
   cache_step-wider command s = s
 
 -- ---- and of a cache with a budget
@@ -39,7 +39,7 @@ module _ {K V B : Type 0} (P Q : K → V → B → Type 0) (wider : (k : K) (v :
   pub weighted_step-wider : (command : WeightedCommand K V) → WeightedStep eq P old command replies new
       → WeightedStep eq Q old command replies new
   weighted_step-wider (weighted.Get k) s =
-      (s.0, replies-wider P Q wider Seen (named_pair eq old k) replies s.1)
+      (s.0, replies-wider P Q wider (named_pair eq old k) replies s.1)
   weighted_step-wider (weighted.Peek k) s =
-      (s.0, replies-wider P Q wider Seen (named_pair eq old k) replies s.1)
+      (s.0, replies-wider P Q wider (named_pair eq old k) replies s.1)
   weighted_step-wider command s = s

@@ -2,7 +2,7 @@
 use Rattle.hashlink_run.proofs.Names.{◌≡◌, ℕ, zero, suc, ◌+◌, ◌≤◌, Bool, false, List, [], ◌∷◌, length, refl}
 use Rattle.hashlink_run.proofs.Names.{Option, None, Some, Result, Ok, Err, ap, ◌∙◌, arith, MatchOption}
 use Rattle.hashlink_run.proofs.Names.{MatchResult, place_of, MapState, node_count, KeepsNodes, kept-inserts}
-use Rattle.hashlink_run.proofs.Names.{EntryStep, Reply, Inserted, Refused, is_refused, OccupiedStep}
+use Rattle.hashlink_run.proofs.Names.{EntryStep, Reply, is_refused, OccupiedStep}
 use Rattle.hashlink_run.proofs.Names.{VacantStep, EntrySteps}
 use Rattle.std.specs.Result.{result_map_both}
 use Rattle.hashlink_model.specs.Entries.{set_key_at}
@@ -76,13 +76,6 @@ module _ {K V B S : Type 0} (Says : K → V → B → Type 0) (old new : MapStat
     by_reply reply (Ok done) not_back is = ap is_refused is ∙ not_back
     by_reply reply (Err pair) not_back is = tt
 
-    by_said : (v : V) (r : Result (Unit {0}) (K × V))
-        → MatchResult r (λ done. (said : B) × Says k v said × (replies ≡ Inserted said ∷ []))
-        (λ pair. replies ≡ Refused pair.0 pair.1 ∷ [])
-        → IsTaken r
-    by_said v (Ok done) is = ap is_refused is.2
-    by_said v (Err pair) is = tt
-
     vacant : (v : V) (r : Result (Unit {0}) (K × V)) → VacantInserts eq old new k v r → IsTaken r
         → LeavesEntry
     vacant v (Ok done) s not_back =
@@ -102,8 +95,8 @@ module _ {K V B S : Type 0} (Says : K → V → B → Type 0) (old new : MapStat
           taken = λ some. absurd (omega arith);
         }
 
-    vacant-leaves : (step : EntryStep V) → VacantStep eq Says old k step replies new → LeavesEntry
-    vacant-leaves (step.OrInsert v) s = vacant v s.0 s.1 (by_said v s.0 s.2)
+    vacant-leaves : (step : EntryStep V) → VacantStep eq old k step replies new → LeavesEntry
+    vacant-leaves (step.OrInsert v) s = vacant v s.0 s.1 (by_reply _ s.0 refl s.2)
     vacant-leaves (step.Insert v) s = vacant v s.0 s.1 (by_reply _ s.0 refl s.2)
     vacant-leaves (step.InsertEntry v) s = vacant v s.0 s.1 (by_reply _ s.0 refl s.2)
     vacant-leaves step s = unchanged s.0 (ap is_refused s.1)
@@ -112,7 +105,7 @@ module _ {K V B S : Type 0} (Says : K → V → B → Type 0) (old new : MapStat
     entry-leaves step s = by (place_of (eq k) old.entries) s
       where
         by : (o : Option ℕ)
-            → MatchOption o (VacantStep eq Says old k step replies new)
+            → MatchOption o (VacantStep eq old k step replies new)
             (λ j. OccupiedStep Says old j k step replies new)
             → LeavesEntry
         by None s = vacant-leaves step s

@@ -24,7 +24,7 @@ pub use Rattle.hashlink_run.specs.declared.cache_commands.CacheCommand.{CacheCom
 pub use Rattle.hashlink_run.specs.declared.commands.CursorStep.{CursorStep}
 pub use Rattle.hashlink_run.specs.declared.commands.EntryStep.{EntryStep}
 pub use Rattle.hashlink_run.specs.declared.replies.Reply.{Reply}
-pub use Rattle.hashlink_run.specs.declared.replies.Reply.TheVariants.{Inserted, Refused, Seen}
+pub use Rattle.hashlink_run.specs.declared.replies.Reply.TheVariants.{Refused, Seen}
 pub use Rattle.std.proofs.Common.{Bool, Err, List, MatchOption, MatchResult, None, Ok, Option, Result, Some}
 pub use Rattle.std.proofs.Common.{ap, append-nil, append_assoc, ap₂, arith, drop, false, inl, inr, length}
 pub use Rattle.std.proofs.Common.{map, refl, rules, slice_get, subst, suc, sym, take, true, vec_capacity}

@@ -1,12 +1,11 @@
 -- What one closure says of a pair that a map read, another may say that says at least that.
 use Rattle.hashlink_run.proofs.Names.{ℕ, ◌≡◌, Bool, List, [], ◌∷◌, slice_get, Option, None, Some, MatchOption}
-use Rattle.hashlink_run.proofs.Names.{Result, Ok, Err, MatchResult, CursorState, place_of, MapState}
-use Rattle.hashlink_run.proofs.Names.{CursorStep, EntryStep, Reply, Seen, Inserted, Refused, CursorStepped}
-use Rattle.hashlink_run.proofs.Names.{CursorWalks, first_place, OccupiedStep, VacantStep, EntrySteps, Replies}
+use Rattle.hashlink_run.proofs.Names.{CursorState, place_of, MapState, CursorStep, EntryStep, Reply}
+use Rattle.hashlink_run.proofs.Names.{CursorStepped, CursorWalks, first_place, OccupiedStep, VacantStep}
+use Rattle.hashlink_run.proofs.Names.{EntrySteps, Replies}
 use Rattle.hashlink_model.specs.Cursor.{entry_in, place_next, place_previous}
 use Rattle.hashlink_run.specs.declared.commands.CursorStep.TheVariants as cursor
 use Rattle.hashlink_run.specs.declared.commands.EntryStep.TheVariants as step
-use Rattle.hashlink_run.specs.declared.replies.Reply.TheVariants.{AtPlace}
 use Rattle.hashlink_run.specs.CursorSteps.{CursorSteps}
 use Rattle.hashlink_run.specs.Reads.{SaysOf, Reads}
 
@@ -18,35 +17,21 @@ module _ {K V B : Type 0} (P Q : K → V → B → Type 0)
   said-wider (Some pair) None s = absurd s
   said-wider (Some pair) (Some b) s = wider pair.0 pair.1 b s
 
-  pub replies-wider : (reply : Option B → Reply K V B) (pair : Option (K × V)) (replies : List (Reply K V B))
-      → Replies P reply pair replies → Replies Q reply pair replies
-  replies-wider reply pair replies s = (s.0, said-wider pair s.0 s.1, s.2)
+  pub replies-wider : (pair : Option (K × V)) (replies : List (Reply K V B)) → Replies P pair replies
+      → Replies Q pair replies
+  replies-wider pair replies s = (s.0, said-wider pair s.0 s.1, s.2)
 
   module _ {S : Type 0} (old : MapState K V S) (replies : List (Reply K V B)) (new : MapState K V S) where
-    pub reads-wider : (reply : Option B → Reply K V B) (pair : Option (K × V))
-        → Reads P old reply pair replies new → Reads Q old reply pair replies new
-    reads-wider reply pair s = (s.0, replies-wider reply pair replies s.1)
+    pub reads-wider : (pair : Option (K × V)) → Reads P old pair replies new → Reads Q old pair replies new
+    reads-wider pair s = (s.0, replies-wider pair replies s.1)
 
     occupied-wider : (j : ℕ) (k : K) (step : EntryStep V) → OccupiedStep P old j k step replies new
         → OccupiedStep Q old j k step replies new
-    occupied-wider j k step.Get s = reads-wider Seen (slice_get old.entries j) s
-    occupied-wider j k (step.OrInsert v) s = (s.0, replies-wider Seen (slice_get old.entries j) replies s.1)
-    occupied-wider j k step.ToFront s = (s.0, replies-wider Seen (slice_get old.entries j) replies s.1)
-    occupied-wider j k step.ToBack s = (s.0, replies-wider Seen (slice_get old.entries j) replies s.1)
+    occupied-wider j k step.Get s = reads-wider (slice_get old.entries j) s
+    occupied-wider j k (step.OrInsert v) s = (s.0, replies-wider (slice_get old.entries j) replies s.1)
+    occupied-wider j k step.ToFront s = (s.0, replies-wider (slice_get old.entries j) replies s.1)
+    occupied-wider j k step.ToBack s = (s.0, replies-wider (slice_get old.entries j) replies s.1)
     occupied-wider j k step s = s
-
-    inserted-wider : (k : K) (v : V) (answer : Result (Unit {0}) (K × V))
-        → MatchResult answer (λ done. (said : B) × P k v said × (replies ≡ Inserted said ∷ []))
-        (λ pair. replies ≡ Refused pair.0 pair.1 ∷ [])
-        → MatchResult answer (λ done. (said : B) × Q k v said × (replies ≡ Inserted said ∷ []))
-        (λ pair. replies ≡ Refused pair.0 pair.1 ∷ [])
-    inserted-wider k v (Ok done) s = (s.0, wider k v s.0 s.1, s.2)
-    inserted-wider k v (Err pair) s = s
-
-    vacant-wider : (eq : K → K → Bool) (k : K) (step : EntryStep V) → VacantStep eq P old k step replies new
-        → VacantStep eq Q old k step replies new
-    vacant-wider eq k (step.OrInsert v) s = (s.0, s.1, inserted-wider k v s.0 s.2)
-    vacant-wider eq k step s = s
 
     pub entry-wider : (eq : K → K → Bool) (k : K) (step : EntryStep V)
         → EntrySteps eq P old k step replies new
@@ -54,11 +39,11 @@ module _ {K V B : Type 0} (P Q : K → V → B → Type 0)
     entry-wider eq k step s = by (place_of (eq k) old.entries) s
       where
         by : (o : Option ℕ)
-            → MatchOption o (VacantStep eq P old k step replies new)
+            → MatchOption o (VacantStep eq old k step replies new)
             (λ j. OccupiedStep P old j k step replies new)
-            → MatchOption o (VacantStep eq Q old k step replies new)
+            → MatchOption o (VacantStep eq old k step replies new)
             (λ j. OccupiedStep Q old j k step replies new)
-        by None s = vacant-wider eq k step s
+        by None s = s
         by (Some j) s = occupied-wider j k step s
 
 -- ---- a cursor
@@ -68,15 +53,15 @@ module _ {K V B : Type 0} (P Q : K → V → B → Type 0) (wider : (k : K) (v :
   cursor_step-wider : (old new : CursorState K V S) (step : CursorStep K V) (replies : List (Reply K V B))
       → CursorStepped eq P old step replies new → CursorStepped eq Q old step replies new
   cursor_step-wider old new cursor.Next replies s =
-      (s.0, replies-wider P Q wider AtPlace (entry_in old (place_next old)) replies s.1)
+      (s.0, replies-wider P Q wider (entry_in old (place_next old)) replies s.1)
   cursor_step-wider old new cursor.Prev replies s =
-      (s.0, replies-wider P Q wider AtPlace (entry_in old (place_previous old)) replies s.1)
+      (s.0, replies-wider P Q wider (entry_in old (place_previous old)) replies s.1)
   cursor_step-wider old new cursor.Current replies s =
-      (s.0, replies-wider P Q wider AtPlace (entry_in old old.place) replies s.1)
+      (s.0, replies-wider P Q wider (entry_in old old.place) replies s.1)
   cursor_step-wider old new cursor.PeekNext replies s =
-      (s.0, replies-wider P Q wider AtPlace (entry_in old (place_next old)) replies s.1)
+      (s.0, replies-wider P Q wider (entry_in old (place_next old)) replies s.1)
   cursor_step-wider old new cursor.PeekPrev replies s =
-      (s.0, replies-wider P Q wider AtPlace (entry_in old (place_previous old)) replies s.1)
+      (s.0, replies-wider P Q wider (entry_in old (place_previous old)) replies s.1)
   cursor_step-wider old new step replies s = s
 
   walk-wider : (old new : CursorState K V S) (steps : List (CursorStep K V)) (replies : List (Reply K V B))

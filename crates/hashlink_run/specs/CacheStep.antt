@@ -10,7 +10,7 @@ use Rattle.hashlink_model.specs.Walk.{first_of}
 use Rattle.hashlink_run.specs.declared.cache_commands.CacheCommand.{CacheCommand}
 use Rattle.hashlink_run.specs.declared.cache_commands.CacheCommand.TheVariants as cache
 use Rattle.hashlink_run.specs.declared.replies.Reply.{Reply}
-use Rattle.hashlink_run.specs.declared.replies.Reply.TheVariants.{Done, Value, Pair, Seen, Refused}
+use Rattle.hashlink_run.specs.declared.replies.Reply.TheVariants.{Done, Value, Pair, Refused}
 use Rattle.hashlink_run.specs.CallReplies.{insert_reply}
 use Rattle.hashlink_run.specs.Chain.{Answered, Chain, Chained}
 use Rattle.hashlink_run.specs.EntrySteps.{EntrySteps, ReadAtEntry}
@@ -39,16 +39,16 @@ module _ {K V B S : Type 0} (eq : K → K → Bool) (Says : K → V → B → Ty
       × (replies ≡ insert_reply answer ∷ [])
   CacheStep old (cache.Use k v) replies new =
       (answer : Result (Option V) (K × V)) × CacheUses eq old new k v answer
-      × MatchResult answer (λ w. Replies Says Seen (lookup_entry (eq k) old.map.entries) replies)
+      × MatchResult answer (λ w. Replies Says (lookup_entry (eq k) old.map.entries) replies)
       (λ pair. replies ≡ Refused pair.0 pair.1 ∷ [])
   CacheStep old (cache.Entry k step) replies new =
       (between : MapState K V S) × EvictsFront old.map between old.cap
       × EntrySteps eq Says between k step replies new.map × (new.cap ≡ old.cap)
   CacheStep old (cache.Get k) replies new =
       CacheGets eq old new k (lookup (eq k) old.map.entries)
-      × Replies Says Seen (lookup_entry (eq k) old.map.entries) replies
+      × Replies Says (lookup_entry (eq k) old.map.entries) replies
   CacheStep old (cache.Peek k) replies new = (new ≡ old)
-      × Replies Says Seen (lookup_entry (eq k) old.map.entries) replies
+      × Replies Says (lookup_entry (eq k) old.map.entries) replies
   CacheStep old (cache.Remove k) replies new =
       OnMap (λ a b. RemovesKey eq a b k (lookup_entry (eq k) a.entries)) old new
       × (replies ≡ Value (lookup (eq k) old.map.entries) ∷ [])

@@ -6,7 +6,6 @@ use Rattle.hashlink_model.specs.MapState.{MapState}
 use Rattle.hashlink_run.specs.declared.commands.CursorStep.{CursorStep}
 use Rattle.hashlink_run.specs.declared.commands.CursorStep.TheVariants as cursor
 use Rattle.hashlink_run.specs.declared.replies.Reply.{Reply}
-use Rattle.hashlink_run.specs.declared.replies.Reply.TheVariants.{AtPlace}
 use Rattle.hashlink_run.specs.CallReplies.{insert_reply}
 use Rattle.hashlink_run.specs.Reads.{Replies}
 
@@ -26,11 +25,11 @@ ReadByStep old step pair = ⊥
 module _ {K V B S : Type 0} (eq : K → K → Bool) (Says : K → V → B → Type 0) where
   -- the cursor goes to the place i, and what is there is read
   abbrev pub GoesAndReads : CursorState K V S → ℕ → List (Reply K V B) → CursorState K V S → Type 0
-  GoesAndReads old i replies new = (new ≡ at_place old i) × Replies Says AtPlace (entry_in old i) replies
+  GoesAndReads old i replies new = (new ≡ at_place old i) × Replies Says (entry_in old i) replies
 
   -- the cursor stays, and what is at the place i is read
   abbrev pub Peeks : CursorState K V S → ℕ → List (Reply K V B) → CursorState K V S → Type 0
-  Peeks old i replies new = (new ≡ old) × Replies Says AtPlace (entry_in old i) replies
+  Peeks old i replies new = (new ≡ old) × Replies Says (entry_in old i) replies
 
   -- one step
   abbrev pub CursorStepped : CursorState K V S → CursorStep K V → List (Reply K V B)

@@ -1,6 +1,5 @@
 -- What a map answers to a step on an entry, with the key k in hand, and what it goes on to.
 use Rattle.std.specs.Prelude.{◌≡◌, ℕ, Bool, List, [], ◌∷◌, length, slice_get, None, Some, MatchOption, Result}
-use Rattle.std.specs.Prelude.{MatchResult, unwrap_or}
 use Rattle.std.specs.Map.{lookup_entry}
 use Rattle.std.specs.Result.{result_map_both}
 use Rattle.hashlink_model.specs.Entries.{place_of}
@@ -10,7 +9,7 @@ use Rattle.hashlink_model.specs.MapState.{MapState, MovesAt}
 use Rattle.hashlink_run.specs.declared.commands.EntryStep.{EntryStep}
 use Rattle.hashlink_run.specs.declared.commands.EntryStep.TheVariants as step
 use Rattle.hashlink_run.specs.declared.replies.Reply.{Reply}
-use Rattle.hashlink_run.specs.declared.replies.Reply.TheVariants.{Value, Pair, Key, Seen, Inserted, Refused}
+use Rattle.hashlink_run.specs.declared.replies.Reply.TheVariants.{Value, Pair, Key, Seen}
 use Rattle.hashlink_run.specs.CallReplies.{reply_or_refused}
 use Rattle.hashlink_run.specs.Reads.{Replies, Reads}
 
@@ -18,12 +17,12 @@ module _ {K V B S : Type 0} (Says : K → V → B → Type 0) where
   -- the entry at the place j moves to the place b, and is read
   abbrev pub MovesAndReadsAt : MapState K V S → ℕ → ℕ → List (Reply K V B) → MapState K V S → Type 0
   MovesAndReadsAt old j b replies new =
-      MovesAt old new j b × Replies Says Seen (slice_get old.entries j) replies
+      MovesAt old new j b × Replies Says (slice_get old.entries j) replies
 
   -- a step where the key is at the place j
   abbrev pub OccupiedStep : MapState K V S → ℕ → K → EntryStep V → List (Reply K V B)
       → MapState K V S → Type 0
-  OccupiedStep old j k step.Get replies new = Reads Says old Seen (slice_get old.entries j) replies new
+  OccupiedStep old j k step.Get replies new = Reads Says old (slice_get old.entries j) replies new
   OccupiedStep old j k (step.OrInsert v) replies new = MovesAndReadsAt old j (length old.entries) replies new
   OccupiedStep old j k (step.Insert v) replies new =
       (w : V) × InsertsValue old new j v w × (replies ≡ Value (Some w) ∷ [])
@@ -40,20 +39,13 @@ module _ {K V B S : Type 0} (Says : K → V → B → Type 0) where
   OccupiedStep old j k step.RemoveEntry replies new =
       (e : K × V) × TakesEntry old new j e × (replies ≡ Pair (Some e) ∷ [])
 
-module _ {K V B S : Type 0} (eq : K → K → Bool) (Says : K → V → B → Type 0) where
+module _ {K V B S : Type 0} (eq : K → K → Bool) where
   -- an insert, with this reply where it is not refused
   abbrev pub InsertsAbsent : MapState K V S → K → V → Reply K V B → List (Reply K V B)
       → MapState K V S → Type 0
   InsertsAbsent old k v reply replies new =
       (answer : Result (Unit {0}) (K × V)) × VacantInserts eq old new k v answer
       × (replies ≡ reply_or_refused (result_map_both (λ _. reply) (λ pair. pair) answer) ∷ [])
-
-  -- an insert, and what is said of the pair where it is not refused
-  abbrev pub InsertsAndReads : MapState K V S → K → V → List (Reply K V B) → MapState K V S → Type 0
-  InsertsAndReads old k v replies new =
-      (answer : Result (Unit {0}) (K × V)) × VacantInserts eq old new k v answer
-      × MatchResult answer (λ done. (said : B) × Says k v said × (replies ≡ Inserted said ∷ []))
-      (λ pair. replies ≡ Refused pair.0 pair.1 ∷ [])
 
   -- nothing is there
   abbrev pub FindsNothing : MapState K V S → Reply K V B → List (Reply K V B) → MapState K V S → Type 0
@@ -62,7 +54,7 @@ module _ {K V B S : Type 0} (eq : K → K → Bool) (Says : K → V → B → Ty
   -- a step where the key is absent
   abbrev pub VacantStep : MapState K V S → K → EntryStep V → List (Reply K V B) → MapState K V S → Type 0
   VacantStep old k step.Get replies new = FindsNothing old (Seen None) replies new
-  VacantStep old k (step.OrInsert v) replies new = InsertsAndReads old k v replies new
+  VacantStep old k (step.OrInsert v) replies new = InsertsAbsent old k v (Seen None) replies new
   VacantStep old k (step.Insert v) replies new = InsertsAbsent old k v (Value None) replies new
   VacantStep old k (step.InsertEntry v) replies new = InsertsAbsent old k v (Pair None) replies new
   VacantStep old k (step.ReplaceEntry v) replies new = FindsNothing old (Pair None) replies new
@@ -73,15 +65,16 @@ module _ {K V B S : Type 0} (eq : K → K → Bool) (Says : K → V → B → Ty
   VacantStep old k step.RemoveEntry replies new = FindsNothing old (Pair None) replies new
 
   -- a step at the place of the key, or where it is absent
-  abbrev pub EntrySteps : MapState K V S → K → EntryStep V → List (Reply K V B) → MapState K V S → Type 0
-  EntrySteps old k step replies new =
+  abbrev pub EntrySteps : (K → V → B → Type 0) → MapState K V S → K → EntryStep V → List (Reply K V B)
+      → MapState K V S → Type 0
+  EntrySteps Says old k step replies new =
       MatchOption (place_of (eq k) old.entries) (VacantStep old k step replies new)
       (λ j. OccupiedStep Says old j k step replies new)
 
--- the step reads the pair of its key, an `or_insert` also the one that goes in
+-- the step reads the pair of its key
 abbrev pub ReadAtEntry : {K V S : Type 0} → (K → K → Bool) → MapState K V S → K → EntryStep V → K × V → Type 0
 ReadAtEntry eq old k step.Get pair = lookup_entry (eq k) old.entries ≡ Some pair
-ReadAtEntry eq old k (step.OrInsert v) pair = unwrap_or (lookup_entry (eq k) old.entries) (k, v) ≡ pair
+ReadAtEntry eq old k (step.OrInsert v) pair = lookup_entry (eq k) old.entries ≡ Some pair
 ReadAtEntry eq old k step.ToFront pair = lookup_entry (eq k) old.entries ≡ Some pair
 ReadAtEntry eq old k step.ToBack pair = lookup_entry (eq k) old.entries ≡ Some pair
 ReadAtEntry eq old k step pair = ⊥

@@ -5,6 +5,7 @@ use Rattle.std.specs.Fn.{Shared, FnReturns}
 use Rattle.std.specs.Borrow.{Bor}
 use Rattle.hashlink_model.specs.MapState.{MapState}
 use Rattle.hashlink_run.specs.declared.replies.Reply.{Reply}
+use Rattle.hashlink_run.specs.declared.replies.Reply.TheVariants.{Seen}
 
 module _ {F K V B : Type 0} (g : Shared F (Bor K × (Bor V × Unit {0})) B) (f : F) where
   -- f may be called at references to k and v
@@ -31,11 +32,11 @@ module _ {K V B : Type 0} (Says : K → V → B → Type 0) where
   SaysOf None (Some said) = ⊥
   SaysOf (Some pair) None = ⊥
 
-  -- the reply of this kind says it of the pair
-  abbrev pub Replies : (Option B → Reply K V B) → Option (K × V) → List (Reply K V B) → Type 0
-  Replies reply pair replies = (said : Option B) × SaysOf pair said × (replies ≡ reply said ∷ [])
+  -- the reply says it of the pair
+  abbrev pub Replies : Option (K × V) → List (Reply K V B) → Type 0
+  Replies pair replies = (said : Option B) × SaysOf pair said × (replies ≡ Seen said ∷ [])
 
   -- a pair is read where nothing changes
-  abbrev pub Reads : {S : Type 0} → MapState K V S → (Option B → Reply K V B) → Option (K × V)
-      → List (Reply K V B) → MapState K V S → Type 0
-  Reads old reply pair replies new = (new ≡ old) × Replies reply pair replies
+  abbrev pub Reads : {S : Type 0} → MapState K V S → Option (K × V) → List (Reply K V B)
+      → MapState K V S → Type 0
+  Reads old pair replies new = (new ≡ old) × Replies pair replies

@@ -9,7 +9,7 @@ use Rattle.hashlink_model.specs.Walk.{first_of, last_of}
 use Rattle.hashlink_run.specs.declared.commands.Command.{Command}
 use Rattle.hashlink_run.specs.declared.commands.Command.TheVariants as command
 use Rattle.hashlink_run.specs.declared.replies.Reply.{Reply}
-use Rattle.hashlink_run.specs.declared.replies.Reply.TheVariants.{Done, Value, Pair, Seen, AtPlace, Length}
+use Rattle.hashlink_run.specs.declared.replies.Reply.TheVariants.{Done, Value, Pair, Length}
 use Rattle.hashlink_run.specs.CallReplies.{insert_reply, shrink_reply}
 use Rattle.hashlink_run.specs.CursorSteps.{CursorSteps, ReadOnWalk, first_place}
 use Rattle.hashlink_run.specs.Keeps.{KeepsWhere}
@@ -28,7 +28,7 @@ module _ {K V B S : Type 0} (eq : K → K → Bool) (Says : K → V → B → Ty
   abbrev pub MovesAndReads : MapState K V S → K → ℕ → List (Reply K V B) → MapState K V S → Type 0
   MovesAndReads old k b replies new =
       Moves eq old new k b (lookup (eq k) old.entries)
-      × Replies Says Seen (lookup_entry (eq k) old.entries) replies
+      × Replies Says (lookup_entry (eq k) old.entries) replies
 
   -- from old, the map may answer the command by these replies and go on to new
   abbrev pub Step : MapState K V S → Command K V → List (Reply K V B) → MapState K V S → Type 0
@@ -37,7 +37,7 @@ module _ {K V B S : Type 0} (eq : K → K → Bool) (Says : K → V → B → Ty
   Step old (command.Replace k v) replies new =
       (answer : Result (Option V) (K × V)) × Replaces eq old new k v answer
       × (replies ≡ insert_reply answer ∷ [])
-  Step old (command.Get k) replies new = Reads Says old Seen (lookup_entry (eq k) old.entries) replies new
+  Step old (command.Get k) replies new = Reads Says old (lookup_entry (eq k) old.entries) replies new
   Step old (command.Remove k) replies new =
       RemovesKey eq old new k (lookup_entry (eq k) old.entries)
       × (replies ≡ Value (lookup (eq k) old.entries) ∷ [])
@@ -50,8 +50,8 @@ module _ {K V B S : Type 0} (eq : K → K → Bool) (Says : K → V → B → Ty
       PopsBack old new (last_of old.entries) × (replies ≡ Pair (last_of old.entries) ∷ [])
   Step old (command.ToFront k) replies new = MovesAndReads old k 0 replies new
   Step old (command.ToBack k) replies new = MovesAndReads old k (length old.entries) replies new
-  Step old command.Front replies new = Reads Says old AtPlace (first_of old.entries) replies new
-  Step old command.Back replies new = Reads Says old AtPlace (last_of old.entries) replies new
+  Step old command.Front replies new = Reads Says old (first_of old.entries) replies new
+  Step old command.Back replies new = Reads Says old (last_of old.entries) replies new
   Step old command.Len replies new = (new ≡ old) × (replies ≡ Length (length old.entries) ∷ [])
   Step old command.Clear replies new = Clears old new × (replies ≡ Done ∷ [])
   Step old command.Shrink replies new =

@@ -11,7 +11,7 @@ use Rattle.hashlink_weighted.specs.declared.error.WeightError.TheVariants as err
 use Rattle.hashlink_run.specs.declared.cache_commands.WeightedCommand.{WeightedCommand}
 use Rattle.hashlink_run.specs.declared.cache_commands.WeightedCommand.TheVariants.{Insert, Get, Peek, Remove}
 use Rattle.hashlink_run.specs.declared.replies.Reply.{Reply}
-use Rattle.hashlink_run.specs.declared.replies.Reply.TheVariants.{Value, Seen, Refused, TooHeavy}
+use Rattle.hashlink_run.specs.declared.replies.Reply.TheVariants.{Value, Refused, TooHeavy}
 use Rattle.hashlink_run.specs.Reads.{Replies}
 
 -- the reply to an insert: the old value, or the pair handed back
@@ -43,7 +43,7 @@ module _ {K V B S : Type 0} (eq : K → K → Bool) (Says : K → V → B → Ty
       (answer : Result (Option V) (WeightError K V)) × InsertsWithin eq old new k v weight answer
       × (replies ≡ weighted_reply answer ∷ [])
   WeightedStep old (Get k) replies new =
-      WeightedGets eq old new k × Replies Says Seen (named_pair eq old k) replies
-  WeightedStep old (Peek k) replies new = (new ≡ old) × Replies Says Seen (named_pair eq old k) replies
+      WeightedGets eq old new k × Replies Says (named_pair eq old k) replies
+  WeightedStep old (Peek k) replies new = (new ≡ old) × Replies Says (named_pair eq old k) replies
   WeightedStep old (Remove k) replies new =
       WeightedRemoves eq old new k × (replies ≡ Value (value_of eq old k) ∷ [])

@@ -67,7 +67,7 @@ pub enum Command<K, V> {
 pub enum EntryStep<V> {
     /// Reads the pair.
     Get,
-    /// Moves the pair to the back, or inserts the given key with the value at the back. Then reads the pair.
+    /// Moves the pair to the back and reads it, or inserts the given key with the value at the back.
     OrInsert(V),
     /// Sets the value of the pair and moves it to the back, or inserts the given key with the value at the
     /// back.
@@ -211,8 +211,8 @@ where
         Command::Get(key) => Reply::Seen(said_of(map.get_key_value(&key), says)),
         Command::ToFront(key) => Reply::Seen(to_front(map, &key, says)),
         Command::ToBack(key) => Reply::Seen(to_back(map, &key, says)),
-        Command::Front => Reply::AtPlace(said_of(map.front(), says)),
-        Command::Back => Reply::AtPlace(said_of(map.back(), says)),
+        Command::Front => Reply::Seen(said_of(map.front(), says)),
+        Command::Back => Reply::Seen(said_of(map.back(), says)),
         Command::Entry(key, step) => reply_of_entry(map, key, step, says),
         command => reply_unshown(map, command),
     }

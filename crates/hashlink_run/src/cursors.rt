@@ -58,15 +58,15 @@ where
     match step {
         CursorStep::Next => {
             cursor.move_next();
-            Reply::AtPlace(said_of(cursor.current_pair(), says))
+            Reply::Seen(said_of(cursor.current_pair(), says))
         }
         CursorStep::Prev => {
             cursor.move_prev();
-            Reply::AtPlace(said_of(cursor.current_pair(), says))
+            Reply::Seen(said_of(cursor.current_pair(), says))
         }
-        CursorStep::Current => Reply::AtPlace(said_of(cursor.current_pair(), says)),
-        CursorStep::PeekNext => Reply::AtPlace(said_of(cursor.next_pair(), says)),
-        CursorStep::PeekPrev => Reply::AtPlace(said_of(cursor.prev_pair(), says)),
+        CursorStep::Current => Reply::Seen(said_of(cursor.current_pair(), says)),
+        CursorStep::PeekNext => Reply::Seen(said_of(cursor.next_pair(), says)),
+        CursorStep::PeekPrev => Reply::Seen(said_of(cursor.prev_pair(), says)),
         CursorStep::Before(key, value) => insert_reply(cursor.insert_before(key, value)),
         CursorStep::After(key, value) => insert_reply(cursor.insert_after(key, value)),
     }

@@ -10,8 +10,8 @@ use hashlink_map::{Entry, LinkedHashMap, OccupiedEntry};
 use std::hash::{BuildHasher, Hash};
 
 /// Runs the step at the key's place in the map, with the given key, and returns its reply. `says` has to be
-/// callable on the pair that the step reads; an `OrInsert` also reads one that it inserts. It costs what the
-/// methods of an entry cost that the step names. If it fails to allocate, it replies `Refused` with the pair.
+/// callable on the pair that the step reads. It costs what the methods of an entry cost that the step names.
+/// If it fails to allocate, it replies `Refused` with the pair.
 pub fn reply_of_entry<K, V, S, B, F>(
     map: &mut LinkedHashMap<K, V, S>,
     key: K,
@@ -54,11 +54,8 @@ where
         // What an insert lends or hands back is bound whole, so that it is known what becomes of the map.
         Entry::Vacant(entry) => match step {
             EntryStep::Get | EntryStep::ToFront | EntryStep::ToBack => Reply::Seen(None),
-            EntryStep::OrInsert(value) => match entry.insert_entry(value) {
-                Ok(inserted) => {
-                    let (key, value) = inserted.get_key_value();
-                    Reply::Inserted(says(key, value))
-                }
+            EntryStep::OrInsert(value) => match entry.insert(value) {
+                Ok(_value) => Reply::Seen(None),
                 Err(pair) => Reply::Refused(pair.0, pair.1),
             },
             EntryStep::Insert(value) => match entry.insert(value) {

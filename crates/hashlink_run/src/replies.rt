@@ -12,17 +12,12 @@ pub enum Reply<K, V, B = bool> {
     Pair(Option<(K, V)>),
     /// A stored key, if there was one: of a replaced key the old one.
     Key(Option<K>),
-    /// What the closure returned for the pair of the key that was named, if there was one.
+    /// What the closure returned for the pair that was there, if any.
     Seen(Option<B>),
-    /// What the closure returned for the pair that was inserted, since the key that was named was absent.
-    Inserted(B),
-    /// What the closure returned for the pair at an end of the map, or at the place of a cursor, if there was
-    /// one.
-    AtPlace(Option<B>),
     /// The number of pairs.
     Length(usize),
     /// The pair that was not inserted since an allocation failed.
     Refused(K, V),
-    /// The pair that was not inserted since its weight alone is above the budget.
+    /// The pair that a cache with a budget did not insert since its weight alone is above that.
     TooHeavy(K, V),
 }

@@ -8,12 +8,14 @@ use Rattle.std.specs.declared.alloc.AllocError.{AllocError}
 use Rattle.hashlink_model.specs.MapState.{MapState, map_state, empty_map, Inserts}
 use Rattle.hashlink_core.specs.declared.hash_builder.DefaultHashBuilder.{DefaultHashBuilder}
 use Rattle.hashlink_run.specs.declared.replies.Reply.{Reply}
-use Rattle.hashlink_run.specs.declared.replies.Reply.TheVariants.{Done, Seen, AtPlace, Pair, Value, Length}
+use Rattle.hashlink_run.specs.declared.replies.Reply.TheVariants.{Done, Seen, Pair, Value, Length}
 use Rattle.hashlink_run.specs.Reads.{SaysOf, Replies}
 use Rattle.hashlink_run.specs.CallReplies.{insert_reply, shrink_reply}
 use Rattle.hashlink_text.specs.Text.{IsTranscript, LinesRun}
 use Rattle.hashlink_text.specs.Transcript.{Shows, LineShows, ShowsAll, Itself, ended, shown_by, list_shown}
 use Rattle.hashlink_text.specs.Transcript.{reply_shown, replies_shown}
+use Rattle.hashlink_text.specs.declared.shown.Form.{Form}
+use Rattle.hashlink_text.specs.declared.shown.Form.TheVariants.{OfValue, Whole}
 use Rattle.hashlink_text.proofs.ReadSo.{read_of, runs_read, shows_read}
 
 abbrev Pairs : Type 0
@@ -26,9 +28,9 @@ said_itself None (Some q) s = absurd s
 said_itself (Some p) None s = absurd s
 said_itself (Some p) (Some q) s = ap Some s
 
-itself_read : (reply : Option (ℕ × ℕ) → Reply ℕ ℕ (ℕ × ℕ)) (pair : Option (ℕ × ℕ))
-    (replies : List (Reply ℕ ℕ (ℕ × ℕ))) → Replies Itself reply pair replies → replies ≡ reply pair ∷ []
-itself_read reply pair replies h = h.2 ∙ ap (λ o. reply o ∷ []) (said_itself pair h.0 h.1)
+itself_read : (pair : Option (ℕ × ℕ)) (replies : List (Reply ℕ ℕ (ℕ × ℕ))) → Replies Itself pair replies
+    → replies ≡ Seen pair ∷ []
+itself_read pair replies h = h.2 ∙ ap (λ o. Seen o ∷ []) (said_itself pair h.0 h.1)
 
 shrunk : (answer : Result (Unit {0}) AllocError) → IsOk answer
     → shrink_reply {K = ℕ} {V = ℕ} {B = ℕ × ℕ} answer ≡ Done
@@ -67,23 +69,23 @@ module _ (S : Type 0) where
   }
 
   -- by one reply
-  replied : {es left : Pairs} (line : List ℕ) (reply : Reply ℕ ℕ (ℕ × ℕ))
+  replied : {es left : Pairs} (line : List ℕ) (form : Form) (reply : Reply ℕ ℕ (ℕ × ℕ))
       → Of es line (λ old new text.
       (replies : List (Reply ℕ ℕ (ℕ × ℕ))) × (new.entries ≡ left) × (replies ≡ reply ∷ [])
-      × (text ≡ replies_shown replies))
-      → Answers es line (reply_shown reply) left
-  replied line reply shows = record {
+      × (text ≡ replies_shown form replies))
+      → Answers es line (reply_shown form reply) left
+  replied line form reply shows = record {
     by = λ n r w s new text h.
-        let a = shows n r w s new text h in (a.3 ∙ ap replies_shown a.2, a.1);
+        let a = shows n r w s new text h in (a.3 ∙ ap (replies_shown form) a.2, a.1);
   }
 
   -- and no change
-  finds : {es : Pairs} (line : List ℕ) (reply : Reply ℕ ℕ (ℕ × ℕ))
+  finds : {es : Pairs} (line : List ℕ) (form : Form) (reply : Reply ℕ ℕ (ℕ × ℕ))
       → Of es line (λ old new text.
       (replies : List (Reply ℕ ℕ (ℕ × ℕ))) × ((new ≡ old) × (replies ≡ reply ∷ []))
-      × (text ≡ replies_shown replies))
-      → Answers es line (reply_shown reply) es
-  finds line reply shows = replied line reply (λ n r w s new text h.
+      × (text ≡ replies_shown form replies))
+      → Answers es line (reply_shown form reply) es
+  finds line form reply shows = replied line form reply (λ n r w s new text h.
       let a = shows n r w s new text h in (a.0, ap (λ m. m.entries) a.1.0, a.1.1, a.2))
 
   iter : (es : Pairs) → Answers es (codes "iter") (list_shown es) es
@@ -91,8 +93,8 @@ module _ (S : Type 0) where
 
   get : (es : Pairs)
       → Answers es (codes "get 1") (shown_by (λ p. decimal p.1) (lookup_entry (nat_eq 1) es)) es
-  get es = finds (codes "get 1") (Seen (lookup_entry (nat_eq 1) es))
-      (λ n r w s new text h. (h.0, (h.1.0, itself_read Seen _ h.0 h.1.1), h.2))
+  get es = finds (codes "get 1") OfValue (Seen (lookup_entry (nat_eq 1) es))
+      (λ n r w s new text h. (h.0, (h.1.0, itself_read _ h.0 h.1.1), h.2))
 
   pub reads : (es : Pairs) → AnswersAll es (codes "get 1" ∷ codes "iter" ∷ [])
       (ended (shown_by (λ p. decimal p.1) (lookup_entry (nat_eq 1) es)) ++ (ended (list_shown es) ++ []))
@@ -112,8 +114,8 @@ module _ (S : Type 0) where
   inserts : (s : S) (mid new : MapState ℕ ℕ S) (r : Result (Option ℕ) (ℕ × ℕ)) (text : List ℕ)
       → Inserts nat_eq (empty_map s) mid 1 10 0 r
       → ShowsAll LineShows mid (codes "get 1" ∷ codes "iter" ∷ []) text new
-      → (ended (reply_shown (insert_reply r)) ++ text ≡ codes "-\n10\n1:10\n")
-      ⊎ (ended (reply_shown (insert_reply r)) ++ text ≡ codes "memory\n-\nempty\n")
+      → (ended (reply_shown OfValue (insert_reply r)) ++ text ≡ codes "-\n10\n1:10\n")
+      ⊎ (ended (reply_shown OfValue (insert_reply r)) ++ text ≡ codes "memory\n-\nempty\n")
   unfolding digits
   inserts s mid new (Ok None) text a h =
       inl (ap (λ m. codes "-\n" ++ m) ((reads ((1, 10) ∷ [])).all mid new text a.adds.entries h))
@@ -127,15 +129,15 @@ module _ (S : Type 0) where
       (codes "0\n-\n-\n-\nok\nok\nempty\n")
   unfolding digits
   ends =
-      next (finds (codes "len") (Length 0) (λ n r w s new text h. h))
-      (next (finds (codes "front") (AtPlace None)
-      (λ n r w s new text h. (h.0, (h.1.0, itself_read AtPlace None h.0 h.1.1), h.2)))
-      (next (finds (codes "pop_back") (Pair None)
+      next (finds (codes "len") OfValue (Length 0) (λ n r w s new text h. h))
+      (next (finds (codes "front") Whole (Seen None)
+      (λ n r w s new text h. (h.0, (h.1.0, itself_read None h.0 h.1.1), h.2)))
+      (next (finds (codes "pop_back") OfValue (Pair None)
       (λ n r w s new text h. (h.0, (h.1.0.step, h.1.1), h.2)))
-      (next (finds (codes "to_front 1") (Seen None)
-      (λ n r w s new text h. (h.0, (h.1.0.step, itself_read Seen None h.0 h.1.1), h.2)))
-      (next (replied (codes "clear") Done (λ n r w s new text h. (h.0, h.1.0.entries, h.1.1, h.2)))
-      (next (replied (codes "shrink") Done (λ n r w s new text h.
+      (next (finds (codes "to_front 1") OfValue (Seen None)
+      (λ n r w s new text h. (h.0, (h.1.0.step, itself_read None h.0 h.1.1), h.2)))
+      (next (replied (codes "clear") OfValue Done (λ n r w s new text h. (h.0, h.1.0.entries, h.1.1, h.2)))
+      (next (replied (codes "shrink") OfValue Done (λ n r w s new text h.
       let done = shrunk h.1.0 (h.1.1.empty refl).0 in
       (h.0, h.1.1.entries, h.1.2 ∙ ap (λ reply. reply ∷ []) done, h.2)))
       (next (iter []) no_line))))))
@@ -145,10 +147,10 @@ module _ (S : Type 0) where
       codes "entry 1 remove" ∷ codes "iter" ∷ [])
       (codes "-\n-\n-\n-\nempty\n")
   entries =
-      next (finds (codes "entry 1 get") (Seen None) (λ n r w s new text h. h))
-      (next (finds (codes "entry 1 replace_entry 5") (Pair None) (λ n r w s new text h. h))
-      (next (finds (codes "entry 1 to_back") (Seen None) (λ n r w s new text h. h))
-      (next (finds (codes "entry 1 remove") (Value None) (λ n r w s new text h. h))
+      next (finds (codes "entry 1 get") OfValue (Seen None) (λ n r w s new text h. h))
+      (next (finds (codes "entry 1 replace_entry 5") OfValue (Pair None) (λ n r w s new text h. h))
+      (next (finds (codes "entry 1 to_back") OfValue (Seen None) (λ n r w s new text h. h))
+      (next (finds (codes "entry 1 remove") OfValue (Value None) (λ n r w s new text h. h))
       (next (iter []) no_line))))
 
 -- a text to a map
@@ -165,6 +167,6 @@ insert_answers text t =
     let run = runs_read DefaultHashBuilder (codes "map") lines text t in
     let r = run.2 in
     let done = shows_read (empty_map run.0) r.1 (codes "insert 1 10") r.0 r.3 in
-    let is = r.5 ∙ ap (λ a. ended a ++ r.2) (done.2 ∙ ap replies_shown done.1.2) in
+    let is = r.5 ∙ ap (λ a. ended a ++ r.2) (done.2 ∙ ap (replies_shown OfValue) done.1.2) in
     subst (λ t. (t ≡ codes "-\n10\n1:10\n") ⊎ (t ≡ codes "memory\n-\nempty\n")) (sym is)
     (inserts DefaultHashBuilder run.0 r.1 run.1 done.1.0 r.2 done.1.1 r.4)

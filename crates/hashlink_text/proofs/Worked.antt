@@ -6,7 +6,7 @@ use Rattle.std.specs.Int.{IsPowerOfTwo}
 use Rattle.hashlink_model.specs.MapState.{MapState, map_state, empty_map, Adds, Changes}
 use Rattle.hashlink_core.specs.declared.hash_builder.DefaultHashBuilder.{DefaultHashBuilder}
 use Rattle.hashlink_core.specs.Hashing.{default_builder}
-use Rattle.hashlink_run.specs.declared.replies.Reply.TheVariants.{Value, Pair, Seen, Inserted}
+use Rattle.hashlink_run.specs.declared.replies.Reply.TheVariants.{Value, Pair, Seen}
 use Rattle.hashlink_text.specs.Text.{IsTranscript, LinesRun}
 use Rattle.hashlink_text.specs.Transcript.{LineShows, Shows, ShowsAll, ended}
 use Rattle.hashlink_text.proofs.ReadSo.{read_of, runs_mode, shows_line}
@@ -126,12 +126,8 @@ worked_entries =
     (first (codes "entry 1 or_insert 5") (codes "10") one
     (Seen (Some (1, 10)) ∷ [], (changes _ _ 1 4 0 6 (lit≤ tt), (Some (1, 10), refl, refl)), refl)
     (first (codes "entry 2 or_insert 21") (codes "21") two (
-      Inserted (2, 21) ∷ [],
-      (
-        Ok tt,
-        record { absent = refl; adds = adds ((1, 10) ∷ []) 4 (2, 21) (1, refl) },
-        ((2, 21), refl, refl),
-      ),
+      Seen None ∷ [],
+      (Ok tt, record { absent = refl; adds = adds ((1, 10) ∷ []) 4 (2, 21) (1, refl) }, refl),
       refl,
     )
     (first (codes "entry 1 replace_entry 12") (codes "1:10") end (

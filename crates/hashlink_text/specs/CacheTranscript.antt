@@ -9,6 +9,7 @@ use Rattle.hashlink_text.specs.declared.cache_line.CacheLine.TheVariants.{Do, Le
 use Rattle.hashlink_run.specs.declared.replies.Reply.{Reply}
 use Rattle.hashlink_run.specs.CacheCalls.{event_of}
 use Rattle.hashlink_run.specs.CacheStep.{CacheStep}
+use Rattle.hashlink_text.specs.declared.shown.Form.TheVariants.{OfValue}
 use Rattle.hashlink_text.specs.Transcript.{Itself, ShowsAll, ended, shown_by, list_shown, replies_shown}
 
 module _ {S : Type 0} where
@@ -19,7 +20,7 @@ module _ {S : Type 0} where
   CacheShows old (Some Iter) text new = (text ≡ list_shown old.map.entries) × (new ≡ old)
   CacheShows old (Some (Do command)) text new =
       (replies : List (Reply ℕ ℕ (ℕ × ℕ))) × CacheStep nat_eq Itself old command replies new
-      × (text ≡ replies_shown replies)
+      × (text ≡ replies_shown OfValue replies)
 
   abbrev pub CacheLineShows : CacheState ℕ ℕ S → List ℕ → List ℕ → CacheState ℕ ℕ S → Type 0
   CacheLineShows old line text new =

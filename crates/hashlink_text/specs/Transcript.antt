@@ -5,13 +5,18 @@
 use Rattle.std.specs.Prelude.{◌≡◌, ℕ, List, [], ◌∷◌, ◌++◌, map, codes, decimal, nat_eq, Option, None, Some}
 use Rattle.std.specs.Prelude.{string_bytes}
 use Rattle.std.specs.List.{join_with_byte}
+use Rattle.std.specs.Option.{option_map_or}
 use Rattle.std.specs.declared.string.String.{String}
 use Rattle.hashlink_model.specs.MapState.{MapState}
 use Rattle.hashlink_text.specs.Spelling.{Said, Do, Cursor, Iter, Says, spelled}
+use Rattle.hashlink_text.specs.declared.shown.Form.{Form}
+use Rattle.hashlink_text.specs.declared.shown.Form.TheVariants.{OfValue, Whole, OrGiven}
+use Rattle.hashlink_run.specs.declared.commands.Command.{Command}
+use Rattle.hashlink_run.specs.declared.commands.Command.TheVariants as command
+use Rattle.hashlink_run.specs.declared.commands.EntryStep.TheVariants as step
 use Rattle.hashlink_run.specs.declared.replies.Reply.{Reply}
 use Rattle.hashlink_run.specs.declared.replies.Reply.TheVariants.{Done, Denied, Value, Pair, Key, Seen}
-use Rattle.hashlink_run.specs.declared.replies.Reply.TheVariants.{Inserted, AtPlace, Length, Refused}
-use Rattle.hashlink_run.specs.declared.replies.Reply.TheVariants.{TooHeavy}
+use Rattle.hashlink_run.specs.declared.replies.Reply.TheVariants.{Length, Refused, TooHeavy}
 use Rattle.hashlink_run.specs.CursorSteps.{CursorSteps}
 use Rattle.hashlink_run.specs.Keeps.{IsEven}
 use Rattle.hashlink_run.specs.Step.{Step}
@@ -35,24 +40,35 @@ abbrev pub list_shown : List (ℕ × ℕ) → List ℕ
 list_shown [] = codes "empty"
 list_shown (pair ∷ pairs) = join_with_byte 32 (map pair_shown (pair ∷ pairs))
 
--- a reply, where what is said of a pair that was read is the pair itself. It is shown whole where it stood at
--- a place, and by its value where its key was named
-abbrev pub reply_shown : Reply ℕ ℕ (ℕ × ℕ) → List ℕ
-reply_shown Done = codes "ok"
-reply_shown Denied = codes "memory"
-reply_shown (Value value) = shown_by decimal value
-reply_shown (Pair pair) = shown_by pair_shown pair
-reply_shown (Key key) = shown_by decimal key
-reply_shown (Seen pair) = shown_by (λ p. decimal p.1) pair
-reply_shown (Inserted pair) = decimal pair.1
-reply_shown (AtPlace pair) = shown_by pair_shown pair
-reply_shown (Length n) = decimal n
-reply_shown (Refused key value) = codes "memory"
-reply_shown (TooHeavy key value) = codes "heavy"
+-- how a command to a map shows a pair that it read: one at an end or at a place of a cursor whole, one whose
+-- key was named by its value. Where an `or_insert` found none, its own value is shown, which then stands
+abbrev pub form_of : Command ℕ ℕ → Form
+form_of command.Front = Whole
+form_of command.Back = Whole
+form_of (command.Cursor steps) = Whole
+form_of (command.Entry k (step.OrInsert v)) = OrGiven v
+form_of command = OfValue
+
+abbrev pub read_shown : Form → Option (ℕ × ℕ) → List ℕ
+read_shown OfValue pair = shown_by (λ p. decimal p.1) pair
+read_shown Whole pair = shown_by pair_shown pair
+read_shown (OrGiven v) pair = decimal (option_map_or (λ p. p.1) pair v)
+
+-- a reply, where what is said of a pair that was read is the pair itself
+abbrev pub reply_shown : Form → Reply ℕ ℕ (ℕ × ℕ) → List ℕ
+reply_shown form Done = codes "ok"
+reply_shown form Denied = codes "memory"
+reply_shown form (Value value) = shown_by decimal value
+reply_shown form (Pair pair) = shown_by pair_shown pair
+reply_shown form (Key key) = shown_by decimal key
+reply_shown form (Seen pair) = read_shown form pair
+reply_shown form (Length n) = decimal n
+reply_shown form (Refused key value) = codes "memory"
+reply_shown form (TooHeavy key value) = codes "heavy"
 
 -- the replies, with one space between two
-abbrev pub replies_shown : List (Reply ℕ ℕ (ℕ × ℕ)) → List ℕ
-replies_shown replies = join_with_byte 32 (map reply_shown replies)
+abbrev pub replies_shown : Form → List (Reply ℕ ℕ (ℕ × ℕ)) → List ℕ
+replies_shown form replies = join_with_byte 32 (map (reply_shown form) replies)
 
 -- of a pair that is read, the pair itself is said
 abbrev pub Itself : ℕ → ℕ → ℕ × ℕ → Type 0
@@ -67,10 +83,10 @@ module _ {S : Type 0} where
   Shows old (Some Iter) text new = (text ≡ list_shown old.entries) × (new ≡ old)
   Shows old (Some (Do command)) text new =
       (replies : List (Reply ℕ ℕ (ℕ × ℕ))) × Step nat_eq Itself IsEven old command replies new
-      × (text ≡ replies_shown replies)
+      × (text ≡ replies_shown (form_of command) replies)
   Shows old (Some (Cursor steps)) text new =
       (replies : List (Reply ℕ ℕ (ℕ × ℕ))) × CursorSteps nat_eq Itself old steps replies new
-      × (text ≡ replies_shown replies)
+      × (text ≡ replies_shown Whole replies)
 
   abbrev pub LineShows : MapState ℕ ℕ S → List ℕ → List ℕ → MapState ℕ ℕ S → Type 0
   LineShows old line text new = (said : Option Said) × Says spelled line said × Shows old said text new

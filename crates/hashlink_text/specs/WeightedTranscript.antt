@@ -6,6 +6,7 @@ use Rattle.hashlink_run.specs.WeightedStep.{WeightedStep}
 use Rattle.hashlink_text.specs.Spelling.{Says, weighted_spelled}
 use Rattle.hashlink_text.specs.declared.weighted_line.WeightedLine.{WeightedLine}
 use Rattle.hashlink_text.specs.declared.weighted_line.WeightedLine.TheVariants.{Do, Total, Len, Iter}
+use Rattle.hashlink_text.specs.declared.shown.Form.TheVariants.{OfValue}
 use Rattle.hashlink_text.specs.Transcript.{Itself, list_shown, replies_shown}
 
 -- the entries without their weights
@@ -18,7 +19,7 @@ module _ {S : Type 0} where
   WeightedShows old None text new = (text ≡ codes "bad") × (new ≡ old)
   WeightedShows old (Some (Do command)) text new =
       (replies : List (Reply ℕ ℕ (ℕ × ℕ))) × WeightedStep nat_eq Itself old command replies new
-      × (text ≡ replies_shown replies)
+      × (text ≡ replies_shown OfValue replies)
   WeightedShows old (Some Total) text new = (text ≡ decimal (total_weight old.map.entries)) × (new ≡ old)
   WeightedShows old (Some Len) text new = (text ≡ decimal (length old.map.entries)) × (new ≡ old)
   WeightedShows old (Some Iter) text new = (text ≡ list_shown (pairs_of old.map.entries)) × (new ≡ old)

@@ -9,6 +9,7 @@ ghost use Rattle.hashlink_text.specs.Text.{ModeRun};
 ghost use Rattle.hashlink_text.specs.Transcript.{Pushes, PushesLine};
 
 use crate::reading::{AnswersLines, answer_lines};
+use crate::shown::Form;
 use crate::text::{push_list, push_replies};
 use crate::{CacheLine, Lines};
 use hashlink_lru::LruCache;
@@ -49,7 +50,7 @@ fn answer(
     match line {
         Some(CacheLine::Do(command)) => {
             let reply = answer_cache(cache, command, &|key: &u64, value: &u64| (*key, *value));
-            push_replies(&[reply], out)
+            push_replies(Form::OfValue, &[reply], out)
         }
         Some(CacheLine::Len) => writeln!(out, "{}", cache.len()),
         Some(CacheLine::Iter) => push_list(cache.iter(), out),

@@ -15,6 +15,7 @@ mod pair_line;
 mod pair_text;
 mod reading;
 mod serving;
+mod shown;
 pub mod spelling_laws;
 mod tables;
 mod text;

@@ -10,6 +10,7 @@ ghost use Rattle.hashlink_text.specs.Text.{ModeRun};
 ghost use Rattle.hashlink_text.specs.Transcript.{LineShows, Pushes, PushesLine, Shows};
 
 use crate::reading::{AnswersLines, answer_lines};
+use crate::shown::form_of;
 use crate::text::{push_list, push_replies};
 use crate::{Line, Lines};
 use hashlink_map::LinkedHashMap;
@@ -58,6 +59,7 @@ impl MapWithReplies {
     {
         match line {
             Some(Line::Do(command)) => {
+                let form = form_of(&command);
                 self.replies.clear();
                 answer_command(
                     &mut self.map,
@@ -66,7 +68,7 @@ impl MapWithReplies {
                     &|_: &u64, value: &u64| *value % 2 == 0,
                     &mut self.replies,
                 )?;
-                push_replies(&self.replies, out)
+                push_replies(form, &self.replies, out)
             }
             Some(Line::Iter) => push_list(self.map.iter(), out),
             None => writeln!(out, "bad"),

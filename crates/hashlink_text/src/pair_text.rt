@@ -8,6 +8,7 @@ ghost use Rattle.hashlink_text.specs.CacheTranscript.{PairRun, PairShows, lists_
 ghost use Rattle.hashlink_text.specs.Text.{ModeRun};
 ghost use Rattle.hashlink_text.specs.Transcript.{Pushes, PushesLine, ended, shown_by};
 
+use crate::shown::Form;
 use crate::text::{push_list, push_reply};
 use crate::{Lines, pair_command};
 use hashlink_lru::LruCache;
@@ -75,9 +76,9 @@ fn push_answers(small: Option<u64>, large: Option<u64>, out: &mut String) -> Res
     ensures { OnOk result (string_bytes out.new
         ≡ string_bytes out.old ++ ended (shown_by decimal small ++ (32 ∷ shown_by decimal large))) }
 {
-    push_reply(Reply::Value(small), out)?;
+    push_reply(Form::OfValue, Reply::Value(small), out)?;
     write!(out, " ")?;
-    push_reply(Reply::Value(large), out)?;
+    push_reply(Form::OfValue, Reply::Value(large), out)?;
     writeln!(out)
 }
 

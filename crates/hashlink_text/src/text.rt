@@ -2,11 +2,13 @@ ghost use Rattle.std.specs.Prelude.{◌≡◌, [], ◌++◌, IfOk, IsOk, OnOk, s
 ghost use Rattle.hashlink_core.specs.declared.hash_builder.DefaultHashBuilder.{DefaultHashBuilder};
 ghost use Rattle.hashlink_text.specs.Lines.{lines_of};
 ghost use Rattle.hashlink_text.specs.Text.{IsTranscript, ModeRun};
-ghost use Rattle.hashlink_text.specs.Transcript.{Pushes, ended, list_shown, reply_shown, replies_shown};
+ghost use Rattle.hashlink_text.specs.Transcript.{Pushes, ended, list_shown, read_shown, reply_shown};
+ghost use Rattle.hashlink_text.specs.Transcript.{replies_shown};
 
 use crate::cache_text::run_cache_lines;
 use crate::map_text::run_map_lines;
 use crate::pair_text::run_pair_lines;
+use crate::shown::Form;
 use crate::weighted_text::run_weighted_lines;
 use crate::{Lines, Mode, mode_of};
 use hashlink_map::Iter;
@@ -53,47 +55,54 @@ fn run_lines(
 
 // Pushes the line that shows the replies to a command.
 pub(crate) fn push_replies(
+    form: Form,
     replies: &[Reply<u64, u64, (u64, u64)>],
     out: &mut String,
 ) -> Result<(), AllocError>
-    ensures { OnOk result (string_bytes out.new ≡ string_bytes out.old ++ ended (replies_shown replies.now)) }
+    ensures { OnOk result (string_bytes out.new ≡ string_bytes out.old
+        ++ ended (replies_shown form replies.now)) }
 {
     let mut rest = replies.iter();
     let Some(first) = rest.next() else {
         return writeln!(out);
     };
-    push_reply(*first, out)?;
+    push_reply(form, *first, out)?;
     for reply in rest {
         write!(out, " ")?;
-        push_reply(*reply, out)?;
+        push_reply(form, *reply, out)?;
     }
     writeln!(out)
 }
 
 // Pushes one reply.
 pub(crate) fn push_reply(
+    form: Form,
     reply: Reply<u64, u64, (u64, u64)>,
     out: &mut String,
 ) -> Result<(), AllocError>
-    ensures { OnOk result (string_bytes out.new ≡ string_bytes out.old ++ reply_shown reply) }
+    ensures { OnOk result (string_bytes out.new ≡ string_bytes out.old ++ reply_shown form reply) }
 {
     match reply {
         Reply::Done => write!(out, "ok"),
         Reply::Denied | Reply::Refused(..) => write!(out, "memory"),
         Reply::TooHeavy(..) => write!(out, "heavy"),
-        Reply::Value(Some(value))
-        | Reply::Key(Some(value))
-        | Reply::Seen(Some((_, value)))
-        | Reply::Inserted((_, value)) => write!(out, "{value}"),
-        Reply::Pair(Some((key, value))) | Reply::AtPlace(Some((key, value))) => {
-            write!(out, "{key}:{value}")
-        }
-        Reply::Value(None)
-        | Reply::Key(None)
-        | Reply::Seen(None)
-        | Reply::Pair(None)
-        | Reply::AtPlace(None) => write!(out, "-"),
+        Reply::Value(Some(value)) | Reply::Key(Some(value)) => write!(out, "{value}"),
+        Reply::Pair(Some((key, value))) => write!(out, "{key}:{value}"),
+        Reply::Value(None) | Reply::Key(None) | Reply::Pair(None) => write!(out, "-"),
+        Reply::Seen(pair) => push_read(form, pair, out),
         Reply::Length(number) => write!(out, "{number}"),
+    }
+}
+
+// Pushes what a command read.
+fn push_read(form: Form, pair: Option<(u64, u64)>, out: &mut String) -> Result<(), AllocError>
+    ensures { OnOk result (string_bytes out.new ≡ string_bytes out.old ++ read_shown form pair) }
+{
+    match (form, pair) {
+        (Form::Whole, Some((key, value))) => write!(out, "{key}:{value}"),
+        (_, Some((_, value))) => write!(out, "{value}"),
+        (Form::OrGiven(value), None) => write!(out, "{value}"),
+        (_, None) => write!(out, "-"),
     }
 }
 

@@ -8,6 +8,7 @@ ghost use Rattle.hashlink_text.specs.Transcript.{Pushes, PushesLine, ended, list
 ghost use Rattle.hashlink_text.specs.WeightedTranscript.{WeightedLineShows, WeightedShows, pairs_of};
 
 use crate::reading::{AnswersLines, answer_lines};
+use crate::shown::Form;
 use crate::text::push_replies;
 use crate::{Lines, WeightedLine};
 use hashlink_run::answer_weighted;
@@ -47,7 +48,7 @@ fn answer(
     match line {
         Some(WeightedLine::Do(command)) => {
             let reply = answer_weighted(cache, command, &|key: &u64, value: &u64| (*key, *value));
-            push_replies(&[reply], out)
+            push_replies(Form::OfValue, &[reply], out)
         }
         Some(WeightedLine::Total) => writeln!(out, "{}", cache.total()),
         Some(WeightedLine::Len) => writeln!(out, "{}", cache.len()),

@@ -161,13 +161,9 @@ fn said(reply: Reply<u64, u64>) -> Answer {
         Reply::Value(Some(item)) | Reply::Key(Some(item)) => Answer::Word(Word::Item(item, 0)),
         Reply::Pair(Some((key, value))) => Answer::Word(word_of((&key, &value))),
         Reply::Seen(Some(is_even)) => Answer::Word(Word::Is(is_even)),
-        Reply::Inserted(is_even) => Answer::Word(Word::Is(is_even)),
-        Reply::AtPlace(Some(is_even)) => Answer::Word(Word::Is(is_even)),
-        Reply::Value(None)
-        | Reply::Key(None)
-        | Reply::Pair(None)
-        | Reply::Seen(None)
-        | Reply::AtPlace(None) => Answer::Word(Word::Nothing),
+        Reply::Value(None) | Reply::Key(None) | Reply::Pair(None) | Reply::Seen(None) => {
+            Answer::Word(Word::Nothing)
+        }
         Reply::Length(length) => Answer::Word(Word::count(length)),
         Reply::Refused(key, value) | Reply::TooHeavy(key, value) => {
             Answer::Back(Word::Memory, word_of((&key, &value)))

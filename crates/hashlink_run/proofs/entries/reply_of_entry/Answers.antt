@@ -1,9 +1,8 @@
 use Rattle.std.proofs.Common.{rules, [], ◌∷◌, Some, None, refl, sym, ap, ◌∙◌, is_ok, Ok, Err, ⊎_elim}
-use Rattle.std.specs.Map.Iter.{deref_pair}
 use Rattle.hashlink_core.specs.Keyed.{state_of}
-use Rattle.hashlink_run.specs.declared.replies.Reply.TheVariants.{Value, Pair, Seen, Inserted, Refused}
+use Rattle.hashlink_run.specs.declared.replies.Reply.TheVariants.{Value, Pair, Seen, Refused}
 use Rattle.hashlink_run.specs.Reads.{ClosureSays}
-use Rattle.hashlink_run.proofs.AtEntry.{at_occupied, at_vacant, added, taken, read_new}
+use Rattle.hashlink_run.proofs.AtEntry.{at_occupied, at_vacant, added, taken}
 use Rattle.hashlink_run.proofs.AtEntry.{there, there_at_end, there_at_front}
 use Rattle.hashlink_run.proofs.entries.reply_of_entry.Goals as goal
 
@@ -23,7 +22,7 @@ said_of_entry-requires-in-OrInsert g c = record {
       (ap (λ e. e.place) c.to_back.ensures.stands) in
       let found = sym (there g.K.PartialEq.eq e _ _ refl refl) ∙ sym moved ∙ read in
       c.requires.says pair
-      (⊎_elim (λ given. rw (given.1, found) refl) (λ given. rw given found) c.in-OrInsert.is);
+      (⊎_elim (λ given. rw given.1 found) (λ given. rw given found) c.in-OrInsert.is);
 }
 
 pub said_of_entry-requires-in-ToFront : goal.said_of_entry-requires-in-ToFront
@@ -89,37 +88,20 @@ returns-in-Occupied g c =
     (c.remove_entry.result, c.remove_entry.ensures, refl) in
     search rules
 
-pub says-requires : goal.says-requires
-says-requires g c =
-    let pair = c.get_key_value.result in
-    let new =
-    read_new g.K.PartialEq.eq c.in-Vacant.ensures.entry c.in-Ok.ensures.adds c.in-Ok.ensures.last
-    c.get_key_value.ensures in
-    c.requires.says (deref_pair pair) (rw c.in-OrInsert-step.is new.1) pair.0 pair.1 refl refl
-
 pub returns-in-Ok : goal.returns-in-Ok
 returns-in-Ok g c =
-    let Says = ClosureSays g.F.Fn c.args.says.now in
-    let adds = c.in-Ok.ensures.adds in
-    let pair = c.get_key_value.result in
-    let new =
-    read_new g.K.PartialEq.eq c.in-Vacant.ensures.entry adds c.in-Ok.ensures.last c.get_key_value.ensures in
-    let said : Says c.in-Vacant.entry.key c.in-OrInsert-step.value c.says.result =
-    record {
-      key = pair.0;
-      value = pair.1;
-      shows = (ap (λ p. p.0) new.0, ap (λ p. p.1) new.0);
-      says = record { met = c.says.ensures };
-    } in
+    let lent = c.insert.follows in
+    let value = c.in-Ok._value.now in
+    let adds = lent.holds value (ap is_ok c.in-Ok.is) in
     let step =
-    at_vacant g.K.PartialEq.eq Says c.in-Vacant.ensures.entry c.in-OrInsert-step.is
-    (Inserted c.says.result ∷ []) (state_of c.in-Ok.inserted.map.now) refl
-    (Ok tt, adds, (c.says.result, said, refl)) in
+    at_vacant g.K.PartialEq.eq (ClosureSays g.F.Fn c.args.says.now) c.in-Vacant.ensures.entry
+    c.in-OrInsert-step.is (Seen None ∷ []) (state_of (lent.lender value)) refl
+    (Ok tt, added c.in-Ok.ensures.value adds, refl) in
     search rules
 
 pub returns-in-OrInsert-step : goal.returns-in-OrInsert-step
 returns-in-OrInsert-step g c =
-    let lent = c.insert_entry-in-OrInsert-step.follows in
+    let lent = c.insert.follows in
     let pair = c.in-Err.pair in
     let step =
     at_vacant g.K.PartialEq.eq (ClosureSays g.F.Fn c.args.says.now) c.in-Vacant.ensures.entry
@@ -129,7 +111,7 @@ returns-in-OrInsert-step g c =
 
 pub returns-in-Ok-insert : goal.returns-in-Ok-insert
 returns-in-Ok-insert g c =
-    let lent = c.insert.follows in
+    let lent = c.insert-in-Insert-step.follows in
     let value = c.in-Ok-insert._value.now in
     let adds = lent.holds value (ap is_ok c.in-Ok-insert.is) in
     let step =
@@ -140,7 +122,7 @@ returns-in-Ok-insert g c =
 
 pub returns-in-Insert-step : goal.returns-in-Insert-step
 returns-in-Insert-step g c =
-    let lent = c.insert.follows in
+    let lent = c.insert-in-Insert-step.follows in
     let pair = c.in-Err-insert.pair in
     let step =
     at_vacant g.K.PartialEq.eq (ClosureSays g.F.Fn c.args.says.now) c.in-Vacant.ensures.entry

@@ -4,5 +4,5 @@ use Rattle.hashlink_text.proofs.Lists.{following_shown}
 use Rattle.hashlink_text.proofs.text.push_replies.Given as goal
 
 abbrev pub invariant-loop-reply : goal.invariant-loop-reply
-invariant-loop-reply l = string_bytes l.out ++ following_shown reply_shown l.reply-iterator.rest.now
-    ≡ string_bytes l.fn.out ++ replies_shown l.fn.replies
+invariant-loop-reply l = string_bytes l.out ++ following_shown (reply_shown l.form) l.reply-iterator.rest.now
+    ≡ string_bytes l.fn.out ++ replies_shown l.form l.fn.replies

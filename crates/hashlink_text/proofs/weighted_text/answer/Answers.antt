@@ -1,5 +1,6 @@
 use Rattle.std.proofs.Common.{◌≡◌, codes, nat_eq, refl, ap, ◌∙◌, rules, [], ◌∷◌}
 use Rattle.std.proofs.lemmas.Result.{on_ok_weaker}
+use Rattle.hashlink_text.specs.declared.shown.Form.TheVariants.{OfValue}
 use Rattle.hashlink_text.specs.Transcript.{Itself, replies_shown}
 use Rattle.hashlink_run.proofs.CacheWider.{weighted_step-wider}
 use Rattle.hashlink_text.proofs.weighted_text.answer.Goals as goal
@@ -20,5 +21,5 @@ returns-in-Some-Do c =
     c.answer_weighted-reply.ensures in
     let said = rw c.in-Some-Do.is at c.in-Some-Do.field-0-is in
     rw (c.in-Some-Do.is, said)
-    (on_ok_weaker c.push_replies.result (λ e. (replies_shown replies, (replies, step, refl), e))
+    (on_ok_weaker c.push_replies.result (λ e. (replies_shown OfValue replies, (replies, step, refl), e))
     c.push_replies.ensures)

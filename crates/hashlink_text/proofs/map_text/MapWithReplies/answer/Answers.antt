@@ -1,4 +1,4 @@
-use Rattle.std.proofs.Common.{◌≡◌, ◌++◌, ◌%◌, ℕ, List, Some, codes, nat_eq, refl, ap, ◌∙◌, rules}
+use Rattle.std.proofs.Common.{◌≡◌, ◌++◌, ◌%◌, ℕ, List, Some, codes, nat_eq, refl, ap, ap₂, ◌∙◌, rules}
 use Rattle.std.proofs.Common.{string_bytes}
 use Rattle.std.proofs.lemmas.Result.{on_ok_weaker}
 use Rattle.hashlink_core.specs.Keyed.{state_of}
@@ -10,14 +10,14 @@ use Rattle.hashlink_run.specs.Keeps.{IsEven}
 use Rattle.hashlink_run.specs.Step.{Step}
 use Rattle.hashlink_text.specs.declared.line.Line.TheVariants.{Do}
 use Rattle.hashlink_text.specs.Spelling.{said}
-use Rattle.hashlink_text.specs.Transcript.{Shows, Itself, ended, replies_shown}
+use Rattle.hashlink_text.specs.Transcript.{Shows, Itself, ended, form_of, replies_shown}
 use Rattle.hashlink_run.proofs.AnyCommand.{step-wider}
 use Rattle.hashlink_text.proofs.map_text.MapWithReplies.answer.Goals as goal
 
 -- a command that was read is answered by its replies, the steps of a cursor among them
 shows-command : {S : Type 0} (old new : MapState ℕ ℕ S) (command : Command ℕ ℕ)
     (replies : List (Reply ℕ ℕ (ℕ × ℕ))) → Step nat_eq Itself IsEven old command replies new
-    → Shows old (Some (said (Do command))) (replies_shown replies) new
+    → Shows old (Some (said (Do command))) (replies_shown (form_of command) replies) new
 shows-command old new (Cursor steps) replies s = (replies, s, refl)
 shows-command old new command replies s = (replies, s, refl)
 
@@ -32,7 +32,7 @@ returns-in_ok-answer_command-in-Some-Do c =
     let answered = c.in_ok-answer_command-in-Some-Do.ensures.answered in
     let replies : c.deref.result.now ≡ answered.0 =
     c.deref.ensures.value ∙ answered.2 ∙ ap (λ old. old ++ answered.0) c.clear.ensures.items in
-    let shown = ap replies_shown replies in
+    let shown = ap₂ replies_shown c.form_of-form.ensures replies in
     let step = step-wider _ Itself
     (λ k v b s. let read : b ≡ (s.key.now, s.value.now) = search rules in
     read ∙ ap (λ x. (x, s.value.now)) s.shows.0 ∙ ap (λ y. (k, y)) s.shows.1) _ IsEven
@@ -44,7 +44,7 @@ returns-in_ok-answer_command-in-Some-Do c =
     rw (c.in-Some-Do.is, c.in-Some-Do.field-0-is)
     (on_ok_weaker c.push_replies.result
     (λ e. (
-      replies_shown answered.0,
+      replies_shown (form_of command) answered.0,
       shows,
       e ∙ ap (λ text. string_bytes c.args.out.now ++ ended text) shown,
     )) c.push_replies.ensures)
