@@ -119,7 +119,15 @@ OF_ROWS = (
         "cache 2\nextend 1 10 2 20 3 30",
         {
             0: ("peek_lru", "make_room", "remove_lru", "set_capacity 2", "retain even", "iter next back"),
-            1: ("get 2", "get_mut 2", "peek 2", "evicted_by 9", "remove 2", "raw_read key 2", "raw key 2 get_mut"),
+            1: (
+                "get 2",
+                "get_mut 2",
+                "peek 2",
+                "evicted_by 9",
+                "remove 2",
+                "raw_read key 2",
+                "raw key 2 get_mut",
+            ),
             2: (
                 "insert 2 20",
                 "insert n 10",

@@ -340,8 +340,8 @@ class Model(Entries, Cursors):
             answers.count(left)
 
     def make_of_kept(self, words, answers):
-        """The list goes on with what is made of the pairs that the line lists, if it is made. Of a pair that was
-        refused nothing is said but how many come after it."""
+        """The list goes on with what is made of the pairs that the line lists, if it is made. Of a pair that
+        was refused nothing is said but how many come after it."""
         made = type(self)()
         made.extend("extend_by_trait", words, answers)
         words.drop()

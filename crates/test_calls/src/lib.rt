@@ -1,6 +1,7 @@
 //! What no row of calls says: of the containers whether an entry calls its closure, and how often a run asks
-//! its own, the texts of `{:?}` and of errors, loops and std's adapters, the forms in which std's maps are called, what becomes of items
-//! without size, and what a program does whose input or output fails; then of the table below the map.
+//! its own, the texts of `{:?}` and of errors, loops and std's adapters, the forms in which std's maps are
+//! called, what becomes of items without size, and what a program does whose input or output fails; then of
+//! the table below the map.
 #![tactic(auto)]
 
 #[cfg(test)]
