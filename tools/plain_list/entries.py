@@ -119,6 +119,9 @@ class Entries:
         if self.list.find(key):
             answers.say(NOTHING)
             return
+        if name == "raw":
+            answers.done()
+            return
         if value is None:
             answers.item(key)
             return

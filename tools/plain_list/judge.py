@@ -18,6 +18,8 @@ KINDS = {
     "cache": CacheModel,
     "weighted": WeightedModel,
 }
+#: how many numbers each says of what was counted
+COUNTED = {"cost": 2, "clones": 1, "count_anew": 0}
 SAID = re.compile(r"row |=|\+ |\| |(left out|refused)$")
 SUMMARY = re.compile(
     r"(\d+) rows: each answer is right, and (\d+) of them refused; (\d+) rows had no memory of their own"
@@ -135,9 +137,9 @@ def say(models, words, answers):
         models[1].answer(rest, answers)
     elif name == "both":
         call_both(models, rest, answers)
-    elif name == "cost":
-        answers.echo_number()
-        answers.echo_number()
+    elif name in COUNTED:
+        for _ in range(COUNTED[name]):
+            answers.echo_number()
     else:
         rest = words.copy()
         models[0].answer(rest, answers)

@@ -131,6 +131,8 @@ class Model(Entries, Cursors):
             answers.echo(DONE, MEMORY)
         elif name in ("extend", *KEPT, "from_iter"):
             self.extend(name, words, answers)
+        elif name == "from_iter_kept":
+            self.make_of_kept(words, answers)
         else:
             raise Unread
 
@@ -336,6 +338,16 @@ class Model(Entries, Cursors):
         words.drop()
         if name in KEPT:
             answers.count(left)
+
+    def make_of_kept(self, words, answers):
+        """The list goes on with what is made of the pairs that the line lists, if it is made. Of a pair that
+        was refused nothing is said but how many come after it."""
+        made = type(self)()
+        made.extend("extend_by_trait", words, answers)
+        words.drop()
+        if answers.words[0] == DONE:
+            self.list = made.list
+            self.forget_room(0)
 
     def stops(self, name, pair, went, answers):
         """Says that a pair of many was not put in after so many, if that may be. std's `Extend` says neither

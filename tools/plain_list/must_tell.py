@@ -13,7 +13,8 @@ WRONG_TEXTS = (
 
 LINES = (
     "insert 1.2 10\nother insert 5 50\niter next left\nremove 1\ninsert 2 20\nreserve 9\ncost\n"
-    "extend_kept 3 30 4 40 5 50\nextend_by_trait 6 60 7 70 8 80\niter times 2 next"
+    "extend_kept 3 30 4 40 5 50\nextend_by_trait 6 60 7 70 8 80\niter times 2 next\n"
+    "from_iter_kept 6 60 6 61 7 70 7 71\nclones"
 )
 ROW = Row("none", 1, "a row", "map", LINES, 3)
 SAID = """= -
@@ -44,6 +45,12 @@ SAID = """= -
 + 3 16 2:20 3:30 6:60
 + 1 4 5:50
 = 2:20 3:30
++ 3 16 2:20 3:30 6:60
++ 1 4 5:50
+= memory 3
++ 3 16 2:20 3:30 6:60
++ 1 4 5:50
+= 3
 + 3 16 2:20 3:30 6:60
 + 1 4 5:50
 """
@@ -78,8 +85,11 @@ WRONG_WORDS = (
         "= memory 1\n+ 3 16 2:20 3:30 6:60",
         "= memory 1\n+ 2 16 2:20 3:30",
     ),
+    ("an item read after the one for which a map was not made", "= memory 3\n", "= memory 2\n"),
+    ("all items read though a map was not made", "= memory 3\n", "= memory 0\n"),
+    ("a count of clones that is no number", "= 3\n", "= -\n"),
     ("a step too few", "= 2:20 3:30", "= 2:20"),
-    ("no answer to the last line", "= 2:20 3:30\n+ 3 16 2:20 3:30 6:60\n+ 1 4 5:50\n", ""),
+    ("no answer to the last line", "= 3\n+ 3 16 2:20 3:30 6:60\n+ 1 4 5:50\n", ""),
     ("an answer too many", "= ok\n", "= ok\n= ok\n"),
 )
 

@@ -1,21 +1,24 @@
 //! The texts of `{:?}`, and of errors.
 use crate::few::{Map, cache_of, is_cloned, map_of, passes, says, set_of, shows};
-use hashlink::linked_hash_map::ExtendError;
+use crate::keys::{Numbered, key};
+use hashlink::linked_hash_map::{Entry, ExtendError, RawEntryMut};
 use hashlink::lru_cache::TryInsertError;
 use hashlink::weighted::{WeightError, WeightedCache};
 use hashlink::{LinkedHashMap, LinkedHashSet, TryReserveError};
 use std::alloc::Global;
 use std::process::ExitCode;
 
-/// The keys from 1 to 3 with ten times their numbers.
+const PAIRS: &str = "[(1, 10), (2, 20)]";
+
+/// The keys 1 and 2 with ten times their numbers.
+fn one_and_two(alloc: Global) -> Map {
+    map_of(alloc, &[(1, 10), (2, 20)])
+}
+
+/// The same and 3.
 fn three(alloc: Global) -> Map {
     map_of(alloc, &[(1, 10), (2, 20), (3, 30)])
 }
-
-const PAIRS: &str = "[(1, 10), (2, 20), (3, 30)]";
-
-/// The same without the last.
-const FIRST_PAIRS: &str = "[(1, 10), (2, 20)]";
 
 /// Whether a cache with a budget and its iterator show two pairs that are put in.
 fn weighted_pairs_are_shown(alloc: Global, cache: &mut WeightedCache<u64, u64>) -> bool {
@@ -28,46 +31,87 @@ fn weighted_pairs_are_shown(alloc: Global, cache: &mut WeightedCache<u64, u64>) 
 fn containers_show_what_they_hold(rt: HostRuntime) -> ExitCode {
     let pairs = &[(1, 10), (2, 20)];
     passes(
-        shows(rt.alloc(), map_of(rt.alloc(), pairs), "{1: 10, 2: 20}")
+        shows(rt.alloc(), one_and_two(rt.alloc()), "{1: 10, 2: 20}")
             & shows(rt.alloc(), set_of(rt.alloc(), &[1, 2]), "{1, 2}")
             & shows(rt.alloc(), cache_of(rt.alloc(), 2, pairs), "{2: 20, 1: 10}")
             & weighted_pairs_are_shown(rt.alloc(), &mut WeightedCache::new(rt.alloc(), 2)),
     )
 }
 
-/// Whether the iterators over the map that read show what is left.
-fn readers_show_what_is_left(alloc: Global, map: &Map) -> bool {
-    let mut pairs = map.iter();
-    pairs.next_back();
-    shows(alloc, pairs, FIRST_PAIRS)
-        & shows(alloc, map.keys(), "[1, 2, 3]")
-        & shows(alloc, map.values(), "[10, 20, 30]")
+#[test]
+fn empty_containers_show_that_they_hold_nothing(rt: HostRuntime) -> ExitCode {
+    passes(
+        shows(rt.alloc(), map_of(rt.alloc(), &[]), "{}")
+            & shows(rt.alloc(), set_of(rt.alloc(), &[]), "{}")
+            & shows(rt.alloc(), cache_of(rt.alloc(), 2, &[]), "{}"),
+    )
 }
 
-/// Whether the iterators that write do, and then a drain.
-fn writers_show_what_is_left(alloc: Global, map: &mut Map) -> bool {
+/// Whether the iterators that read a map of two entries show both.
+fn readers_show_two(alloc: Global, map: &Map) -> bool {
+    shows(alloc, map.iter(), PAIRS)
+        & shows(alloc, map.keys(), "[1, 2]")
+        & shows(alloc, map.values(), "[10, 20]")
+}
+
+/// Whether those that write do, and then a drain.
+fn writers_show_two(alloc: Global, map: &mut Map) -> bool {
+    let are_pairs_shown = shows(alloc, map.iter_mut(), PAIRS);
+    let values = map.values_mut();
+    are_pairs_shown & shows(alloc, values, "[10, 20]") & shows(alloc, map.drain(), PAIRS)
+}
+
+#[test]
+fn iterators_over_a_map_show_its_entries(rt: HostRuntime) -> ExitCode {
+    let map = &mut one_and_two(rt.alloc());
+    passes(
+        shows(rt.alloc(), one_and_two(rt.alloc()).into_iter(), PAIRS)
+            & readers_show_two(rt.alloc(), map)
+            & writers_show_two(rt.alloc(), map),
+    )
+}
+
+/// Whether the iterators over a map of three show what is left after a step.
+fn what_is_left_is_shown(alloc: Global, map: &mut Map) -> bool {
+    let mut pairs = map.iter();
+    pairs.next_back();
+    let are_read_shown = shows(alloc, pairs, PAIRS);
     let mut pairs = map.iter_mut();
     pairs.next_back();
-    let are_pairs_shown = shows(alloc, pairs, FIRST_PAIRS);
+    let are_written_shown = shows(alloc, pairs, PAIRS);
     let mut values = map.values_mut();
     values.next();
-    are_pairs_shown & shows(alloc, values, "[20, 30]") & shows(alloc, map.drain(), PAIRS)
+    are_read_shown & are_written_shown & shows(alloc, values, "[20, 30]")
 }
 
 #[test]
 fn iterators_over_a_map_show_what_is_left(rt: HostRuntime) -> ExitCode {
-    let map = &mut three(rt.alloc());
-    passes(
-        shows(rt.alloc(), three(rt.alloc()).into_iter(), PAIRS)
-            & readers_show_what_is_left(rt.alloc(), map)
-            & writers_show_what_is_left(rt.alloc(), map),
-    )
+    passes(what_is_left_is_shown(rt.alloc(), &mut three(rt.alloc())))
 }
 
-/// Whether the iterators over a set, or over 1 to 4 and 3 to 5, show what is left.
-fn lazy_ones_show(alloc: Global, left: &LinkedHashSet<u64>, right: &LinkedHashSet<u64>) -> bool {
-    shows(alloc, left.iter(), "[1, 2, 3, 4]")
+/// Whether the iterators over 1 and 2, and beside an empty set, show both.
+fn lazy_ones_show_two(
+    alloc: Global,
+    left: &LinkedHashSet<u64>,
+    right: &LinkedHashSet<u64>,
+) -> bool {
+    shows(alloc, left.iter(), "[1, 2]")
+        & shows(alloc, left.union(right), "[1, 2]")
+        & shows(alloc, left.intersection(left), "[1, 2]")
         & shows(alloc, left.difference(right), "[1, 2]")
+        & shows(alloc, left.symmetric_difference(right), "[1, 2]")
+}
+
+#[test]
+fn iterators_over_sets_show_two_elements(rt: HostRuntime) -> ExitCode {
+    let left = set_of(rt.alloc(), &[1, 2]);
+    let right = set_of(rt.alloc(), &[]);
+    passes(lazy_ones_show_two(rt.alloc(), &left, &right))
+}
+
+/// Whether the iterators over 1 to 4 and 3 to 5 show what comes of both.
+fn lazy_ones_show(alloc: Global, left: &LinkedHashSet<u64>, right: &LinkedHashSet<u64>) -> bool {
+    shows(alloc, left.difference(right), "[1, 2]")
         & shows(alloc, left.intersection(right), "[3, 4]")
         & shows(alloc, left.union(right), "[1, 2, 3, 4, 5]")
         & shows(alloc, left.symmetric_difference(right), "[1, 2, 5]")
@@ -80,18 +124,51 @@ fn iterators_over_sets_show_what_is_left(rt: HostRuntime) -> ExitCode {
     passes(lazy_ones_show(rt.alloc(), &left, &right))
 }
 
-/// Two numbers, compared and hashed by the group alone.
-#[derive(Clone, Copy, Debug)]
-#[derive_where(PartialEq, Eq, Hash)]
-struct Numbered {
-    group: u32,
-    #[derive_where(skip(EqHashOrd))]
-    number: u32,
+/// Whether an occupied entry shows itself.
+fn occupied_is_shown(alloc: Global, map: &mut Map) -> bool {
+    match map.entry(1) {
+        Entry::Occupied(entry) => shows(alloc, entry, "OccupiedEntry { key: 1, value: 10 }"),
+        Entry::Vacant(_vacant) => false,
+    }
 }
 
-/// The key of a group, of which a map keeps the first that it is given.
-fn key(group: u32, number: u32) -> Numbered {
-    Numbered { group, number }
+/// Whether a vacant one does.
+fn vacant_is_shown(alloc: Global, map: &mut Map) -> bool {
+    match map.entry(3) {
+        Entry::Vacant(entry) => shows(alloc, entry, "VacantEntry(3)"),
+        Entry::Occupied(_occupied) => false,
+    }
+}
+
+/// Whether an occupied raw entry does.
+fn raw_occupied_is_shown(alloc: Global, map: &mut Map) -> bool {
+    match map.raw_entry_of(&1) {
+        RawEntryMut::Occupied(entry) => {
+            shows(alloc, entry, "RawOccupiedEntryMut { key: 1, value: 10 }")
+        }
+        RawEntryMut::Vacant(_vacant) => false,
+    }
+}
+
+/// Whether a vacant raw entry does.
+fn raw_vacant_is_shown(alloc: Global, map: &mut Map) -> bool {
+    match map.raw_entry_of(&3) {
+        RawEntryMut::Vacant(entry) => shows(alloc, entry, "RawVacantEntryMut"),
+        RawEntryMut::Occupied(_occupied) => false,
+    }
+}
+
+/// Whether each of the four does.
+fn each_is_shown(alloc: Global, map: &mut Map) -> bool {
+    occupied_is_shown(alloc, map)
+        & vacant_is_shown(alloc, map)
+        & raw_occupied_is_shown(alloc, map)
+        & raw_vacant_is_shown(alloc, map)
+}
+
+#[test]
+fn an_entry_that_was_matched_shows_itself(rt: HostRuntime) -> ExitCode {
+    passes(each_is_shown(rt.alloc(), &mut one_and_two(rt.alloc())))
 }
 
 type NumberedMap = LinkedHashMap<Numbered, u64>;

@@ -1,10 +1,13 @@
-//! What no row of calls says: of the containers whether an entry calls its closure, the texts of `{:?}` and
-//! of errors, loops and std's adapters, the forms in which std's maps are called, what becomes of items
-//! without size, and what a program does whose input or output fails; then of the table below the map.
+//! What no row of calls says: of the containers whether an entry calls its closure, and how often a run asks
+//! its own, the texts of `{:?}` and of errors, loops and std's adapters, the forms in which std's maps are
+//! called, what becomes of items without size, and what a program does whose input or output fails; then of
+//! the table below the map.
 #![tactic(auto)]
 
 #[cfg(test)]
 mod adapters;
+#[cfg(test)]
+mod commands;
 #[cfg(test)]
 mod counting;
 #[cfg(test)]
@@ -17,6 +20,8 @@ mod few;
 mod forms;
 #[cfg(test)]
 mod hashers;
+#[cfg(test)]
+mod keys;
 #[cfg(test)]
 mod large;
 #[cfg(test)]

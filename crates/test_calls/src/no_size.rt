@@ -1,7 +1,7 @@
 //! Keys and values without size. `large.rt` has caches whose values alone have none.
 use crate::few::{is_value, passes};
 use hashlink::weighted::WeightedCache;
-use hashlink::{LinkedHashMap, LruCache};
+use hashlink::{LinkedHashMap, LinkedHashSet, LruCache};
 use std::process::ExitCode;
 
 type Unit = LinkedHashMap<(), ()>;
@@ -33,6 +33,16 @@ fn comes_and_goes(map: &mut Unit) -> bool {
 #[test]
 fn a_map_of_keys_without_size_has_one_entry(rt: HostRuntime) -> ExitCode {
     passes(comes_and_goes(&mut Unit::new(rt.alloc())))
+}
+
+/// Whether an element is inserted once.
+fn is_element_inserted_once(set: &mut LinkedHashSet<()>) -> bool {
+    (set.insert(()) == Ok(true)) & (set.insert(()) == Ok(false)) & (set.len() == 1)
+}
+
+#[test]
+fn a_set_of_elements_without_size_has_one(rt: HostRuntime) -> ExitCode {
+    passes(is_element_inserted_once(&mut LinkedHashSet::new(rt.alloc())))
 }
 
 /// Whether two inserts into a cache find nothing, and a read and a removal find none of them.

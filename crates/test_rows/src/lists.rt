@@ -307,8 +307,9 @@ fn commands_of_pair(alloc: Global, lines: &str) -> Result<Vec<PairCommand<Name, 
     let mut number = 0u64;
     for line in lines.split('\n') {
         number = number.saturating_add(1);
-        if let Some(command) = pair_command(line.as_bytes()) {
-            push(&mut commands, numbered(command, number))?;
+        match pair_command(line.as_bytes()) {
+            Some(command) => push(&mut commands, numbered(command, number))?,
+            None => return Err(Stop::Unread),
         }
     }
     Ok(commands)
@@ -346,8 +347,11 @@ fn uses_of(alloc: Global, lines: &str) -> Result<Vec<(Name, u64)>, Stop> {
     let mut number = 0u64;
     for line in lines.split('\n') {
         number = number.saturating_add(1);
-        if let Some(PairCommand::Use(group, value)) = pair_command(line.as_bytes()) {
-            push(&mut pairs, (Name { group, number }, value))?;
+        match pair_command(line.as_bytes()) {
+            Some(PairCommand::Use(group, value)) => {
+                push(&mut pairs, (Name { group, number }, value))?
+            }
+            _ => return Err(Stop::Unread),
         }
     }
     Ok(pairs)

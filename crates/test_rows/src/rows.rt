@@ -1,7 +1,7 @@
 //! A row, and what is done with it.
 use crate::calls::{Cache, Map, Set, Weighted};
 use crate::hashers::Hashing;
-use crate::items::{Answers, Line, Name, Stop, Word, Words, are_written};
+use crate::items::{Answers, Home, Line, Name, Stop, Word, Words, are_written};
 use crate::lists::{Listed, are_runs_right, run_lines_of_pair, run_lines_of_uses};
 use crate::row::{Row, Why, Wrong, cut, words_of};
 use crate::spoken::{Spoken, Stands, Voice, say_words};
@@ -193,14 +193,49 @@ fn speak<'f, C: Spoken + Stands + Drop>(
         second: C::make(home, capacity),
         is_sure: true,
     };
-    let _ = home.cost();
+    count_anew(home);
     speech.wrong(row, line, voice)
 }
 
-/// Says how many hashes and how many comparisons there were since this was last said.
-fn say_cost(line: &mut Line<'_>) -> Result<(), Stop> {
-    let (hashes, comparisons) = line.home.cost();
-    line.say_all(&[Word::Item(hashes, 0), Word::Item(comparisons, 0)])
+/// What a line asks of what was counted.
+#[derive(Clone, Copy)]
+enum Counted {
+    /// How many hashes and how many comparisons there were since this was last asked.
+    Cost,
+    /// How many clones there were since then.
+    Clones,
+    /// Nothing: it is counted anew.
+    Anew,
+}
+
+const COUNTED: [(&str, Counted); 3] = [
+    ("cost", Counted::Cost),
+    ("clones", Counted::Clones),
+    ("count_anew", Counted::Anew),
+];
+
+/// Says what was counted. A line that asks has to have its answer behind it, since no plain list knows it.
+fn say_counted(counted: Counted, is_answered: bool, line: &mut Line<'_>) -> Result<(), Stop> {
+    match counted {
+        Counted::Anew => {
+            count_anew(line.home);
+            Ok(())
+        }
+        _ if !is_answered => Err(Stop::Unread),
+        Counted::Cost => {
+            let (hashes, comparisons) = line.home.cost();
+            line.say_all(&[Word::Item(hashes, 0), Word::Item(comparisons, 0)])
+        }
+        Counted::Clones => {
+            let clones = line.home.clones();
+            line.say(Word::Item(clones, 0))
+        }
+    }
+}
+
+fn count_anew(home: Home<'_>) {
+    let _cost = home.cost();
+    let _clones = home.clones();
 }
 
 /// The two containers of a row.
@@ -246,7 +281,7 @@ impl<C: Spoken + Stands> Speech<C> {
         for n in words.n..last.saturating_add(1) {
             line.words = Words { n, ..words };
             line.answers.words.clear();
-            match self.call(line) {
+            match self.call(wanted.is_some(), line) {
                 Ok(()) if !line.words.is_unread => {}
                 Err(Stop::Memory) => return Err(Stop::Memory),
                 _ => return Ok(Some(Wrong::Line(number, text, Why::Unread))),
@@ -281,15 +316,16 @@ impl<C: Spoken + Stands> Speech<C> {
             .saturating_add(self.second.count_items())
     }
 
-    /// Makes the call that the words say, of the first container, and after `other` of the second.
-    fn call(&mut self, line: &mut Line<'_>) -> Result<(), Stop> {
+    /// Makes the call that the words say, of the first container, and after `other` of the second. Whether
+    /// its answer stands behind it.
+    fn call(&mut self, is_answered: bool, line: &mut Line<'_>) -> Result<(), Stop> {
         if line.words.has("other") {
             return self.second.call(&self.first, line);
         }
-        if line.words.has("cost") {
-            return say_cost(line);
+        match line.words.known(&COUNTED) {
+            Some(counted) => say_counted(counted, is_answered, line),
+            None => self.first.call(&self.second, line),
         }
-        self.first.call(&self.second, line)
     }
 
     /// Says what came, and what then stands in each container.

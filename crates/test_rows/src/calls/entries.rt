@@ -83,6 +83,10 @@ fn ask_vacant(entry: InHand<'_>, call: Vacant) -> Word {
         Entry::Vacant(entry) => match call {
             Vacant::Key => Word::item(entry.key().name()),
             Vacant::IntoKey => taken(entry.into_key()),
+            Vacant::Raw => {
+                let _raw = entry.raw_entry_mut();
+                Word::Done
+            }
         },
     }
 }

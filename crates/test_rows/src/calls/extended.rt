@@ -58,6 +58,19 @@ pub fn make_of_rest<T: Read + Drop, C: FromIterator<T, Alloc = Global> + Drop>(
     line.say(made(container, C::from_iter(line.home.alloc, items)))
 }
 
+/// The same by an iterator that is kept, after which it is said how many items it has left.
+pub fn make_of_kept<T: Read + Drop, C: FromIterator<T, Alloc = Global> + Drop>(
+    container: &mut C,
+    line: &mut Line<'_>,
+) -> Result<(), Stop>
+    requires { (items : List T) → C.can_from_iter items }
+{
+    let items = &mut rest_of(line)?.into_iter();
+    let new = C::from_iter(line.home.alloc, &mut *items);
+    let left = items.len();
+    say_kept(Answer::Word(made(container, new)), left, line)
+}
+
 /// That all pairs went in, or how many did before the one that is handed back.
 pub fn extended(answer: Result<(), ExtendError<Item, Item>>) -> Answer {
     match answer {

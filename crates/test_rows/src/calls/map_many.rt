@@ -1,7 +1,7 @@
 //! Lines that speak to a map about many pairs, or by an iterator, a cursor or an entry.
 use crate::calls::entries::{call_cursor_of, call_entry_of};
 use crate::calls::extended::{
-    Extension, TakesMany, extended, extended_by_trait, make_of_rest, put_rest,
+    Extension, TakesMany, extended, extended_by_trait, make_of_kept, make_of_rest, put_rest,
 };
 use crate::calls::map_calls::Map;
 use crate::calls::map_cursors::call_cursor;
@@ -23,6 +23,8 @@ enum ManyCall {
     Extend(Extension),
     /// Pairs.
     FromIter,
+    /// The same by an iterator that is kept.
+    FromKept,
     /// What is kept.
     Retain(Retain),
     /// Steps of an iterator.
@@ -47,12 +49,13 @@ pub enum AtEnd {
     Back,
 }
 
-const CALLS: [(&str, ManyCall); 25] = [
+const CALLS: [(&str, ManyCall); 26] = [
     ("extend", ManyCall::Extend(Extension::Whole)),
     ("extend_from", ManyCall::Extend(Extension::From)),
     ("extend_kept", ManyCall::Extend(Extension::Kept)),
     ("extend_by_trait", ManyCall::Extend(Extension::ByTrait)),
     ("from_iter", ManyCall::FromIter),
+    ("from_iter_kept", ManyCall::FromKept),
     ("retain", ManyCall::Retain(Retain::Any)),
     ("retain_with_order", ManyCall::Retain(Retain::WithOrder)),
     ("retain_from", ManyCall::Retain(Retain::From)),
@@ -80,6 +83,7 @@ pub fn call_many(map: &mut Map, line: &mut Line<'_>) -> Result<(), Stop> {
     match line.words.named(&CALLS)? {
         ManyCall::Extend(call) => put_rest(map, call, line),
         ManyCall::FromIter => make_of_rest(map, line),
+        ManyCall::FromKept => make_of_kept(map, line),
         ManyCall::Retain(call) => retain(map, call, line),
         ManyCall::Walk(call) => walk_map(map, call, line),
         ManyCall::Cursor => call_cursor(map, line),
@@ -146,10 +150,16 @@ fn walk_map(map: &mut Map, call: WalkCall, line: &mut Line<'_>) -> Result<(), St
     }
 }
 
-/// Says the pairs from the entry of a key on, and then that no more comes.
+/// Says the pairs from the entry of a key on, and then that no more comes. The hint is at most the length of
+/// the map.
 fn walk_from(map: &Map, line: &mut Line<'_>) -> Result<(), Stop> {
     let key = line.item()?;
-    say_all(map.iter_from(&key), line)
+    let pairs = map.iter_from(&key);
+    let (_, most) = pairs.size_hint();
+    if most.is_none_or(|most| most > map.len()) {
+        return line.say(Word::Wrong);
+    }
+    say_all(pairs, line)
 }
 
 fn say_all(pairs: IterFrom<'_, Item, Item, Hashing>, line: &mut Line<'_>) -> Result<(), Stop> {

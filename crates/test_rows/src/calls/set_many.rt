@@ -1,7 +1,9 @@
 //! Lines that speak to a set about many elements, by an iterator, or about an element that it makes.
 ghost use Rattle.std.specs.Prelude.{◌≡◌};
 
-use crate::calls::extended::{Extension, TakesMany, extended_by_trait, make_of_rest, put_rest};
+use crate::calls::extended::{
+    Extension, TakesMany, extended_by_trait, make_of_kept, make_of_rest, put_rest,
+};
 use crate::calls::set_calls::{Set, lent_or_back};
 use crate::items::{
     Answer, Item, Keep, Line, Stop, Word, is_other, read_keep, taken, walk_and_clone,
@@ -21,19 +23,22 @@ enum ManyCall {
     Extend(Extension),
     /// Elements.
     FromIter,
+    /// The same by an iterator that is kept.
+    FromKept,
     /// What is kept. Whether it is `retain_with_order`.
     Retain(bool),
     /// Steps of an iterator.
     Walk(WalkCall),
 }
 
-const CALLS: [(&str, ManyCall); 12] = [
+const CALLS: [(&str, ManyCall); 13] = [
     ("get_or_insert_with", ManyCall::GetOrInsertWith),
     ("extend", ManyCall::Extend(Extension::Whole)),
     ("extend_from", ManyCall::Extend(Extension::From)),
     ("extend_kept", ManyCall::Extend(Extension::Kept)),
     ("extend_by_trait", ManyCall::Extend(Extension::ByTrait)),
     ("from_iter", ManyCall::FromIter),
+    ("from_iter_kept", ManyCall::FromKept),
     ("retain", ManyCall::Retain(false)),
     ("retain_with_order", ManyCall::Retain(true)),
     ("iter", ManyCall::Walk(WalkCall::Iter)),
@@ -48,6 +53,7 @@ pub fn call_many(set: &mut Set, line: &mut Line<'_>) -> Result<(), Stop> {
         ManyCall::GetOrInsertWith => put_made(set, line),
         ManyCall::Extend(call) => put_rest(set, call, line),
         ManyCall::FromIter => make_of_rest(set, line),
+        ManyCall::FromKept => make_of_kept(set, line),
         ManyCall::Retain(is_ordered) => retain(set, is_ordered, line),
         ManyCall::Walk(call) => walk_set(set, call, line),
     }

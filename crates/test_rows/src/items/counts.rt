@@ -1,11 +1,12 @@
-//! How often items are hashed and compared.
+//! How often items are hashed, compared and cloned.
 use std::cell::Cell;
 
-/// What items share: how often any of them was hashed, and how often two of them were compared.
+/// What items share: how often any of them was hashed, two of them were compared, and any was cloned.
 #[derive(Drop)]
 pub struct Counts {
     hashes: Cell<u64>,
     comparisons: Cell<u64>,
+    clones: Cell<u64>,
 }
 
 impl Counts {
@@ -13,6 +14,7 @@ impl Counts {
         Counts {
             hashes: Cell::new(0),
             comparisons: Cell::new(0),
+            clones: Cell::new(0),
         }
     }
 
@@ -24,8 +26,17 @@ impl Counts {
         self.comparisons.set(self.comparisons.get().wrapping_add(1));
     }
 
+    pub fn clone_one(&self) {
+        self.clones.set(self.clones.get().wrapping_add(1));
+    }
+
     /// How many hashes and how many comparisons there were since the last call of this.
-    pub fn take(&self) -> (u64, u64) {
+    pub fn take_cost(&self) -> (u64, u64) {
         (self.hashes.replace(0), self.comparisons.replace(0))
+    }
+
+    /// How many clones there were since the last call of this.
+    pub fn take_clones(&self) -> u64 {
+        self.clones.replace(0)
     }
 }

@@ -33,11 +33,13 @@ pub enum Put {
     ReplaceEntry,
 }
 
-/// A call that needs nothing more and hands out the key that is absent.
+/// A call that needs nothing more than the key that is absent.
 #[derive(Clone, Copy)]
 pub enum Vacant {
     Key,
     IntoKey,
+    /// Makes the raw entry, which has no key.
+    Raw,
 }
 
 /// A call that puts a value where the key is absent.
@@ -122,9 +124,10 @@ const CALLS: [(&str, Named); 19] = [
 ];
 
 /// The calls after the word `vacant`.
-const VACANT: [(&str, Named); 5] = [
+const VACANT: [(&str, Named); 6] = [
     ("key", Named::Ask(Ask::Vacant(Vacant::Key))),
     ("into_key", Named::Ask(Ask::Vacant(Vacant::IntoKey))),
+    ("raw", Named::Ask(Ask::Vacant(Vacant::Raw))),
     ("insert", Named::Give(Give::PutVacant(PutVacant::Insert))),
     (
         "insert_entry",

@@ -28,7 +28,12 @@ impl Home<'_> {
 
     /// How many hashes and how many comparisons of items there were since the last call of this.
     pub fn cost(self) -> (u64, u64) {
-        self.counts.take()
+        self.counts.take_cost()
+    }
+
+    /// How many clones of items there were since the last call of this.
+    pub fn clones(self) -> u64 {
+        self.counts.take_clones()
     }
 
     /// Two new items of the names.
@@ -38,8 +43,8 @@ impl Home<'_> {
 }
 
 /// A key, an element or a value: compared and hashed by its group alone, so that its number tells which of
-/// two equal ones it is. It counts each hash and each comparison for equality.
-#[derive(Clone, Drop)]
+/// two equal ones it is. It counts each hash, each comparison for equality and each clone.
+#[derive(Drop)]
 #[derive_where(PartialOrd, Ord)]
 pub struct Item {
     pub group: u64,
@@ -73,6 +78,19 @@ impl Item {
 impl Named for Item {
     fn name(&self) -> Name {
         Item::name(self)
+    }
+}
+
+impl Clone for Item {
+    ghost is_clone = { λ item made. made.group ≡ item.group };
+
+    fn clone(&self) -> Result<Item, AllocError> {
+        self.counts.clone_one();
+        Ok(Item {
+            group: self.group,
+            number: self.number.clone()?,
+            counts: self.counts.clone()?,
+        })
     }
 }
 
