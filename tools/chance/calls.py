@@ -48,7 +48,7 @@ SYMBOLS = {
         *("insert VALUE", "insert_entry VALUE", "replace_entry VALUE", "raw_replace_value VALUE"),
         *("to_front", "to_back", "replace_key", "2 remove", "2 remove_entry", "2 cursor MOVE*"),
         *("vacant key", "vacant into_key", "2 vacant insert VALUE NEW?", "2 vacant insert_entry VALUE"),
-        "2 vacant take VALUE",
+        *("2 vacant take VALUE", "vacant raw"),
     ),
     "FOUND": (
         *("get", "get_key_value", "to_front", "to_back", "into_key", "remove", "remove_entry"),
@@ -102,7 +102,7 @@ MAP = {
     "retain": ("retain KEEP", "retain_with_order KEEP", "retain_from KEEP"),
     "room": ("reserve SIZE", "try_reserve SIZE", "3 shrink", "4 clone", "collect"),
     "many": MANY,
-    "make": ("2 from_iter PAIR*", "2 clear", "with_capacity SIZE"),
+    "make": ("2 from_iter PAIR*", "from_iter_kept PAIR*", "2 clear", "with_capacity SIZE"),
     "both": ("eq", "less", "cmp", "hash"),
 }
 
@@ -122,7 +122,7 @@ SET = {
     "retain": ("retain SET_KEEP", "retain_with_order SET_KEEP"),
     "room": ("reserve SIZE", "try_reserve SIZE", "3 shrink", "4 clone"),
     "many": ("extend KEY*", "extend_from KEY*", "extend_kept KEY*", "extend_by_trait KEY*"),
-    "make": ("2 from_iter KEY*", "2 clear", "with_capacity SIZE"),
+    "make": ("2 from_iter KEY*", "from_iter_kept KEY*", "2 clear", "with_capacity SIZE"),
     "both": (
         *("eq", "hash", "is_disjoint", "is_subset", "is_superset", "|", "&", "^", "-"),
         *("2 union COUNT?", "2 intersection COUNT?", "2 difference COUNT?"),

@@ -4,7 +4,7 @@ import itertools
 import re
 from functools import cache
 
-from plain_list.judge import HASHERS
+from plain_list.judge import COUNTED, HASHERS
 from plain_list.rows import Row, rows_of
 
 from .calls import KINDS, SIMPLE, SYMBOLS
@@ -132,13 +132,13 @@ def forgotten(folder):
         for row in rows_of(file, file.name):
             calls = calls_of(re.sub(f"^({hashers}) ", "", row.mode))
             for number, line in enumerate(row.commands() if calls else [], row.first):
-                if not is_comment_or_cost(line) and not is_line(calls, of_one(line)):
+                if not is_comment_or_count(line) and not is_line(calls, of_one(line)):
                     yield f"{file.name}:{number}", line
 
 
-def is_comment_or_cost(line):
-    """`cost` is not drawn, since a list does not know it."""
-    return line.startswith("#") or line.split(" ")[-1] == "cost"
+def is_comment_or_count(line):
+    """What says how much was counted is not drawn, since a list does not know it."""
+    return line.startswith("#") or line.split(" ")[-1] in COUNTED
 
 
 def of_one(line):
