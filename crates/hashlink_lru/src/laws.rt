@@ -1,10 +1,15 @@
 //! What many items leave in a cache, and what an insert evicts. The functions have empty bodies: their
 //! contracts are the statements.
-ghost use Rattle.std.specs.Prelude.{◌≡◌, ℕ, ◌≤◌, Bool, List, [], ◌∷◌, ◌++◌, length, Option, None, Some, Ok};
+ghost use Rattle.std.specs.Prelude.{◌≡◌, ℕ, ◌+◌, ◌<◌, ◌≤◌, Bool, List, [], ◌∷◌, ◌++◌, length};
+ghost use Rattle.std.specs.Prelude.{Option, None, Some, Result, Ok, Err};
 ghost use Rattle.std.specs.Map.{lookup};
-ghost use Rattle.hashlink_model.specs.Cache.{CacheInserts, CacheState, IsWithin, cache_extended};
+ghost use Rattle.hashlink_model.specs.Cache.{CacheInserts, CacheState, EvictsFront, IsWithin};
+ghost use Rattle.hashlink_model.specs.Cache.{cache_extended};
 ghost use Rattle.hashlink_model.specs.Entries.{put};
+ghost use Rattle.hashlink_model.specs.Entry.{VacantInserts};
 ghost use Rattle.hashlink_model.specs.Many.{AcceptsAll, StopsAt};
+ghost use Rattle.hashlink_model.specs.MapState.{MapState};
+ghost use Rattle.hashlink_map.specs.EntryLends.{PutsLast};
 ghost use Rattle.hashlink_lru.specs.Cached.{InsertsPairIn};
 ghost use Rattle.hashlink_lru.specs.Evicted.{evicted_by, Pushes};
 
@@ -51,4 +56,27 @@ pub fn what_an_insert_evicts<K, V, S>()
         → evicted_by (eq k) old.map.entries old.cap ≡ Some e
         → lookup (eq k) old.map.entries ≡ None
         → out ≡ Some e }
+{}
+
+/// A raw entry of a cache first evicts the front if there are more entries than the capacity. So one insert
+/// through it stays within a bound above the capacity, be its key absent or there. If an entry was evicted,
+/// its node is spare, and the insert of an absent key cannot fail.
+pub fn what_a_raw_entry_of_a_cache_lets_in<K, V, S, A>()
+    ensures found { (old : CacheState K V S) (roomy : MapState K V S) → EvictsFront old.map roomy old.cap
+        → (n : ℕ) → IsWithin old n
+        → length roomy.entries ≤ old.cap + n }
+    ensures inserted { (eq : K → K → Bool) (old : CacheState K V S) (roomy : MapState K V S)
+        → EvictsFront old.map roomy old.cap → (new : MapState K V S) (n : ℕ) (k : K) (v : V)
+        (r : Result A (K × V))
+        → VacantInserts eq roomy new k v r → IsWithin old (n + 1)
+        → length new.entries ≤ old.cap + (n + 1) }
+    ensures put { (eq : K → K → Bool) (old : CacheState K V S) (roomy : MapState K V S)
+        → EvictsFront old.map roomy old.cap → (new : MapState K V S) (n : ℕ) (k : K) (v : V)
+        → PutsLast eq roomy new k v → IsWithin old (n + 1)
+        → length new.entries ≤ old.cap + (n + 1) }
+    ensures not_refused { (eq : K → K → Bool) (old : CacheState K V S) (roomy : MapState K V S)
+        → EvictsFront old.map roomy old.cap → (new : MapState K V S) (k : K) (v : V) (pair : K × V) → old.cap
+        < length old.map.entries
+        → VacantInserts eq {A = A} roomy new k v (Err pair)
+        → ⊥ }
 {}
