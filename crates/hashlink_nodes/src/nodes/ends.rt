@@ -85,7 +85,8 @@ impl<K, V> Nodes<K, V> {
         Held { number, key, value }
     }
 
-    /// Removes the first entry and returns what it held. The node is the next spare one. It stores three links.
+    /// Removes the first entry and returns what it held. The node is the next spare one. It stores three
+    /// links.
     pub fn spare_first(&mut self) -> Held<K, V>
         requires { 0 < length self.old.entries }
         ensures first { (node : Node) × (self.old.entries ≡ (node, result) ∷ self.new.entries) }
@@ -107,7 +108,8 @@ impl<K, V> Nodes<K, V> {
         Held { number, key, value }
     }
 
-    /// Removes the last entry and returns what it held. The node is the next spare one. It stores three links.
+    /// Removes the last entry and returns what it held. The node is the next spare one. It stores three
+    /// links.
     pub fn spare_last(&mut self) -> Held<K, V>
         requires { 0 < length self.old.entries }
         ensures last { (node : Node) × (self.old.entries ≡ self.new.entries ++ (node, result) ∷ []) }
