@@ -57,7 +57,7 @@ SYMBOLS = {
     ),
     "OR_INSERT": ("or_insert VALUE NEW?", "or_insert_with VALUE NEW?"),
     "RAW": (
-        *("8 FOUND", "2 OR_INSERT", "replace_key"),
+        *("6 FOUND", "2 OR_INSERT", "replace_key"),
         *("insert VALUE NEW?", "insert_hashed VALUE NEW?", "insert_with_hasher VALUE NEW?"),
         *("insert_entry VALUE NEW?", "insert_entry_hashed VALUE NEW?"),
         "insert_entry_with_hasher VALUE NEW?",
@@ -100,7 +100,7 @@ MAP = {
     "walk": (*WALKS, "values_mut VALUE_STEP*", "iter_from KEY"),
     "drain": ("2 drain STEP*", "3 forgotten_drain STEP*", "into_iter STEP*"),
     "retain": ("retain KEEP", "retain_with_order KEEP", "retain_from KEEP"),
-    "room": ("reserve SIZE", "try_reserve SIZE", "3 shrink", "4 clone", "collect"),
+    "room": ("3 reserve SIZE", "3 try_reserve SIZE", "5 shrink", "4 clone", "collect"),
     "many": MANY,
     "make": ("2 from_iter PAIR*", "from_iter_kept PAIR*", "2 clear", "with_capacity SIZE"),
     "both": ("eq", "less", "cmp", "hash"),
@@ -120,7 +120,7 @@ SET = {
     "walk": ("iter STEP* CLONED?",),
     "drain": MAP["drain"],
     "retain": ("retain SET_KEEP", "retain_with_order SET_KEEP"),
-    "room": ("reserve SIZE", "try_reserve SIZE", "3 shrink", "4 clone"),
+    "room": ("3 reserve SIZE", "3 try_reserve SIZE", "5 shrink", "4 clone"),
     "many": ("extend KEY*", "extend_from KEY*", "extend_kept KEY*", "extend_by_trait KEY*"),
     "make": ("2 from_iter KEY*", "from_iter_kept KEY*", "2 clear", "with_capacity SIZE"),
     "both": (
@@ -143,7 +143,7 @@ CACHE = {
     "walk": WALKS,
     "drain": ("drain STEP*", "into_iter STEP*"),
     "retain": ("retain CACHE_KEEP", "retain_from CACHE_KEEP"),
-    "room": ("set_capacity CAPACITY", "clone"),
+    "room": ("3 set_capacity CAPACITY", "clone"),
     "many": MANY,
     "make": ("clear",),
     # calls of the cache's map
@@ -192,6 +192,10 @@ GROUPS = {
     **dict(read=4, put=9, take=4, lend=4, entry=8, raw=8, cursor=9, walk=8, drain=1.5, retain=1.5),
     **dict(room=4, many=2, make=1, both=9, inside=12, command=1),
 }
+#: in half of the rows: how often each group is drawn at times, and after a call of these groups. So what one
+#: of them leaves, as a table without room, is soon met by an insert of each form
+LEAVING = dict(room=6, retain=0.5, drain=0.3, make=0.1)
+AFTER = {**GROUPS, **dict(put=12, entry=30, raw=60, cursor=15, retain=4, drain=2, room=4, many=4, both=15)}
 #: how much more or less often a group is drawn while a container is to grow, or to shrink
 MOODS = {
     "as it comes": {},

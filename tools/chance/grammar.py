@@ -11,7 +11,7 @@ from .calls import KINDS, SIMPLE, SYMBOLS
 
 NAME = "random calls"
 #: the symbols that are drawn in rows.py, and what reads them
-DIGITS = r"(?:0|[1-9]\d*)"
+DIGITS = r"(?:0|[1-9]\d{0,18}|1844674407370955161[0-5])"  # less than GREATEST
 WRITTEN = {
     **dict.fromkeys(("KEY", "VALUE", "NEW", "WEIGHED"), rf"{DIGITS}(?:\.{DIGITS})?"),
     **dict.fromkeys(("SIZE", "CAPACITY"), rf"(?:{DIGITS}|max)"),

@@ -8,7 +8,7 @@ from plain_list.judge import say
 from plain_list.rows import Row
 from plain_list.words import DONE, GREATEST, Answers, Words
 
-from .calls import EMPTYING, GROUPS, KINDS, MOODS, SYMBOLS
+from .calls import AFTER, EMPTYING, GROUPS, KINDS, LEAVING, MOODS, SYMBOLS
 from .grammar import NAME, WRITTEN, are_two, weights_of, with_words
 
 #: how many there are at most of what may come any number of times
@@ -27,6 +27,8 @@ class RandomRow:
         # The reader of rows lets an iterator over two sets take no more than 64 steps.
         self.keys = self.random.choice((3, 8, 20, 40, 60))
         self.mood = "grow"
+        #: the group of the last call, and whether what it leaves is soon met by others
+        self.last, self.is_followed = None, self.below(2) == 0
         #: how often a call is one of the second container, and how often one of each
         self.other, self.alike = 0, 0
         self.lists = ()
@@ -71,7 +73,7 @@ class RandomRow:
         draw = self.random.random()
         if call.startswith("both "):
             return [call]
-        if draw < self.alike:
+        if draw < self.alike and (self.last != "room" or self.below(2)):
             return [call, with_words("other", call)]
         last = [self.both(calls)] if self.alike and self.below(2) else []
         return [with_words("other", call) if draw < self.alike + self.other else call, *last]
@@ -82,12 +84,20 @@ class RandomRow:
             self.mood = self.random.choice(list(MOODS))
         left_out = () if self.other else ("both",)
         moods = MOODS[self.mood]
-        group = self.chosen({it: GROUPS[it] * moods.get(it, 1) for it in calls if it not in left_out})
+        often = self.often()
+        group = self.chosen({it: often.get(it, 0.1) * moods.get(it, 1) for it in calls if it not in left_out})
+        self.last = group
         if group in EMPTYING and self.below(2):
             self.mood = "grow"
         if group == "inside":
             return with_words("inside", self.call(calls["inside"]))
         return self.both(calls) if group == "both" else self.line_of(calls[group])
+
+    def often(self):
+        """How often each group is drawn now."""
+        if self.is_followed and self.last in LEAVING:
+            return AFTER
+        return LEAVING if self.is_followed and self.below(3) == 0 else GROUPS
 
     def both(self, calls):
         return f"both {self.line_of(calls['both'])}"
@@ -110,9 +120,13 @@ class RandomRow:
         return getattr(self, symbol.lower())() if symbol in WRITTEN else symbol
 
     def group(self):
-        """A key's group, which at times is there, and at times is the greatest."""
-        if self.there() and self.below(3) == 0:
-            return self.random.choice(self.there())[0][0]
+        """A key's group, which at times is there, at times is not, and at times is the greatest."""
+        there = [key[0] for key, _ in self.there()]
+        if there and self.below(3) == 0:
+            return self.random.choice(there)
+        absent = sorted(set(range(self.keys)) - set(there))
+        if absent and self.below(4) == 0:
+            return self.random.choice(absent)
         return self.below(self.keys) if self.below(50) else GREATEST - 1
 
     def item(self, group):
@@ -136,9 +150,12 @@ class RandomRow:
         return f"{self.below(10)}.{self.random.choice((0, 1, 1, 2, 3, self.below(10), self.below(200)))}"
 
     def size(self):
-        return str(self.below(2 * self.keys)) if self.below(12) else "max"
+        return str(self.below(self.random.choice((4, 12, 2 * self.keys)))) if self.below(12) else "max"
 
     def capacity(self):
+        """A capacity, half of the time such that few pairs have no place."""
+        if self.there() and self.below(2):
+            return str(max(len(self.there()) - self.below(4), 0))
         return str(self.random.choice((0, 1, 2, 3, 5, 12, 25, 50, "max")))
 
     def count(self):

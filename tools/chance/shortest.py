@@ -24,7 +24,7 @@ def shortest(text, short_lines, is_kept):
     before = None
     while text != before:
         before = text
-        for piece in (r"[^\n]*\n|[^\n]+", r"[^ \n]*[ \n]|[^ \n]+", r"(?s)."):
+        for piece in (r"[^\n]*\n|[^\n]+", r"[^ \n]*[ \n]|[^ \n]+", r" [^ \n]*|\n?[^ \n]+|\n", r"(?s)."):
             text = "".join(less(re.findall(piece, text), is_kept_in_time))
         text = without_words(text, is_kept_in_time)
         text = with_short_lines(text.split("\n"), short_lines, is_kept_in_time)

@@ -1,7 +1,6 @@
 //! Debug texts.
 use crate::drain::Drain;
 use crate::entry::{Entry, OccupiedEntry, VacantEntry};
-use crate::into_iter::IntoIter;
 use crate::iter_mut::IterMut;
 use crate::map::LinkedHashMap;
 use crate::raw_entry::{
@@ -15,12 +14,6 @@ impl<K: Eq + Hash + fmt::Debug, V: fmt::Debug, S: BuildHasher> fmt::Debug
     for LinkedHashMap<K, V, S> {
     fn fmt<W: fmt::Write>(&self, f: &mut fmt::Formatter<W>) -> fmt::Result {
         f.debug_map().entries(self.iter()).finish()
-    }
-}
-
-impl<K: Eq + Hash + fmt::Debug, V: fmt::Debug, S: BuildHasher> fmt::Debug for IntoIter<K, V, S> {
-    fn fmt<W: fmt::Write>(&self, f: &mut fmt::Formatter<W>) -> fmt::Result {
-        self.map.iter().fmt(f)
     }
 }
 

@@ -27,9 +27,9 @@ pub use cursor::CursorMut;
 pub use drain::Drain;
 pub use entry::{Entry, OccupiedEntry, VacantEntry};
 pub use hashlink_core::{
-    DefaultHashBuilder, DefaultHasher, Equivalent, ExtendError, Iter, Keys, TryReserveError, Values,
+    DefaultHashBuilder, DefaultHasher, Equivalent, ExtendError, IntoIter, Iter, Keys,
+    TryReserveError, Values,
 };
-pub use into_iter::IntoIter;
 pub use iter_from::IterFrom;
 pub use iter_mut::IterMut;
 pub use map::LinkedHashMap;

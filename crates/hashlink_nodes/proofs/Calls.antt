@@ -237,14 +237,6 @@ module _ {K V : Type 0} where
         leaves is (dropped (front_bare is₁ is₂) drops)
         (omega (arith, begun.is_len, ap length front.is)) begun.is_spare
 
-    pub front_spared : {s₁ s₂ s₃ : State K V} → s₁ ≡ detached m (state_of n.pool) → s₂ ≡ hold m None s₁
-        → s₃ ≡ store_next m n.first_spare s₂
-        → Leaves s₃ n.guard m (n.len - 1) (n.spare + 1)
-        (ring front.after (m ∷ v.free) (v.link_writes + 2 + 1))
-    front_spared {s₁} is₁ is₂ is₃ =
-        leaves is (spared (front_bare is₁ is₂) (held_now s₁ is₂) is₃)
-        (omega (arith, begun.is_len, ap length front.is)) (omega (arith, begun.is_spare))
-
   -- the last node of the ring
   pub record LastIs (s : State K V) (n : Node) (es : Entries K V) : Type 0 where
     pub before : Entries K V
@@ -290,15 +282,6 @@ module _ {K V : Type 0} where
         leaves is (dropped (last_bare is₁ is₂) drops)
         (omega (arith, o.is_len, ap length last.is, length-append last.before ((m, last.value) ∷ [])))
         o.is_spare
-
-    pub last_spared : {s₁ s₂ s₃ : State K V} → s₁ ≡ detached m (state_of n.pool) → s₂ ≡ hold m None s₁
-        → s₃ ≡ store_next m n.first_spare s₂
-        → Leaves s₃ n.guard m (n.len - 1) (n.spare + 1)
-        (ring last.before (m ∷ v.free) (v.link_writes + 2 + 1))
-    last_spared {s₁} is₁ is₂ is₃ =
-        leaves is (spared (last_bare is₁ is₂) (held_now s₁ is₂) is₃)
-        (omega (arith, o.is_len, ap length last.is, length-append last.before ((m, last.value) ∷ [])))
-        (omega (arith, o.is_spare))
 
   -- the guard is the last to go
   pub guard_gone : {s s' : State K V} {g first : Node} {len spare : ℕ} {v : Ring K V} →

@@ -9,28 +9,29 @@ ghost use Rattle.hashlink_model.specs.Sets.{elements_of};
 
 use crate::Iter;
 use crate::set::LinkedHashSet;
-use hashlink_map::DefaultHashBuilder;
+use hashlink_map::IntoIter as IntoPairs;
 use std::hash::{BuildHasher, Hash};
 use std::iter::FusedIterator;
 use std::marker::Model;
 
 /// An owning iterator over the elements, from front to back. Contracts see it as the list of the elements
-/// that are left. When it is dropped, it drops these elements, and frees every node and the table.
+/// that are left. A step frees its element's node. When the iterator is dropped, it drops the elements that
+/// are left, and frees every node.
 #[derive(Drop)]
-pub struct IntoIter<T: Eq + Hash, S: BuildHasher = DefaultHashBuilder> {
-    pub(crate) set: LinkedHashSet<T, S>,
+pub struct IntoIter<T> {
+    pairs: IntoPairs<T, ()>,
 }
 
-impl<T: Eq + Hash, S: BuildHasher> Model for IntoIter<T, S> {
+impl<T> Model for IntoIter<T> {
     ghost use Rattle.std.specs.Prelude.{List};
-    ghost use Rattle.hashlink_model.specs.Sets.{elements_of};
+    ghost use Rattle.std.specs.Map.{keys_of};
 
     ghost Value = { List T };
 
-    ghost view = { λ i. elements_of i.set };
+    ghost view = { λ i. keys_of i.pairs };
 }
 
-impl<T: Eq + Hash + Drop, S: BuildHasher + Drop> Iterator for IntoIter<T, S> {
+impl<T: Drop> Iterator for IntoIter<T> {
     type Item = T;
 
     ghost next_gives = { TakesFirst (λ t. t) };
@@ -38,7 +39,8 @@ impl<T: Eq + Hash + Drop, S: BuildHasher + Drop> Iterator for IntoIter<T, S> {
     ghost remaining = { λ s. at_most (length s) };
 
     fn next(&mut self) -> Option<T> {
-        self.set.pop_front()
+        let (element, ()) = self.pairs.next()?;
+        Some(element)
     }
 
     fn size_hint(&self) -> (usize, Option<usize>)
@@ -46,37 +48,37 @@ impl<T: Eq + Hash + Drop, S: BuildHasher + Drop> Iterator for IntoIter<T, S> {
         ensures upper { IfSome result.1 (UpTo (at_most (length self.now))) }
         ensures exact { result ≡ (length self.now, Some (length self.now)) }
     {
-        let left = self.set.len();
-        (left, Some(left))
+        self.pairs.size_hint()
     }
 }
 
-impl<T: Eq + Hash + Drop, S: BuildHasher + Drop> DoubleEndedIterator for IntoIter<T, S> {
+impl<T: Drop> DoubleEndedIterator for IntoIter<T> {
     ghost next_back_gives = { TakesLast (λ t. t) };
 
     fn next_back(&mut self) -> Option<T> {
-        self.set.pop_back()
+        let (element, ()) = self.pairs.next_back()?;
+        Some(element)
     }
 }
 
-impl<T: Eq + Hash + Drop, S: BuildHasher + Drop> ExactSizeIterator for IntoIter<T, S> {
+impl<T: Drop> ExactSizeIterator for IntoIter<T> {
     fn len(&self) -> usize {
-        self.set.len()
+        self.pairs.len()
     }
 }
 
-impl<T: Eq + Hash + Drop, S: BuildHasher + Drop> FusedIterator for IntoIter<T, S> {}
+impl<T: Drop> FusedIterator for IntoIter<T> {}
 
-/// Turns the set into an owning iterator over its elements, from front to back. It takes constant time and
-/// does not allocate.
+/// Turns the set into an owning iterator over its elements, from front to back. It frees the table, takes
+/// constant time and does not allocate.
 impl<T: Eq + Hash + Drop, S: BuildHasher + Drop> IntoIterator for LinkedHashSet<T, S> {
     type Item = T;
 
-    type IntoIter = IntoIter<T, S>;
+    type IntoIter = IntoIter<T>;
 
     ghost into_iter_gives = { λ s r. r ≡ elements_of s };
 
-    fn into_iter(self) -> IntoIter<T, S>
+    fn into_iter(self) -> IntoIter<T>
         ensures into_iter_gives { result ≡ elements_of self }
         ensures distinct { IsDistinct T.eq (elements_of self) }
         ensures runs { GivesInOrder T }
@@ -85,7 +87,10 @@ impl<T: Eq + Hash + Drop, S: BuildHasher + Drop> IntoIterator for LinkedHashSet<
     {
         // `len` says that no two elements are equal.
         let _count = self.len();
-        IntoIter { set: self }
+        let LinkedHashSet { map, alloc: _ } = self;
+        IntoIter {
+            pairs: map.into_iter(),
+        }
     }
 }
 

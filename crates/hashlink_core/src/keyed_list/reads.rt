@@ -32,8 +32,8 @@ impl<K: Eq + Hash, V, S: BuildHasher> KeyedList<K, V, S> {
         self.hash_builder.hash_one(key)
     }
 
-    /// Returns the node whose key the query matches, which has this hash. It looks at the nodes of one
-    /// bucket.
+    /// Returns the node whose key the query matches, which has this hash. The table's search asks about nodes
+    /// of one bucket only.
     #[inline(always)]
     pub fn find<Q: Equivalent<K>>(&self, hash: u64, key: Q) -> Option<Node>
         requires { hash ≡ hash_with S.build_hasher S.Hasher.write S.Hasher.finish Q.hash_input
@@ -52,8 +52,8 @@ impl<K: Eq + Hash, V, S: BuildHasher> KeyedList<K, V, S> {
     }
 
     /// Returns the node whose key is equal to the one that the hash and the test stand for. The hash has to
-    /// be that key's, and the test has to return of each key in the list whether it is equal to it. It looks
-    /// at the nodes of one bucket.
+    /// be that key's, and the test has to return of each key in the list whether it is equal to it. The
+    /// table's search asks about nodes of one bucket only.
     #[inline(always)]
     pub fn find_with<F: Fn(&K) -> bool>(&self, hash: u64, is_match: F) -> Option<Node>
         requires { (k : K) × Tells F.Fn K.eq

@@ -51,8 +51,8 @@ impl<K: Eq + Hash, V, S: BuildHasher> KeyedList<K, V, S> {
         Some(self.remove(node))
     }
 
-    /// Turns the list into an owning iterator over its entries, front to back. It takes constant time, and frees
-    /// the table.
+    /// Turns the list into an owning iterator over its entries, front to back. It takes constant time, and
+    /// frees the table.
     pub fn into_entries(self) -> IntoIter<K, V>
     where
         S: Drop,

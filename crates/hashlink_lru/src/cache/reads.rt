@@ -13,11 +13,13 @@ use super::LruCache;
 use hashlink_map::Equivalent;
 use std::hash::{BuildHasher, Hash};
 
+// Look-ups are inlined, as the map's are.
 impl<K: Eq + Hash, V, S: BuildHasher> LruCache<K, V, S> {
     ghost use Rattle.hashlink_lru.specs.Cached.{entries_of, state_of};
     ghost use Rattle.hashlink_lru.specs.Lends.{LendsValueIn, LendsUsed, EndsUsed};
 
     /// Returns whether the key is present. The order does not change. It hashes the key once.
+    #[inline(always)]
     pub fn contains_key<Q: Equivalent<K>>(&self, key: Q) -> bool
         ensures found { result ≡ is_some (lookup (Q.matches key) (entries_of self.now)) }
         ensures distinct { IsEntries K.eq (entries_of self.now) }
@@ -27,6 +29,7 @@ impl<K: Eq + Hash, V, S: BuildHasher> LruCache<K, V, S> {
 
     /// Returns a reference to the value of the key, or `None` if it is absent. The order does not change. It
     /// hashes the key once.
+    #[inline(always)]
     pub fn peek<Q: Equivalent<K>>(&self, key: Q) -> Option<&V>
         ensures found { option_copied result ≡ lookup (Q.matches key) (entries_of self.now) }
         ensures distinct { IsEntries K.eq (entries_of self.now) }
@@ -36,6 +39,7 @@ impl<K: Eq + Hash, V, S: BuildHasher> LruCache<K, V, S> {
 
     /// Returns a mutable reference to the value of the key, or `None` if it is absent. The order does not
     /// change. It hashes the key once.
+    #[inline(always)]
     pub fn peek_mut<Q: Equivalent<K>>(&mut self, key: Q) -> Option<&mut V>
         ensures* lends { sem 𝓛 (LendsValueIn K.row V.row S.row S.Hasher.row K.Hash
             S.BuildHasher S.Hasher.Hasher self.entry (Q.matches key) result) }
@@ -104,6 +108,7 @@ impl<K: Eq + Hash, V, S: BuildHasher> LruCache<K, V, S> {
 
     /// Returns a reference to the value of the key, and moves its entry to the back. If the key is absent, it
     /// returns `None` and nothing changes. It hashes the key once, and stores at most six links.
+    #[inline(always)]
     pub fn get<Q: Equivalent<K>>(&mut self, key: Q) -> Option<&V>
         ensures* used { sem 𝓛 (EndsUsed K.row V.row S.row S.Hasher.row K.Hash S.BuildHasher S.Hasher.Hasher
             self.entry (Q.matches key) (option_copied result)) }
@@ -118,6 +123,7 @@ impl<K: Eq + Hash, V, S: BuildHasher> LruCache<K, V, S> {
 
     /// Returns a mutable reference to the value of the key, and moves its entry to the back. If the key is
     /// absent, it returns `None` and nothing changes. It hashes the key once, and stores at most six links.
+    #[inline(always)]
     pub fn get_mut<Q: Equivalent<K>>(&mut self, key: Q) -> Option<&mut V>
         ensures* lends { sem 𝓛 (LendsUsed K.row V.row S.row S.Hasher.row K.Hash S.BuildHasher S.Hasher.Hasher
             self.entry (Q.matches key) result) }

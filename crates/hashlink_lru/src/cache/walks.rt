@@ -83,18 +83,18 @@ impl<K: Eq + Hash, V, S: BuildHasher> LruCache<K, V, S> {
     }
 }
 
-/// Turns the cache into an owning iterator over its entries, from front to back. It takes constant time and
-/// does not allocate.
+/// Turns the cache into an owning iterator over its entries, from front to back. It frees the table, takes
+/// constant time and does not allocate.
 impl<K: Eq + Hash + Drop, V: Drop, S: BuildHasher + Drop> IntoIterator for LruCache<K, V, S> {
     ghost use Rattle.hashlink_lru.specs.Cached.{entries_of};
 
     type Item = (K, V);
 
-    type IntoIter = IntoIter<K, V, S>;
+    type IntoIter = IntoIter<K, V>;
 
     ghost into_iter_gives = { λ c r. r ≡ entries_of c };
 
-    fn into_iter(self) -> IntoIter<K, V, S>
+    fn into_iter(self) -> IntoIter<K, V>
         ensures into_iter_gives { result ≡ entries_of self }
         ensures distinct { IsEntries K.eq (entries_of self) }
         ensures runs { GivesInOrder (K × V) }

@@ -21,6 +21,7 @@ impl<K: Eq + Hash, V, S: BuildHasher> LinkedHashMap<K, V, S> {
     /// It allocates only if the key is absent and no node is spare. If the table is full then, it grows
     /// first, in linear time in the new capacity. If an allocation fails, it returns the pair in `Err` and
     /// changes no entry; the room may have grown.
+    #[inline(always)]
     pub fn insert(&mut self, key: K, value: V) -> Result<Option<V>, (K, V)>
     where
         K: Drop,
@@ -44,6 +45,7 @@ impl<K: Eq + Hash, V, S: BuildHasher> LinkedHashMap<K, V, S> {
     /// It allocates only if the key is absent and no node is spare. If the table is full then, it grows
     /// first, in linear time in the new capacity. If an allocation fails, it returns the pair in `Err` and
     /// changes no entry; the room may have grown.
+    #[inline]
     pub fn insert_front(&mut self, key: K, value: V) -> Result<Option<V>, (K, V)>
     where
         K: Drop,
@@ -64,6 +66,7 @@ impl<K: Eq + Hash, V, S: BuildHasher> LinkedHashMap<K, V, S> {
     /// It allocates only if the key is absent and no node is spare. If the table is full then, it grows
     /// first, in linear time in the new capacity. If an allocation fails, it returns the pair in `Err` and
     /// changes no entry; the room may have grown.
+    #[inline]
     pub fn replace(&mut self, key: K, value: V) -> Result<Option<V>, (K, V)>
     where
         K: Drop,
@@ -85,6 +88,7 @@ impl<K: Eq + Hash, V, S: BuildHasher> LinkedHashMap<K, V, S> {
     /// It allocates only if the key is absent and no node is spare. If the table is full then, it grows
     /// first, in linear time in the new capacity. If an allocation fails, it returns the key and the value
     /// that was made in `Err` and changes no entry; the room may have grown.
+    #[inline]
     pub fn get_or_insert_with<F: FnOnce() -> V>(
         &mut self,
         key: K,

@@ -16,6 +16,7 @@ impl<K: Eq + Hash, V, S: BuildHasher> LinkedHashMap<K, V, S> {
 
     /// Moves the entry of the key to the front, and returns a mutable reference to its value. If the key is
     /// absent, it returns `None` and nothing changes. It hashes the key once, and stores at most six links.
+    #[inline(always)]
     pub fn to_front<Q: Equivalent<K>>(&mut self, key: Q) -> Option<&mut V>
         ensures* lends { sem 𝓛 (LendsMoved K.row V.row S.row S.Hasher.row K.Hash S.BuildHasher S.Hasher.Hasher
             self.entry (Q.matches key) 0 result) }
@@ -34,6 +35,7 @@ impl<K: Eq + Hash, V, S: BuildHasher> LinkedHashMap<K, V, S> {
 
     /// Moves the entry of the key to the back, and returns a mutable reference to its value. If the key is
     /// absent, it returns `None` and nothing changes. It hashes the key once, and stores at most six links.
+    #[inline(always)]
     pub fn to_back<Q: Equivalent<K>>(&mut self, key: Q) -> Option<&mut V>
         ensures* lends { sem 𝓛 (LendsMoved K.row V.row S.row S.Hasher.row K.Hash S.BuildHasher S.Hasher.Hasher
             self.entry (Q.matches key) (length (entries_of self.old)) result) }

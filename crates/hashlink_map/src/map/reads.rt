@@ -17,7 +17,7 @@ impl<K: Eq + Hash, V, S: BuildHasher> LinkedHashMap<K, V, S> {
     ghost use Rattle.hashlink_map.specs.Lends.{LendsValueOf, LendsLastValue};
 
     /// Returns the node of the key, or `None` if it is absent. It hashes the key once.
-    #[inline]
+    #[inline(always)]
     pub(crate) fn find<Q: Equivalent<K>>(&self, key: Q) -> Option<Node>
         ensures found { MatchOption result (place_of (Q.matches key) (entries_of self.now) ≡ None)
             (HoldsMatch (Q.matches key) self.now.nodes) }
@@ -48,6 +48,7 @@ impl<K: Eq + Hash, V, S: BuildHasher> LinkedHashMap<K, V, S> {
 
     /// Returns a reference to the value of the key, or `None` if it is absent. The order does not change. It
     /// hashes the key once.
+    #[inline(always)]
     pub fn get<Q: Equivalent<K>>(&self, key: Q) -> Option<&V>
         ensures found { option_copied result ≡ lookup (Q.matches key) (entries_of self.now) }
         ensures distinct { IsEntries K.eq (entries_of self.now) }
@@ -58,6 +59,7 @@ impl<K: Eq + Hash, V, S: BuildHasher> LinkedHashMap<K, V, S> {
 
     /// Returns the stored pair of the key, or `None` if it is absent. The stored key may be a different
     /// object from the given one. The order does not change. It hashes the key once.
+    #[inline(always)]
     pub fn get_key_value<Q: Equivalent<K>>(&self, key: Q) -> Option<(&K, &V)>
         ensures found { option_map deref_pair result ≡ lookup_entry (Q.matches key) (entries_of self.now) }
         ensures distinct { IsEntries K.eq (entries_of self.now) }
@@ -67,6 +69,7 @@ impl<K: Eq + Hash, V, S: BuildHasher> LinkedHashMap<K, V, S> {
     }
 
     /// Returns whether the key is present. It hashes the key once.
+    #[inline(always)]
     pub fn contains_key<Q: Equivalent<K>>(&self, key: Q) -> bool
         ensures found { result ≡ is_some (lookup (Q.matches key) (entries_of self.now)) }
         ensures distinct { IsEntries K.eq (entries_of self.now) }
@@ -76,6 +79,7 @@ impl<K: Eq + Hash, V, S: BuildHasher> LinkedHashMap<K, V, S> {
 
     /// Returns a mutable reference to the value of the key, or `None` if it is absent. The order does not
     /// change. It hashes the key once.
+    #[inline(always)]
     pub fn get_mut<Q: Equivalent<K>>(&mut self, key: Q) -> Option<&mut V>
         ensures* lends { sem 𝓛 (LendsValueOf K.row V.row S.row S.Hasher.row K.Hash
             S.BuildHasher S.Hasher.Hasher self.entry (Q.matches key) result) }
@@ -90,6 +94,7 @@ impl<K: Eq + Hash, V, S: BuildHasher> LinkedHashMap<K, V, S> {
 
     /// Returns the entry at the front, or `None` if the map is empty. It takes constant time and hashes
     /// nothing.
+    #[inline]
     pub fn front(&self) -> Option<(&K, &V)>
         ensures found { option_map deref_pair result ≡ first_of (entries_of self.now) }
         ensures distinct { IsEntries K.eq (entries_of self.now) }
@@ -100,6 +105,7 @@ impl<K: Eq + Hash, V, S: BuildHasher> LinkedHashMap<K, V, S> {
 
     /// Returns the entry at the back, or `None` if the map is empty. It takes constant time and hashes
     /// nothing.
+    #[inline]
     pub fn back(&self) -> Option<(&K, &V)>
         ensures found { option_map deref_pair result ≡ last_of (entries_of self.now) }
         ensures distinct { IsEntries K.eq (entries_of self.now) }
@@ -110,6 +116,7 @@ impl<K: Eq + Hash, V, S: BuildHasher> LinkedHashMap<K, V, S> {
 
     /// Returns a mutable reference to the value of the entry at the back, or `None` if the map is empty. The
     /// order does not change. It takes constant time and hashes nothing.
+    #[inline]
     pub fn back_value_mut(&mut self) -> Option<&mut V>
         ensures* lends { sem 𝓛 (LendsLastValue K.row V.row S.row S.Hasher.row K.Hash
             S.BuildHasher S.Hasher.Hasher self.entry result) }

@@ -14,6 +14,7 @@ use std::hash::{BuildHasher, Hash};
 impl<K: Eq + Hash, V, S: BuildHasher> LinkedHashMap<K, V, S> {
     /// Removes the entry of the key, and returns its value, or `None` if the key is absent. It looks the key
     /// up as `get` does, and stores at most three links.
+    #[inline]
     pub fn remove<Q: Equivalent<K>>(&mut self, key: Q) -> Option<V>
     where
         K: Drop,
@@ -29,6 +30,7 @@ impl<K: Eq + Hash, V, S: BuildHasher> LinkedHashMap<K, V, S> {
 
     /// Removes the entry of the key, and returns the stored pair, or `None` if the key is absent. It looks
     /// the key up as `get` does, and stores at most three links.
+    #[inline]
     pub fn remove_entry<Q: Equivalent<K>>(&mut self, key: Q) -> Option<(K, V)>
         ensures found { result ≡ lookup_entry (Q.matches key) (entries_of self.old) }
         ensures entries { entries_of self.new ≡ remove_entry (Q.matches key) (entries_of self.old) }
@@ -41,6 +43,7 @@ impl<K: Eq + Hash, V, S: BuildHasher> LinkedHashMap<K, V, S> {
 
     /// Removes the entry at the front, and returns it, or `None` if the map is empty. It takes constant time,
     /// hashes nothing, and stores at most three links.
+    #[inline]
     pub fn pop_front(&mut self) -> Option<(K, V)>
         ensures pops { PopsFront (state_of self.old) (state_of self.new) result }
         ensures entries { TakesFirst (λ e. e) (entries_of self.old) result (entries_of self.new) }
@@ -51,6 +54,7 @@ impl<K: Eq + Hash, V, S: BuildHasher> LinkedHashMap<K, V, S> {
 
     /// Removes the entry at the back, and returns it, or `None` if the map is empty. It takes constant time,
     /// hashes nothing, and stores at most three links.
+    #[inline]
     pub fn pop_back(&mut self) -> Option<(K, V)>
         ensures pops { PopsBack (state_of self.old) (state_of self.new) result }
         ensures entries { TakesLast (λ e. e) (entries_of self.old) result (entries_of self.new) }

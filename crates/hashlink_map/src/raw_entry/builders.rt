@@ -33,6 +33,7 @@ pub struct RawEntryBuilderMut<'a, K: Eq + Hash, V, S: BuildHasher = DefaultHashB
 impl<K: Eq + Hash, V, S: BuildHasher> LinkedHashMap<K, V, S> {
     /// Returns a builder that finds an entry to read: by a key, by a key and its hash, or by a hash and a
     /// test. It takes constant time and hashes nothing.
+    #[inline]
     pub fn raw_entry(&self) -> RawEntryBuilder<'_, K, V, S>
         ensures { read_map result ≡ self.now }
     {
@@ -41,6 +42,7 @@ impl<K: Eq + Hash, V, S: BuildHasher> LinkedHashMap<K, V, S> {
 
     /// Returns a builder that finds an entry to change: by a key, by a key and its hash, or by a hash and a
     /// test. It takes constant time and hashes nothing.
+    #[inline]
     pub fn raw_entry_mut(&mut self) -> RawEntryBuilderMut<'_, K, V, S>
         ensures same_map { (found_map result).ghost_name ≡ self.entry.ghost_name }
         ensures unchanged { (found_map result).now ≡ self.old }
@@ -77,6 +79,7 @@ impl<K: Eq + Hash, V, S: BuildHasher> LinkedHashMap<K, V, S> {
 
 impl<'a, K: Eq + Hash, V, S: BuildHasher> RawEntryBuilder<'a, K, V, S> {
     /// Returns the stored pair of the key, or `None` if it is absent. It hashes the key once.
+    #[inline(always)]
     pub fn from_key<Q: Equivalent<K>>(self, key: Q) -> Option<(&'a K, &'a V)>
         ensures { option_map deref_pair result ≡ lookup_entry (Q.matches key)
             (entries_of (read_map self.entry)) }
@@ -86,6 +89,7 @@ impl<'a, K: Eq + Hash, V, S: BuildHasher> RawEntryBuilder<'a, K, V, S> {
 
     /// Returns the stored pair of the key, or `None` if it is absent. The key has to have this hash. It
     /// hashes nothing.
+    #[inline(always)]
     pub fn from_key_hashed_nocheck<Q: Equivalent<K>>(
         self,
         hash: u64,
@@ -104,6 +108,7 @@ impl<'a, K: Eq + Hash, V, S: BuildHasher> RawEntryBuilder<'a, K, V, S> {
     /// Returns the stored pair whose key has this hash and passes the test `is_match`, or `None` if there is
     /// none. `is_match` has to be callable on each key in the map, and to tell those that are equal to one
     /// key of this hash from the others. The call hashes nothing.
+    #[inline(always)]
     pub fn from_hash<F: Fn(&K) -> bool>(self, hash: u64, is_match: F) -> Option<(&'a K, &'a V)>
     where
         F: Drop,
@@ -124,6 +129,7 @@ impl<'a, K: Eq + Hash, V, S: BuildHasher> RawEntryBuilder<'a, K, V, S> {
 impl<K: Eq + Hash, V, S: BuildHasher> LinkedHashMap<K, V, S> {
     /// Returns the place of the key, which it hashes once. It is `raw_entry_mut` and `from_key` in one call:
     /// a caller can prove exactly what the map is afterwards.
+    #[inline(always)]
     pub fn raw_entry_of<Q: Equivalent<K>>(&mut self, key: Q) -> RawEntryMut<'_, K, V, S>
         ensures same_map { (raw_map result).ghost_name ≡ self.entry.ghost_name }
         ensures unchanged { (raw_map result).now ≡ self.old }
@@ -139,6 +145,7 @@ impl<K: Eq + Hash, V, S: BuildHasher> LinkedHashMap<K, V, S> {
 
     /// Returns the place of the key, which has to have this hash. It hashes nothing. It is `raw_entry_mut`
     /// and `from_key_hashed_nocheck` in one call: a caller can prove exactly what the map is afterwards.
+    #[inline(always)]
     pub fn raw_entry_hashed_nocheck<Q: Equivalent<K>>(
         &mut self,
         hash: u64,
@@ -164,6 +171,7 @@ impl<K: Eq + Hash, V, S: BuildHasher> LinkedHashMap<K, V, S> {
     /// callable on each key in the map, and to tell those that are equal to one key of this hash from the
     /// others. The call hashes nothing. It is `raw_entry_mut` and `from_hash` in one call: a caller can prove
     /// exactly what the map is afterwards.
+    #[inline(always)]
     pub fn raw_entry_from_hash<F: Fn(&K) -> bool>(
         &mut self,
         hash: u64,
@@ -199,6 +207,7 @@ impl<K: Eq + Hash, V, S: BuildHasher> LinkedHashMap<K, V, S> {
 
 impl<'a, K: Eq + Hash, V, S: BuildHasher> RawEntryBuilderMut<'a, K, V, S> {
     /// Returns the place of the key, which it hashes once.
+    #[inline(always)]
     pub fn from_key<Q: Equivalent<K>>(self, key: Q) -> RawEntryMut<'a, K, V, S>
         ensures same_map { (raw_map result).ghost_name ≡ (found_map self.entry).ghost_name }
         ensures unchanged { (raw_map result).now ≡ (found_map self.entry).now }
@@ -215,6 +224,7 @@ impl<'a, K: Eq + Hash, V, S: BuildHasher> RawEntryBuilderMut<'a, K, V, S> {
     }
 
     /// Returns the place of the key, which has to have this hash. It hashes nothing.
+    #[inline(always)]
     pub fn from_key_hashed_nocheck<Q: Equivalent<K>>(
         self,
         hash: u64,
@@ -239,6 +249,7 @@ impl<'a, K: Eq + Hash, V, S: BuildHasher> RawEntryBuilderMut<'a, K, V, S> {
     /// Returns the place whose key has this hash and passes the test `is_match`. `is_match` has to be
     /// callable on each key in the map, and to tell those that are equal to one key of this hash from the
     /// others. The call hashes nothing.
+    #[inline(always)]
     pub fn from_hash<F: Fn(&K) -> bool>(self, hash: u64, is_match: F) -> RawEntryMut<'a, K, V, S>
     where
         F: Drop,

@@ -85,64 +85,6 @@ impl<K, V> Nodes<K, V> {
         Held { number, key, value }
     }
 
-    /// Removes the first entry and returns what it held. The node is the next spare one. It stores three links.
-    pub fn spare_first(&mut self) -> Held<K, V>
-        requires { 0 < length self.old.entries }
-        ensures first { (node : Node) × (self.old.entries ≡ (node, result) ∷ self.new.entries) }
-        ensures free { length self.new.free ≡ length self.old.free + 1 }
-        ensures link_writes { self.new.link_writes ≡ self.old.link_writes + 3 }
-    {
-        let guard = match self.guard {
-            Some(guard) => guard,
-            None => unreachable!(),
-        };
-        let node = self.pool.next(guard);
-        self.pool.detach(node);
-        let number = self.pool.number(node);
-        let (key, value) = self.pool.take(node);
-        self.pool.store_next(node, self.first_spare);
-        self.first_spare = node;
-        self.len -= 1;
-        self.spare += 1;
-        Held { number, key, value }
-    }
-
-    /// Removes the last entry and returns what it held. The node is the next spare one. It stores three links.
-    pub fn spare_last(&mut self) -> Held<K, V>
-        requires { 0 < length self.old.entries }
-        ensures last { (node : Node) × (self.old.entries ≡ self.new.entries ++ (node, result) ∷ []) }
-        ensures free { length self.new.free ≡ length self.old.free + 1 }
-        ensures link_writes { self.new.link_writes ≡ self.old.link_writes + 3 }
-    {
-        let guard = match self.guard {
-            Some(guard) => guard,
-            None => unreachable!(),
-        };
-        let node = self.pool.prev(guard);
-        self.pool.detach(node);
-        let number = self.pool.number(node);
-        let (key, value) = self.pool.take(node);
-        self.pool.store_next(node, self.first_spare);
-        self.first_spare = node;
-        self.len -= 1;
-        self.spare += 1;
-        Held { number, key, value }
-    }
-
-    /// Drops the entries. Their nodes are then spare. It stores three links for each entry.
-    pub fn spare_all(&mut self)
-    where
-        K: Drop,
-        V: Drop,
-        ensures entries { self.new.entries ≡ [] }
-        ensures free { length self.new.free ≡ length self.old.free + length self.old.entries }
-        ensures link_writes { self.new.link_writes ≡ self.old.link_writes + 3 * length self.old.entries }
-    {
-        while self.len() > 0 {
-            let _held = self.spare_first();
-        }
-    }
-
     /// Ends a ring without nodes, and frees the guard's block.
     pub(super) fn end(self)
         requires entries { self.entries ≡ [] }

@@ -29,6 +29,7 @@ impl<T: Eq + Hash, S: BuildHasher> LinkedHashSet<T, S> {
     /// It allocates only if the element is absent and no node is spare. If the table is full then, it grows
     /// first, in linear time in the new capacity. If an allocation fails, it returns the element in `Err` and
     /// changes no element; the room may have grown.
+    #[inline(always)]
     pub fn insert(&mut self, value: T) -> Result<bool, T>
     where
         T: Drop,

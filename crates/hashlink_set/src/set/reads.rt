@@ -8,8 +8,10 @@ use super::LinkedHashSet;
 use hashlink_map::Equivalent;
 use std::hash::{BuildHasher, Hash};
 
+// Look-ups are inlined, as the map's are.
 impl<T: Eq + Hash, S: BuildHasher> LinkedHashSet<T, S> {
     /// Returns whether an equal element is present. It hashes the element once.
+    #[inline(always)]
     pub fn contains<Q: Equivalent<T>>(&self, value: Q) -> bool
         ensures found { result ≡ list_any (Q.matches value) (elements_of self.now) }
         ensures distinct { IsDistinct T.eq (elements_of self.now) }
@@ -19,6 +21,7 @@ impl<T: Eq + Hash, S: BuildHasher> LinkedHashSet<T, S> {
 
     /// Returns the equal element, which may be a different object, or `None` if it is absent. The order does
     /// not change. It hashes the element once.
+    #[inline(always)]
     pub fn get<Q: Equivalent<T>>(&self, value: Q) -> Option<&T>
         ensures found { option_copied result ≡ find (Q.matches value) (elements_of self.now) }
         ensures distinct { IsDistinct T.eq (elements_of self.now) }
@@ -29,6 +32,7 @@ impl<T: Eq + Hash, S: BuildHasher> LinkedHashSet<T, S> {
 
     /// Returns the element at the front, or `None` if the set is empty. It takes constant time and hashes
     /// nothing.
+    #[inline]
     pub fn front(&self) -> Option<&T>
         ensures found { option_copied result ≡ first_of (elements_of self.now) }
         ensures distinct { IsDistinct T.eq (elements_of self.now) }
@@ -39,6 +43,7 @@ impl<T: Eq + Hash, S: BuildHasher> LinkedHashSet<T, S> {
 
     /// Returns the element at the back, or `None` if the set is empty. It takes constant time and hashes
     /// nothing.
+    #[inline]
     pub fn back(&self) -> Option<&T>
         ensures found { option_copied result ≡ last_of (elements_of self.now) }
         ensures distinct { IsDistinct T.eq (elements_of self.now) }

@@ -53,7 +53,7 @@ pub fn refill<K: Eq + Hash + Drop, V: Drop, S: BuildHasher + Drop>(
 /// those after its pair are still left.
 pub fn append_rest<K: Eq + Hash + Drop, V: Drop, S: BuildHasher + Drop>(
     map: &mut LinkedHashMap<K, V, S>,
-    rest: &mut IntoIter<K, V, S>,
+    rest: &mut IntoIter<K, V>,
 ) -> Result<(), ExtendError<K, V>>
     ensures all { OnOk result
         (AcceptsAll (InsertsPair K.eq) (state_of map.old) rest.old (state_of map.new)) }

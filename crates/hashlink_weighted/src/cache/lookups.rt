@@ -1,5 +1,4 @@
-//! Reads, uses and removals. Each hashes the key once, does not allocate, and looks at the entries of one
-//! bucket.
+//! Reads, uses and removals. Each hashes the key once and does not allocate.
 ghost use Rattle.std.specs.Prelude.{◌≡◌, is_some, length, option_copied};
 ghost use Rattle.std.specs.Borrow.{sem};
 ghost use Rattle.std.specs.Map.{lookup};
@@ -13,7 +12,10 @@ use super::WeightedCache;
 use hashlink_map::{Equivalent, LinkedHashMap};
 use std::hash::{BuildHasher, Hash};
 
+// Look-ups are inlined, as the map's are.
+
 /// Moves the entry of the key to the back, and returns whether the key is present.
+#[inline(always)]
 fn move_last<K: Eq + Hash, V, S: BuildHasher, Q: Equivalent<K>>(
     map: &mut LinkedHashMap<K, (V, u64), S>,
     key: Q,
@@ -35,6 +37,7 @@ impl<K: Eq + Hash, V, S: BuildHasher> WeightedCache<K, V, S> {
 
     /// Returns a reference to the value of the key, or `None` if it is absent. The order does not change. It
     /// hashes the key once.
+    #[inline(always)]
     pub fn peek<Q: Equivalent<K>>(&self, key: Q) -> Option<&V>
         ensures { option_copied result ≡ without_weight (lookup (Q.matches key) (entries_of self.now)) }
     {
@@ -44,6 +47,7 @@ impl<K: Eq + Hash, V, S: BuildHasher> WeightedCache<K, V, S> {
 
     /// Returns a reference to the value of the key, and moves its entry to the back. If the key is absent, it
     /// returns `None` and nothing changes. It hashes the key once, and stores at most six links.
+    #[inline(always)]
     pub fn get<Q: Equivalent<K>>(&mut self, key: Q) -> Option<&V>
         ensures* used { sem 𝓛 (EndsUsed K.row V.row S.row S.Hasher.row K.Hash S.BuildHasher S.Hasher.Hasher
             self.entry (Q.matches key)) }

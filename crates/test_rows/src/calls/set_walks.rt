@@ -14,7 +14,7 @@ impl Walk for Iter<'_, Item> {
     }
 }
 
-impl Walk for IntoIter<Item, Hashing> {
+impl Walk for IntoIter<Item> {
     fn step(&mut self, step: Step) -> Word {
         let came = match step.goes {
             Goes::Left => Word::Nothing,

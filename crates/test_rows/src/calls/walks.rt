@@ -63,7 +63,7 @@ impl Walk for ValuesMut<'_, Item, Item, Hashing> {
     }
 }
 
-impl Walk for IntoIter<Item, Item, Hashing> {
+impl Walk for IntoIter<Item, Item> {
     fn step(&mut self, step: Step) -> Word {
         let came = match step.goes {
             Goes::Left => Word::Nothing,

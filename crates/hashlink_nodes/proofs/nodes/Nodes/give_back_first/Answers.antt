@@ -1,6 +1,7 @@
 use Rattle.hashlink_nodes.proofs.Names.{option_map, is_some, ◌∷◌, ap, sym, ◌∙◌, arith}
 use Rattle.hashlink_nodes.proofs.Names.{state_of, Held, held, pair_of}
-use Rattle.hashlink_nodes.proofs.{Calls.front, Calls.front_in, Calls.front_bare, Calls.front_gone, Cuts.same_some}
+use Rattle.hashlink_nodes.proofs.{Calls.front, Calls.front_in, Calls.front_bare, Calls.front_gone}
+use Rattle.hashlink_nodes.proofs.{Cuts.same_some}
 use Rattle.hashlink_nodes.proofs.Opening.{known, not_empty, seal}
 use Rattle.hashlink_nodes.proofs.Rings.{held_now, held_out}
 use Rattle.hashlink_nodes.proofs.nodes.Nodes.give_back_first.Goals as goal

@@ -1,5 +1,6 @@
 use Rattle.hashlink_table.proofs.Names.{◌≡◌, ◌/◌, ◌%◌, ◌<◌, inl, inr, length, Option, None, Some, refl, sym, ap, ◌∙◌}
-use Rattle.hashlink_table.proofs.Names.{arith, same_Some, IsPermutation-trans, common_steps, IfSome, Hashed, chain_at}
+use Rattle.hashlink_table.proofs.Names.{arith, same_Some, IsPermutation-trans, common_steps, IfSome, Hashed}
+use Rattle.hashlink_table.proofs.Names.{chain_at}
 use Rattle.hashlink_table.proofs.Names.{nodes_in}
 use Rattle.hashlink_table.proofs.Linking.{within_by_kept, kept-same, on_hash}
 use Rattle.hashlink_table.proofs.Groups.{group_within, grouped_in}

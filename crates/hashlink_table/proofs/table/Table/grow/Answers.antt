@@ -90,7 +90,8 @@ insert_chained-requires g c =
 pub returns-clause-nodes : goal.returns-clause-nodes
 returns-clause-nodes g c =
     let later = c.double.new.slots in
-    let inserted : IsPermutation ((nodes_in later ++ nodes_in c.double.new.cells.items) ++ c.in_ok-chained.chained.nodes.items)
+    let inserted : IsPermutation
+    ((nodes_in later ++ nodes_in c.double.new.cells.items) ++ c.in_ok-chained.chained.nodes.items)
     c.insert_chained.new.self.nodes
     = c.insert_chained.ensures.inserted in
     subst (λ (u : Contents g.row.N.Denot). IsPermutation u.nodes c.insert_chained.new.self.nodes) c.self.view_is

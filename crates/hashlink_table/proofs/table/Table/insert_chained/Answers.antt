@@ -19,7 +19,8 @@ insert_reserved-requires g c =
 pub loop-kept-preserved : goal.loop-kept-preserved
 loop-kept-preserved g c =
     one_copied c.args.self.now _ _ c.kept-item.result
-    (next_of c.deref-kept-items.result.now c.loop-kept.kept-index c.kept-item.result c.loop-kept-test.true c.kept-item.is)
+    (next_of c.deref-kept-items.result.now c.loop-kept.kept-index c.kept-item.result c.loop-kept-test.true
+    c.kept-item.is)
     c.loop-kept.self c.loop-kept.invariant _ c.insert_reserved.ensures.inserted c.insert_reserved.ensures.room
 
 pub returns-clause-inserted : goal.returns-clause-inserted

@@ -1,6 +1,7 @@
 use Rattle.std.proofs.Common.{refl, arith, ◌≡◌, ◌≤◌, ◌-◌}
 use Rattle.hashlink_weighted.proofs.Dropping.{none_dropped, drops_one, not_none, drops_enough}
 use Rattle.hashlink_weighted.proofs.Evicting.{begins, may_give, given, given_all}
+use Rattle.hashlink_weighted.proofs.cache.eviction.evict_until_fitting.Goals.{Left-loop-others}
 use Rattle.hashlink_weighted.proofs.cache.eviction.evict_until_fitting.Goals as goal
 
 pub loop-others-init : goal.loop-others-init
@@ -35,7 +36,7 @@ loop-others-preserved g c =
     }
 
 -- the loop ends only where the others fit
-ended : (g : _) (c : goal.Left-loop-others g)
+ended : (g : _) (c : Left-loop-others g)
     → (c.loop-others.others ≤ c.args.budget - c.args.weight) × (c.loop-others-test.map ≡ c.loop-others.map)
 ended g c = elim c.loop-others-test.branch [
   | goal.else-loop-others-test w ↦ (w.loop-others-test.false, w.map-is)
@@ -45,20 +46,21 @@ ended g c = elim c.loop-others-test.branch [
 
 pub overflow_add-result : goal.overflow_add-result
 overflow_add-result g c =
-    let fits = (ended g c).0 in
+    let fits = (ended g (goal.at.overflow_add-result g c).Left-loop-others).0 in
     omega (arith, c.ranges.budget.fits, c.requires.not_too_heavy)
 
 pub returns-clause-keeps : goal.returns-clause-keeps
 returns-clause-keeps g c =
-    rw (ended g c).1
-    (drops_enough _ _ _ _ _ c.loop-others.invariant.dropped c.requires.not_too_heavy (ended g c).0).0
+    let end = ended g (goal.at.returns-clause-keeps g c).Left-loop-others in
+    rw end.1 (drops_enough _ _ _ _ _ c.loop-others.invariant.dropped c.requires.not_too_heavy end.0).0
 
 pub returns-clause-total : goal.returns-clause-total
 returns-clause-total g c =
-    rw (ended g c).1
-    (drops_enough _ _ _ _ _ c.loop-others.invariant.dropped c.requires.not_too_heavy (ended g c).0).1
+    let end = ended g (goal.at.returns-clause-total g c).Left-loop-others in
+    rw end.1 (drops_enough _ _ _ _ _ c.loop-others.invariant.dropped c.requires.not_too_heavy end.0).1
 
 pub returns-clause-given : goal.returns-clause-given
 returns-clause-given g c =
-    given_all _ _ _ _ _ _ _ _ c.loop-others.invariant.dropped.last c.requires.not_too_heavy (ended g c).0
+    let end = ended g (goal.at.returns-clause-given g c).Left-loop-others in
+    given_all _ _ _ _ _ _ _ _ c.loop-others.invariant.dropped.last c.requires.not_too_heavy end.0
     c.loop-others.invariant.evicting
