@@ -1,6 +1,7 @@
-/* Loaded before a program (LD_PRELOAD). It is compiled for one of three uses: with -DFAULTS the program's
-   requests for memory, reads and writes fail (tools/oom); with -DSLICES it runs in turn with others, and with
-   -DCOUNTS callgrind counts each of its rows apart (tools/bench). FAULTS needs no header, COUNTS valgrind's. */
+/* Loaded before a program (LD_PRELOAD). It is compiled for one of four uses: with -DFAULTS the program's
+   requests for memory, reads and writes fail (tools/oom); with -DSLICES it runs in turn with others, with
+   -DCOUNTS callgrind counts each of its rows apart, and with -DBYTES it says how much memory a row took
+   (tools/bench). FAULTS needs no header, COUNTS valgrind's. */
 
 #if defined FAULTS
 
@@ -404,6 +405,85 @@ ssize_t write(int file, const void *bytes, size_t count) {
     return next(file, bytes, count);
 }
 
+#elif defined BYTES
+
+/* The program reads CLOCK_MONOTONIC before what it times and after it. As it ends this writes to the file
+   descriptor that BYTES_FILE numbers by how many bytes its blocks of memory had grown, the last time. */
+
+#define _GNU_SOURCE
+#include <dlfcn.h>
+#include <errno.h>
+#include <malloc.h>
+#include <stdbool.h>
+#include <stdio.h>
+#include <stdlib.h>
+#include <time.h>
+
+void *__libc_malloc(size_t);
+void *__libc_calloc(size_t, size_t);
+void *__libc_realloc(void *, size_t);
+void *__libc_memalign(size_t, size_t);
+void __libc_free(void *);
+
+static long held, grown;
+
+/* With what comes before each block. */
+static long size_of(void *block) {
+    return block ? (long)(malloc_usable_size(block) + sizeof(size_t)) : 0;
+}
+
+static void *taken(void *block) {
+    held += size_of(block);
+    return block;
+}
+
+void *malloc(size_t size) {
+    return taken(__libc_malloc(size));
+}
+
+void *calloc(size_t count, size_t size) {
+    return taken(__libc_calloc(count, size));
+}
+
+void *realloc(void *old, size_t size) {
+    long before = size_of(old);
+    void *block = __libc_realloc(old, size);
+    if (block || size == 0) held += size_of(block) - before;
+    return block;
+}
+
+int posix_memalign(void **to, size_t align, size_t size) {
+    *to = taken(__libc_memalign(align, size));
+    return *to ? 0 : ENOMEM;
+}
+
+void *aligned_alloc(size_t align, size_t size) {
+    return taken(__libc_memalign(align, size));
+}
+
+void free(void *block) {
+    held -= size_of(block);
+    __libc_free(block);
+}
+
+int clock_gettime(clockid_t clock, struct timespec *time) {
+    static int (*next)(clockid_t, struct timespec *);
+    static bool is_timing;
+    static long before;
+    if (!next) next = (int (*)(clockid_t, struct timespec *))dlsym(RTLD_NEXT, "clock_gettime");
+    if (clock == CLOCK_MONOTONIC) {
+        is_timing = !is_timing;
+        if (is_timing) before = held;
+        else grown = held - before;
+    }
+    return next(clock, time);
+}
+
+__attribute__((destructor)) static void end(void) {
+    const char *file = getenv("BYTES_FILE");
+    if (file) dprintf(atoi(file), "%ld\n", grown);
+}
+
 #else
-#error "FAULTS, SLICES or COUNTS has to be defined"
+#error "FAULTS, SLICES, COUNTS or BYTES has to be defined"
 #endif

@@ -251,8 +251,7 @@ class Model(Entries, Cursors):
         if name == "drain":
             self.list.keep(lambda pair: False)
         if name == "forgotten_drain":
-            left = self.list.pairs[ends[0] : ends[1]]
-            self.list.keep(lambda pair: pair in left)
+            self.list.lose()
         if name == "into_iter":
             self.forget_room(0)
             self.list.clear()

@@ -49,6 +49,10 @@ class PlainList:
         """Drops every pair, and no node becomes spare."""
         self.pairs = []
 
+    def lose(self):
+        """Loses every pair and every spare node."""
+        self.pairs, self.spare = [], 0
+
     def keep(self, test):
         """Keeps the pairs that pass, and the nodes of the others become spare."""
         before = len(self.pairs)

@@ -2,89 +2,112 @@
 
 import math
 
-#: whose rows a mean is of
+#: which kinds of rows a mean is over
 MEANS = {
-    "numbers": ("maps", "caches", "sets"),
+    "numbers": ("lookups", "inserts", "removals", "walks", "wholes", "sets", "algebra", "caches", "budgets"),
     "texts": ("texts",),
     "growth": ("growth",),
 }
-#: which rows the short table has beside the means
-SHORT = ("insert", "get_hit", "get_miss", "iter", "update", "churn", "lru_zipf")
+#: the end of the name of a row whose call has one caller in the program
+FROM_ONE = "_from_one"
 
 
 class Times:
-    """The times of each program, the first of which is the one that the others are compared with."""
+    """The times of each program, the first of which is the one that the others are compared with.
+
+    A row is timed at a size by several numbers of keys, if its kind is spread over the loads of a table.
+    """
 
     def __init__(self, programs, sizes, turns):
         self.programs, self.sizes, self.turns = programs, sizes, turns
         #: the rows in the order in which they came, with their kinds
         self.rows = {}
-        #: what a call took in each turn, by program, row and size
+        #: what a call took in each turn, by program, row and size, and then by the number of keys
         self.ns = {}
 
-    def add(self, turn, program, kind, row, size, ns):
+    def add(self, turn, program, kind, row, size, keys, ns):
         self.rows.setdefault(row, kind)
-        self.ns.setdefault((program, row, size), {})[turn] = ns
+        self.ns.setdefault((program, row, size), {}).setdefault(keys, {})[turn] = ns
 
     def median(self, program, row, size):
-        """The median of what a call took, if the program has the row."""
-        return part_of(sorted(self.ns.get((program, row, size), {}).values()), 0.5)
+        """The median of what a call took, if the program has the row: the mean over the numbers of keys."""
+        by_keys = self.ns.get((program, row, size), {}).values()
+        return mean_of(part_of(sorted(it.values()), 0.5) for it in by_keys)
 
-    def ratios(self, program, row, size):
-        """What a call took beside the program, in each turn, the least first."""
-        port, other = (self.ns.get((it, row, size), {}) for it in (self.programs[0], program))
-        return sorted(port[turn] / other[turn] for turn in other if turn in port and other[turn])
+    def ratios(self, program, row, size, keys=None):
+        """What a call took beside the program in each turn, the least first: the mean over the numbers of
+        keys, or at one of them."""
+        return self.ratios_of((self.programs[0], row), (program, row), size, keys)
+
+    def ratios_of(self, one, other, size, keys=None):
+        """The same of a program and its row beside another."""
+        ones, others = self.ns.get((*one, size), {}), self.ns.get((*other, size), {})
+        counts = [it for it in ones if it in others and keys in (None, it)]
+        turns = [turn for turn in range(1, self.turns + 1) if all(turn in others[it] for it in counts)]
+        return sorted(mean_of(ones[it][turn] / others[it][turn] for it in counts) for turn in turns if counts)
 
     def mean(self, program, kinds, sizes):
         """The geometric mean of the median ratios of the rows of these kinds."""
-        medians = [
-            part_of(self.ratios(program, row, size), 0.5)
-            for row, kind in self.rows.items()
-            for size in sizes
-            if kind in kinds
-        ]
-        logarithms = [math.log(it) for it in medians if it]
-        return math.exp(sum(logarithms) / len(logarithms)) if logarithms else None
+        rows = [row for row, kind in self.rows.items() if kind in kinds and not row.endswith(FROM_ONE)]
+        return mean_of(part_of(self.ratios(program, row, size), 0.5) for row in rows for size in sizes)
 
     def tables(self, notes):
-        """The lines of the tables: means by kind, with some rows; all rows; the times."""
+        """The lines of the tables: means by kind; all rows; those by load; from one place; the times."""
         yield "; ".join([*notes, f"medians of {self.turns} turns"])
         for program in self.programs[1:]:
-            yield from ("", f"A call beside {program}, means by kind and some rows:", "")
-            yield from self.short_table(program)
+            yield from ("", f"A call beside {program}, means by kind:", "")
+            yield from self.means(program)
             yield from ("", f"A call beside {program}, and where the middle half of the turns lies:", "")
             yield from self.table(self.sizes, lambda row, size: self.shown_ratio(program, row, size))
+            for size in self.sizes:
+                yield from self.by_keys(program, size)
+        yield from ("", "A call from ten places beside the same from one:", "")
+        yield from self.table(self.sizes, self.shown_beside_one)
         yield from ("", f"ns of a call, of {', '.join(self.programs)}:", "")
         yield from self.table(self.sizes, self.shown_times)
 
-    def short_table(self, program):
-        """The means, one for each kind, since a mean over different things says nothing."""
+    def means(self, program):
+        """One mean for each kind, since a mean over different things says nothing."""
         yield from head_of(self.sizes, "all sizes")
         for name, kinds in MEANS.items():
             means = [self.mean(program, kinds, sizes) for sizes in (*([it] for it in self.sizes), self.sizes)]
             if any(means):
                 yield line_of(f"mean of {name}", map(shown, means))
-        for row in SHORT:
-            medians = [part_of(self.ratios(program, row, size), 0.5) for size in self.sizes]
-            if any(medians):
-                yield line_of(row, [*map(shown, medians), ""])
 
-    def table(self, sizes, cell):
-        """A line for each row of which there is a cell."""
+    def by_keys(self, program, size):
+        """The rows that are timed by several numbers of keys at the size."""
+        of_size = [by_keys for key, by_keys in self.ns.items() if (key[0], key[2]) == (program, size)]
+        counts = sorted({keys for by_keys in of_size for keys in by_keys})
+        if len(counts) > 1:
+            yield from ("", f"A call beside {program}, by the number of keys:", "")
+            yield from self.table(
+                counts, lambda row, keys: shown(part_of(self.ratios(program, row, size, keys), 0.5)), 1
+            )
+
+    def table(self, sizes, cell, least=0):
+        """A line for each row of which there are more cells than the least."""
         yield from head_of(sizes)
         for row in self.rows:
             cells = [cell(row, size) for size in sizes]
-            if any(cells):
+            if sum(map(bool, cells)) > least:
                 yield line_of(row, cells)
 
     def shown_ratio(self, program, row, size):
-        ratios = self.ratios(program, row, size)
-        low, middle, high = (shown(part_of(ratios, part)) for part in (0.25, 0.5, 0.75))
-        return f"{middle} ({low} to {high})" if ratios else ""
+        return shown_spread(self.ratios(program, row, size))
+
+    def shown_beside_one(self, row, size):
+        port = self.programs[0]
+        return shown_spread(self.ratios_of((port, row), (port, row + FROM_ONE), size))
 
     def shown_times(self, row, size):
         medians = [self.median(program, row, size) for program in self.programs]
         return ", ".join(f"{it:.1f}" for it in medians if it is not None)
+
+
+def mean_of(values):
+    """The geometric mean of those that are there and not 0, if any is."""
+    logarithms = [math.log(it) for it in values if it]
+    return math.exp(sum(logarithms) / len(logarithms)) if logarithms else None
 
 
 def part_of(values, part):
@@ -99,6 +122,12 @@ def part_of(values, part):
 
 def shown(number):
     return "" if number is None else f"{number:.2f}"
+
+
+def shown_spread(ratios):
+    """The median of sorted ratios, and where their middle half lies."""
+    low, middle, high = (shown(part_of(ratios, part)) for part in (0.25, 0.5, 0.75))
+    return f"{middle} ({low} to {high})" if ratios else ""
 
 
 def head_of(sizes, *more):

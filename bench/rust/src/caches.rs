@@ -1,76 +1,225 @@
-//! The rows of caches.
+//! The calls of a cache.
 
-use crate::keys::{Choices, Keys};
-use crate::plan::{Plan, Turns};
-use hashlink::{LinkedHashMap, LruCache};
+use crate::fill::{full_cache, half_cache, lone_cache, Cache, LoneCache};
+use crate::lists::Order;
+use crate::plan::{fold, Plan};
 
-type Cache = LruCache<u64, u64>;
-
-/// A lookup of a key, and an insert where it is not there.
-fn use_key(cache: &mut Cache, place: u64, key: &u64) -> u64 {
-    if let Some(value) = cache.get(key) {
-        return *value;
+/// A look-up of a key, and an insert where it is not there.
+#[inline(always)]
+pub fn use_key(cache: &mut Cache, place: u64, key: &u64) -> u64 {
+    match cache.get(key) {
+        Some(value) => *value,
+        None => insert(cache, place, key),
     }
+}
+
+#[inline(always)]
+fn insert(cache: &mut Cache, place: u64, key: &u64) -> u64 {
     cache.insert(*key, place).unwrap_or(*key)
 }
 
-/// A cache that the keys went into, the first one last.
-fn used(capacity: usize, keys: &[u64]) -> Cache {
-    let mut cache = Cache::new(capacity);
-    for (place, key) in keys.iter().rev().enumerate() {
-        use_key(&mut cache, place as u64, key);
+#[inline(always)]
+fn peek(cache: &mut Cache, _place: u64, key: &u64) -> u64 {
+    cache.peek(key).copied().unwrap_or(*key)
+}
+
+#[inline(always)]
+fn peek_lone(cache: &mut LoneCache, _place: u64, key: &u64) -> u64 {
+    match cache.peek(key) {
+        Some(value) => u64::from(*value),
+        None => *key,
     }
-    cache
 }
 
-/// What hashlink has no type for: values with weights, which sum to no more than a budget.
-struct Weighted {
-    map: LinkedHashMap<u64, (u64, u64)>,
-    total: u64,
-    budget: u64,
-}
-
-impl Weighted {
-    fn insert(&mut self, key: u64, value: u64, weight: u64) -> Option<u64> {
-        let old = self.map.insert(key, (value, weight));
-        self.total += weight;
-        if let Some((_, weight)) = old {
-            self.total -= weight;
+#[inline(always)]
+fn peek_mut(cache: &mut Cache, _place: u64, key: &u64) -> u64 {
+    match cache.peek_mut(key) {
+        Some(value) => {
+            *value = value.wrapping_add(1);
+            *value
         }
-        while self.total > self.budget {
-            let (_, (_, weight)) = self.map.pop_front()?;
-            self.total -= weight;
+        None => *key,
+    }
+}
+
+#[inline(always)]
+fn get(cache: &mut Cache, _place: u64, key: &u64) -> u64 {
+    cache.get(key).copied().unwrap_or(*key)
+}
+
+#[inline(always)]
+fn get_lone(cache: &mut LoneCache, _place: u64, key: &u64) -> u64 {
+    match cache.get(key) {
+        Some(value) => u64::from(*value),
+        None => *key,
+    }
+}
+
+#[inline(always)]
+fn get_mut(cache: &mut Cache, _place: u64, key: &u64) -> u64 {
+    match cache.get_mut(key) {
+        Some(value) => {
+            *value = value.wrapping_add(1);
+            *value
         }
-        old.map(|(value, _)| value)
+        None => *key,
     }
 }
 
-/// The same of a cache with a budget, where a key weighs from 1 to 16.
-fn use_weighted(cache: &mut Weighted, place: u64, key: &u64) -> u64 {
-    if let Some((value, _)) = cache.map.to_back(key) {
-        return *value;
-    }
-    cache.insert(*key, place, 1 + *key % 16).unwrap_or(*key)
+#[inline(always)]
+fn contains_key(cache: &mut Cache, _place: u64, key: &u64) -> u64 {
+    u64::from(cache.contains_key(key))
 }
 
-/// The capacity is that of all keys for the first row, and of half of them for the others.
-pub fn rows(plan: &Plan, keys: &Keys) {
-    let size = plan.size;
-    let held = &keys.held;
-    let half = (size / 2).max(1);
-    let orders = &mut Turns {
-        now: &keys.mixed,
-        next: &keys.mixed_again,
-    };
-    plan.row("lru_hit", size, orders, &mut used(size, held), use_key);
-    let (zipf, uniform) = (&mut Choices::zipf(held), &mut Choices::uniform(held));
-    plan.row("lru_zipf", size, zipf, &mut used(half, held), use_key);
-    plan.row("lru_uniform", size, uniform, &mut used(half, held), use_key);
-    let mut weighted = Weighted {
-        map: LinkedHashMap::new(),
-        total: 0,
-        budget: (size as u64 * 4).max(16),
-    };
-    let zipf = &mut Choices::zipf(held);
-    plan.row("weighted_zipf", size, zipf, &mut weighted, use_weighted);
+/// The entry that an insert of the key would evict. hashlink has no `evicted_by`.
+#[inline(always)]
+fn evicted_by(cache: &mut Cache, _place: u64, key: &u64) -> u64 {
+    if cache.len() < cache.capacity() || cache.contains_key(key) {
+        return *key;
+    }
+    match cache.iter().next() {
+        Some((stored, value)) => fold(*stored, *value),
+        None => *key,
+    }
+}
+
+/// hashlink has no `push`.
+#[inline(always)]
+fn push(cache: &mut Cache, place: u64, key: &u64) -> u64 {
+    let mut left = None;
+    if cache.len() >= cache.capacity() && !cache.contains_key(key) {
+        left = cache.remove_lru();
+    }
+    let old = cache.insert(*key, place);
+    match old.map(|value| (*key, value)).or(left) {
+        Some((left, value)) => fold(left, value),
+        None => *key,
+    }
+}
+
+/// hashlink has no `get_or_insert_with`.
+#[inline(always)]
+fn get_or_insert_with(cache: &mut Cache, place: u64, key: &u64) -> u64 {
+    *cache.entry(*key).or_insert_with(|| place)
+}
+
+/// The entry may be one too many until the next call.
+#[inline(always)]
+fn entry_or_insert(cache: &mut Cache, place: u64, key: &u64) -> u64 {
+    *cache.entry(*key).or_insert(place)
+}
+
+#[inline(always)]
+fn remove(cache: &mut Cache, _place: u64, key: &u64) -> u64 {
+    cache.remove(key).unwrap_or(*key)
+}
+
+#[inline(always)]
+fn remove_lru(cache: &mut Cache, _place: u64, key: &u64) -> u64 {
+    match cache.remove_lru() {
+        Some((stored, value)) => fold(stored, value),
+        None => *key,
+    }
+}
+
+fn uses(plan: &mut Plan) {
+    plan.row("lru_hit", Order::MixedByTurns, full_cache, use_key);
+    plan.row("lru_zipf", Order::Zipf, half_cache, use_key);
+    plan.row("lru_uniform", Order::Uniform, half_cache, use_key);
+}
+
+fn peeks(plan: &mut Plan) {
+    plan.row("lru_peek_hit", Order::Mixed, full_cache, peek);
+    plan.row("lru_peek_miss", Order::Absent, full_cache, peek);
+    plan.row_from_one("lru_peek_hit_from_one", Order::Mixed, lone_cache, peek_lone);
+    plan.row_from_one(
+        "lru_peek_miss_from_one",
+        Order::Absent,
+        lone_cache,
+        peek_lone,
+    );
+    plan.row("lru_peek_mut_hit", Order::Mixed, full_cache, peek_mut);
+    plan.row(
+        "lru_contains_key_hit",
+        Order::Mixed,
+        full_cache,
+        contains_key,
+    );
+    plan.row(
+        "lru_contains_key_miss",
+        Order::Absent,
+        full_cache,
+        contains_key,
+    );
+    plan.row("lru_evicted_by", Order::Absent, full_cache, evicted_by);
+}
+
+fn gets(plan: &mut Plan) {
+    plan.row("lru_get_hit", Order::MixedByTurns, full_cache, get);
+    plan.row("lru_get_miss", Order::Absent, full_cache, get);
+    plan.row_from_one(
+        "lru_get_hit_from_one",
+        Order::MixedByTurns,
+        lone_cache,
+        get_lone,
+    );
+    plan.row_from_one("lru_get_miss_from_one", Order::Absent, lone_cache, get_lone);
+    plan.row("lru_get_mut_hit", Order::MixedByTurns, full_cache, get_mut);
+}
+
+/// An insert of a new key evicts the entry at the front.
+fn inserts(plan: &mut Plan) {
+    plan.row("lru_insert_new", Order::AbsentAndHeld, full_cache, insert);
+    plan.row(
+        "lru_insert_present",
+        Order::MixedByTurns,
+        full_cache,
+        insert,
+    );
+    plan.row("lru_push_new", Order::AbsentAndHeld, full_cache, push);
+    plan.row("lru_push_present", Order::MixedByTurns, full_cache, push);
+    plan.row(
+        "lru_get_or_insert_with_new",
+        Order::AbsentAndHeld,
+        full_cache,
+        get_or_insert_with,
+    );
+    plan.row(
+        "lru_get_or_insert_with_present",
+        Order::MixedByTurns,
+        full_cache,
+        get_or_insert_with,
+    );
+    plan.row(
+        "lru_entry_or_insert_new",
+        Order::AbsentAndHeld,
+        full_cache,
+        entry_or_insert,
+    );
+}
+
+fn removals(plan: &mut Plan) {
+    plan.row_afresh("lru_remove_hit", Order::Mixed, full_cache, remove);
+    plan.row_afresh("lru_remove_lru", Order::Held, full_cache, remove_lru);
+}
+
+/// Evicts the first half of the entries.
+#[inline(always)]
+fn set_capacity(cache: &mut Cache, _place: u64, _item: &u64) -> u64 {
+    cache.set_capacity(cache.len() / 2);
+    cache.len() as u64
+}
+
+fn wholes(plan: &mut Plan) {
+    plan.row_afresh("lru_set_capacity", Order::Whole, full_cache, set_capacity);
+}
+
+pub fn rows(plan: &mut Plan) {
+    plan.kind("caches");
+    uses(plan);
+    peeks(plan);
+    gets(plan);
+    inserts(plan);
+    removals(plan);
+    wholes(plan);
 }

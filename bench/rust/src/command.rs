@@ -4,41 +4,45 @@ use crate::keys::Keys;
 use crate::plan::Plan;
 use std::process::ExitCode;
 
-/// Which rows are done: those of one kind, or all.
-pub struct Kind {
-    name: String,
+/// What a program is asked for.
+pub struct Request {
+    /// A kind of rows, the name of a row, or `all`.
+    pub what: String,
+    pub rounds: usize,
+    pub sizes: Vec<usize>,
 }
 
-impl Kind {
-    const NAMES: [&'static str; 6] = ["maps", "growth", "caches", "sets", "texts", "all"];
-
-    /// Whether the rows of the kind are done.
-    pub fn has(&self, kind: &str) -> bool {
-        self.name == kind || self.name == "all"
-    }
-}
-
-/// Reads `KIND ROUNDS [N ..]`, and does the rows of the kind at each N.
-pub fn run(program: &str, rows: impl Fn(&Kind, &Plan, &Keys)) -> ExitCode {
-    let Some((kind, rounds, sizes)) = arguments() else {
-        eprintln!(
-            "usage: {program} KIND ROUNDS [N ..], where KIND is {}",
-            Kind::NAMES.join(", ")
-        );
-        return ExitCode::from(2);
+/// Reads `WHAT ROUNDS [N ..]`, and does the rows that are asked for at each N.
+pub fn run(program: &str, rows: impl Fn(&mut Plan)) -> ExitCode {
+    let Some(request) = Request::read() else {
+        return refuse(program);
     };
-    for size in sizes {
-        rows(&kind, &Plan { rounds, size }, &Keys::new(size));
+    for size in &request.sizes {
+        let keys = Keys::new(*size);
+        let mut plan = Plan::new(&request, &keys);
+        rows(&mut plan);
+        if !plan.has_rows() {
+            return refuse(program);
+        }
     }
     ExitCode::SUCCESS
 }
 
-fn arguments() -> Option<(Kind, usize, Vec<usize>)> {
-    let mut words = std::env::args().skip(1);
-    let name = words
-        .next()
-        .filter(|name| Kind::NAMES.contains(&name.as_str()))?;
-    let rounds = words.next()?.parse().ok()?;
-    let sizes: Result<_, _> = words.map(|word| word.parse()).collect();
-    Some((Kind { name }, rounds, sizes.ok()?))
+fn refuse(program: &str) -> ExitCode {
+    eprintln!("usage: {program} WHAT ROUNDS [N ..], where WHAT is all, a kind of rows or a row");
+    ExitCode::from(2)
+}
+
+impl Request {
+    fn read() -> Option<Request> {
+        let mut words = std::env::args().skip(1);
+        let what = words.next()?;
+        let rounds = words.next()?.parse().ok()?;
+        let sizes: Result<_, _> = words.map(|word| word.parse()).collect();
+        Some(Request {
+            what,
+            rounds,
+            sizes: sizes.ok()?,
+        })
+    }
 }

@@ -1,14 +1,12 @@
 //! The keys of all rows at one size, which look random and are the same in each run.
 
-use crate::plan::Lists;
-
 /// Marsaglia's xorshift of 64 bits. Its numbers differ from each other over the whole period.
-struct Xorshift {
+pub struct Xorshift {
     state: u64,
 }
 
 impl Xorshift {
-    fn new() -> Self {
+    pub fn new() -> Self {
         Xorshift {
             state: 0x9e37_79b9_7f4a_7c15,
         }
@@ -33,48 +31,18 @@ impl Xorshift {
         }
         keys
     }
-}
 
-/// Keys out of a list, as many as it has, others for each pass.
-///
-/// Each is one of the first n, n/2, n/4 and so on, in as many parts as are given, each part as often.
-pub struct Choices<'a> {
-    random: Xorshift,
-    keys: &'a [u64],
-    parts: u64,
-    chosen: Vec<u64>,
-}
-
-impl<'a> Choices<'a> {
-    /// Each key as often.
-    pub fn uniform(keys: &'a [u64]) -> Self {
-        Choices {
-            random: Xorshift::new(),
-            keys,
-            parts: 1,
-            chosen: Vec::new(),
+    /// Keys out of a list, as many as it has.
+    ///
+    /// Each is one of the first n, n/2, n/4 and so on, in as many parts as are given, each part as often.
+    pub fn choose(&mut self, keys: &[u64], parts: u64) -> Vec<u64> {
+        let mut chosen = Vec::new();
+        for _ in keys {
+            let part = keys.len() as u64 >> (self.next() % parts);
+            let rank = (self.next() >> 11) % part.max(1);
+            chosen.extend(keys.get(rank as usize));
         }
-    }
-
-    /// The first keys the most often, about as by Zipf's law.
-    pub fn zipf(keys: &'a [u64]) -> Self {
-        let parts = u64::from(64 - (keys.len().max(1) as u64).leading_zeros());
-        Choices {
-            parts,
-            ..Choices::uniform(keys)
-        }
-    }
-}
-
-impl Lists<u64> for Choices<'_> {
-    fn list(&mut self) -> &[u64] {
-        self.chosen.clear();
-        for _ in self.keys {
-            let part = self.keys.len() as u64 >> (self.random.next() % self.parts);
-            let rank = (self.random.next() >> 11) % part.max(1);
-            self.chosen.extend(self.keys.get(rank as usize));
-        }
-        &self.chosen
+        chosen
     }
 }
 
@@ -89,6 +57,10 @@ pub struct Keys {
     pub mixed_again: Vec<u64>,
     /// The others in another order.
     pub absent_mixed: Vec<u64>,
+    /// The numbers below the size.
+    pub places: Vec<u64>,
+    /// The number 0.
+    pub zero: Vec<u64>,
 }
 
 impl Keys {
@@ -102,13 +74,19 @@ impl Keys {
             absent_mixed: random.shuffle(&absent),
             held,
             absent,
+            places: (0..size as u64).collect(),
+            zero: vec![0],
         }
     }
-}
 
-/// The keys as texts of 20 bytes.
-pub fn texts(keys: &[u64]) -> Vec<String> {
-    keys.iter().map(|key| format!("{key:020}")).collect()
+    pub fn size(&self) -> usize {
+        self.held.len()
+    }
+
+    /// Half of the size, and at least one.
+    pub fn half(&self) -> usize {
+        (self.held.len() / 2).max(1)
+    }
 }
 
 /// Tokens of 32 bytes.

@@ -1,117 +1,385 @@
-//! The rows of caches.
-use crate::keys::Keys;
-use crate::plan::{Lists, Plan, Row, Turns};
-use crate::random::Choices;
-use hashlink::LruCache;
-use hashlink::weighted::WeightedCache;
-use std::alloc::AllocError;
-use std::io;
+//! The calls of a cache.
+use crate::fill::{Cache, Fill, LoneCache, Made};
+use crate::lists::Order;
+use crate::plan::{Line, Plan, Row, fold};
 
-/// A lookup of a key, and an insert where it is not there.
-#[derive(Drop)]
-struct Uses {
-    cache: LruCache<u64, u64>,
-}
+/// A look-up of a key, and an insert where it is not there.
+pub(crate) struct UseKey;
 
-impl Uses {
-    /// Uses each key, the first one last.
-    fn use_each(&mut self, keys: &[u64]) -> Result<(), AllocError> {
-        for (place, key) in keys.iter().rev().enumerate() {
-            self.call(place as u64, key)?;
-        }
-        Ok(())
-    }
-}
+impl Row for UseKey {
+    type State = Cache;
 
-impl Row for Uses {
     type Item = u64;
 
-    #[inline]
-    fn call(&mut self, place: u64, key: &u64) -> Result<u64, AllocError> {
-        if let Some(value) = self.cache.get(key) {
-            return Ok(*value);
-        }
-        match self.cache.insert(*key, place) {
-            Ok(old) => Ok(old.unwrap_or(*key)),
-            Err(_) => Err(AllocError),
+    const LINES: &'static [Line] = &[
+        ("lru_hit", Order::MixedByTurns, Made::Once, Fill::Full),
+        ("lru_zipf", Order::Zipf, Made::Once, Fill::Half),
+        ("lru_uniform", Order::Uniform, Made::Once, Fill::Half),
+    ];
+
+    #[inline(always)]
+    fn call(cache: &mut Cache, place: u64, key: &u64) -> Option<u64> {
+        match cache.get(key) {
+            Some(value) => Some(*value),
+            None => Insert::call(cache, place, key),
         }
     }
 }
 
-/// The same of a cache with a budget, where a key weighs from 1 to 16.
-#[derive(Drop)]
-struct WeightedUses {
-    cache: WeightedCache<u64, u64>,
-}
+struct Insert;
 
-impl Row for WeightedUses {
+impl Row for Insert {
+    type State = Cache;
+
     type Item = u64;
 
-    #[inline]
-    fn call(&mut self, place: u64, key: &u64) -> Result<u64, AllocError> {
-        if let Some(value) = self.cache.get(key) {
-            return Ok(*value);
-        }
-        match self.cache.insert(*key, place, 1 + *key % 16) {
-            Ok(old) => Ok(old.unwrap_or(*key)),
-            Err(_) => Err(AllocError),
+    const LINES: &'static [Line] = &[
+        (
+            "lru_insert_new",
+            Order::AbsentAndHeld,
+            Made::Once,
+            Fill::Full,
+        ),
+        (
+            "lru_insert_present",
+            Order::MixedByTurns,
+            Made::Once,
+            Fill::Full,
+        ),
+    ];
+
+    #[inline(always)]
+    fn call(cache: &mut Cache, place: u64, key: &u64) -> Option<u64> {
+        Some(cache.insert(*key, place).ok()?.unwrap_or(*key))
+    }
+}
+
+struct Peek;
+
+impl Row for Peek {
+    type State = Cache;
+
+    type Item = u64;
+
+    const LINES: &'static [Line] = &[
+        ("lru_peek_hit", Order::Mixed, Made::Once, Fill::Full),
+        ("lru_peek_miss", Order::Absent, Made::Once, Fill::Full),
+    ];
+
+    #[inline(always)]
+    fn call(cache: &mut Cache, _place: u64, key: &u64) -> Option<u64> {
+        Some(cache.peek(key).copied().unwrap_or(*key))
+    }
+}
+
+struct PeekLone;
+
+impl Row for PeekLone {
+    type State = LoneCache;
+
+    type Item = u64;
+
+    const LINES: &'static [Line] = &[
+        (
+            "lru_peek_hit_from_one",
+            Order::Mixed,
+            Made::Once,
+            Fill::Full,
+        ),
+        (
+            "lru_peek_miss_from_one",
+            Order::Absent,
+            Made::Once,
+            Fill::Full,
+        ),
+    ];
+
+    #[inline(always)]
+    fn call(cache: &mut LoneCache, _place: u64, key: &u64) -> Option<u64> {
+        match cache.peek(key) {
+            Some(value) => Some(u64::from(*value)),
+            None => Some(*key),
         }
     }
 }
 
-/// A row of a cache of that capacity, which the keys went into.
-fn time_uses<L: Lists<Uses>>(
-    plan: &Plan<'_>,
-    name: &str,
-    capacity: usize,
-    keys: &Keys,
-    lists: &mut L,
-) -> io::Result<()> {
-    let cache = LruCache::new(keys.alloc, capacity);
-    let mut uses = Uses { cache };
-    uses.use_each(&keys.held)?;
-    plan.row(name, keys.held.len(), lists, &mut uses)
+struct PeekMut;
+
+impl Row for PeekMut {
+    type State = Cache;
+
+    type Item = u64;
+
+    const LINES: &'static [Line] = &[("lru_peek_mut_hit", Order::Mixed, Made::Once, Fill::Full)];
+
+    #[inline(always)]
+    fn call(cache: &mut Cache, _place: u64, key: &u64) -> Option<u64> {
+        match cache.peek_mut(key) {
+            Some(value) => {
+                *value = value.wrapping_add(1);
+                Some(*value)
+            }
+            None => Some(*key),
+        }
+    }
 }
 
-/// In two orders by turns, so that a key's neighbours are not those of the last time.
-fn time_hits(plan: &Plan<'_>, keys: &Keys) -> io::Result<()> {
-    let orders = &mut Turns::new(&keys.mixed, &keys.mixed_again);
-    time_uses(plan, "lru_hit", keys.held.len(), keys, orders)
+struct Get;
+
+impl Row for Get {
+    type State = Cache;
+
+    type Item = u64;
+
+    const LINES: &'static [Line] = &[
+        ("lru_get_hit", Order::MixedByTurns, Made::Once, Fill::Full),
+        ("lru_get_miss", Order::Absent, Made::Once, Fill::Full),
+    ];
+
+    #[inline(always)]
+    fn call(cache: &mut Cache, _place: u64, key: &u64) -> Option<u64> {
+        Some(cache.get(key).copied().unwrap_or(*key))
+    }
 }
 
-/// Of a cache for half of the keys.
-fn time_choices(
-    plan: &Plan<'_>,
-    name: &str,
-    keys: &Keys,
-    mut chosen: Choices<'_>,
-) -> io::Result<()> {
-    let half = (keys.held.len() / 2).max(1);
-    time_uses(plan, name, half, keys, &mut chosen)
+struct GetLone;
+
+impl Row for GetLone {
+    type State = LoneCache;
+
+    type Item = u64;
+
+    const LINES: &'static [Line] = &[
+        (
+            "lru_get_hit_from_one",
+            Order::MixedByTurns,
+            Made::Once,
+            Fill::Full,
+        ),
+        (
+            "lru_get_miss_from_one",
+            Order::Absent,
+            Made::Once,
+            Fill::Full,
+        ),
+    ];
+
+    #[inline(always)]
+    fn call(cache: &mut LoneCache, _place: u64, key: &u64) -> Option<u64> {
+        match cache.get(key) {
+            Some(value) => Some(u64::from(*value)),
+            None => Some(*key),
+        }
+    }
 }
 
-/// Of a cache with a budget for about half of the keys, empty at first.
-fn time_weighted(plan: &Plan<'_>, keys: &Keys) -> io::Result<()> {
-    let size = keys.held.len();
-    let budget = (size as u64).saturating_mul(4).max(16);
-    let cache = WeightedCache::new(keys.alloc, budget);
-    let chosen = &mut Choices::zipf(keys.alloc, &keys.held);
-    plan.row("weighted_zipf", size, chosen, &mut WeightedUses { cache })
+struct GetMut;
+
+impl Row for GetMut {
+    type State = Cache;
+
+    type Item = u64;
+
+    const LINES: &'static [Line] = &[(
+        "lru_get_mut_hit",
+        Order::MixedByTurns,
+        Made::Once,
+        Fill::Full,
+    )];
+
+    #[inline(always)]
+    fn call(cache: &mut Cache, _place: u64, key: &u64) -> Option<u64> {
+        match cache.get_mut(key) {
+            Some(value) => {
+                *value = value.wrapping_add(1);
+                Some(*value)
+            }
+            None => Some(*key),
+        }
+    }
 }
 
-pub(crate) fn rows(plan: &Plan<'_>, keys: &Keys) -> io::Result<()> {
-    time_hits(plan, keys)?;
-    time_choices(
-        plan,
-        "lru_zipf",
-        keys,
-        Choices::zipf(keys.alloc, &keys.held),
-    )?;
-    time_choices(
-        plan,
-        "lru_uniform",
-        keys,
-        Choices::uniform(keys.alloc, &keys.held),
-    )?;
-    time_weighted(plan, keys)
+struct ContainsKey;
+
+impl Row for ContainsKey {
+    type State = Cache;
+
+    type Item = u64;
+
+    const LINES: &'static [Line] = &[
+        ("lru_contains_key_hit", Order::Mixed, Made::Once, Fill::Full),
+        (
+            "lru_contains_key_miss",
+            Order::Absent,
+            Made::Once,
+            Fill::Full,
+        ),
+    ];
+
+    #[inline(always)]
+    fn call(cache: &mut Cache, _place: u64, key: &u64) -> Option<u64> {
+        Some(u64::from(cache.contains_key(key)))
+    }
+}
+
+/// The entry that an insert of the key would evict.
+struct EvictedBy;
+
+impl Row for EvictedBy {
+    type State = Cache;
+
+    type Item = u64;
+
+    const LINES: &'static [Line] = &[("lru_evicted_by", Order::Absent, Made::Once, Fill::Full)];
+
+    #[inline(always)]
+    fn call(cache: &mut Cache, _place: u64, key: &u64) -> Option<u64> {
+        match cache.evicted_by(key) {
+            Some((stored, value)) => Some(fold(*stored, *value)),
+            None => Some(*key),
+        }
+    }
+}
+
+struct Push;
+
+impl Row for Push {
+    type State = Cache;
+
+    type Item = u64;
+
+    const LINES: &'static [Line] = &[
+        ("lru_push_new", Order::AbsentAndHeld, Made::Once, Fill::Full),
+        (
+            "lru_push_present",
+            Order::MixedByTurns,
+            Made::Once,
+            Fill::Full,
+        ),
+    ];
+
+    #[inline(always)]
+    fn call(cache: &mut Cache, place: u64, key: &u64) -> Option<u64> {
+        match cache.push(*key, place) {
+            Ok(Some((left, value))) => Some(fold(left, value)),
+            Ok(None) => Some(*key),
+            Err(_) => None,
+        }
+    }
+}
+
+struct GetOrInsertWith;
+
+impl Row for GetOrInsertWith {
+    type State = Cache;
+
+    type Item = u64;
+
+    const LINES: &'static [Line] = &[
+        (
+            "lru_get_or_insert_with_new",
+            Order::AbsentAndHeld,
+            Made::Once,
+            Fill::Full,
+        ),
+        (
+            "lru_get_or_insert_with_present",
+            Order::MixedByTurns,
+            Made::Once,
+            Fill::Full,
+        ),
+    ];
+
+    #[inline(always)]
+    fn call(cache: &mut Cache, place: u64, key: &u64) -> Option<u64> {
+        match cache.get_or_insert_with(*key, || place) {
+            Ok(value) => Some(*value),
+            Err(_) => None,
+        }
+    }
+}
+
+/// The entry may be one too many until the next call.
+struct EntryOrInsert;
+
+impl Row for EntryOrInsert {
+    type State = Cache;
+
+    type Item = u64;
+
+    const LINES: &'static [Line] = &[(
+        "lru_entry_or_insert_new",
+        Order::AbsentAndHeld,
+        Made::Once,
+        Fill::Full,
+    )];
+
+    #[inline(always)]
+    fn call(cache: &mut Cache, place: u64, key: &u64) -> Option<u64> {
+        match cache.entry(*key).or_insert(place) {
+            Ok(value) => Some(*value),
+            Err(_) => None,
+        }
+    }
+}
+
+struct Remove;
+
+impl Row for Remove {
+    type State = Cache;
+
+    type Item = u64;
+
+    const LINES: &'static [Line] = &[("lru_remove_hit", Order::Mixed, Made::Anew, Fill::Full)];
+
+    #[inline(always)]
+    fn call(cache: &mut Cache, _place: u64, key: &u64) -> Option<u64> {
+        Some(cache.remove(key).unwrap_or(*key))
+    }
+}
+
+struct RemoveLru;
+
+impl Row for RemoveLru {
+    type State = Cache;
+
+    type Item = u64;
+
+    const LINES: &'static [Line] = &[("lru_remove_lru", Order::Held, Made::Anew, Fill::Full)];
+
+    #[inline(always)]
+    fn call(cache: &mut Cache, _place: u64, key: &u64) -> Option<u64> {
+        match cache.remove_lru() {
+            Some((stored, value)) => Some(fold(stored, value)),
+            None => Some(*key),
+        }
+    }
+}
+
+/// Evicts the first half of the entries.
+struct SetCapacity;
+
+impl Row for SetCapacity {
+    type State = Cache;
+
+    type Item = u64;
+
+    const LINES: &'static [Line] = &[("lru_set_capacity", Order::Whole, Made::Anew, Fill::Full)];
+
+    #[inline(always)]
+    fn call(cache: &mut Cache, _place: u64, _item: &u64) -> Option<u64> {
+        cache.set_capacity(cache.len() / 2);
+        Some(cache.len() as u64)
+    }
+}
+
+pub(crate) fn rows(plan: &mut Plan<'_>) {
+    plan.kind("caches");
+    plan.rows::<UseKey, Peek, PeekMut, ContainsKey>();
+    plan.rows::<EvictedBy, Get, GetMut, Insert>();
+    plan.rows::<Push, GetOrInsertWith, EntryOrInsert, Remove>();
+    plan.row::<RemoveLru>();
+    plan.row::<SetCapacity>();
+    plan.row_alone::<PeekLone>();
+    plan.row_alone::<GetLone>();
 }

@@ -15,12 +15,10 @@ pub(crate) struct Keys {
     pub(crate) mixed_again: Vec<u64>,
     /// The others in another order.
     pub(crate) absent_mixed: Vec<u64>,
-}
-
-/// The keys that are held, for a row that begins with an empty container in each pass.
-#[derive(Drop)]
-pub(crate) struct Afresh<'a> {
-    pub(crate) keys: &'a Keys,
+    /// The numbers below the size.
+    pub(crate) places: Vec<u64>,
+    /// The number 0.
+    pub(crate) zero: Vec<u64>,
 }
 
 impl Keys {
@@ -38,6 +36,17 @@ impl Keys {
             mixed,
             mixed_again,
             absent_mixed,
+            places: (0..size as u64).collect(alloc)?,
+            zero: vec![in alloc; 0]?,
         })
+    }
+
+    pub(crate) fn size(&self) -> usize {
+        self.held.len()
+    }
+
+    /// Half of the size, and at least one.
+    pub(crate) fn half(&self) -> usize {
+        (self.held.len() / 2).max(1)
     }
 }

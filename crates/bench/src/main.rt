@@ -1,64 +1,81 @@
 //! How long the calls of the containers take.
 //!
-//! usage: bench KIND ROUNDS [N ..]
+//! usage: bench WHAT ROUNDS [N ..]
 //!
-//! KIND is maps, growth, caches, sets, texts or all. For each N and each row of the kind there is a line
-//! `name N ns_per_op` on standard output, the least of so many rounds of about a million calls, and a line
-//! `checksum name N hex` of all answers on standard error. With no rounds each row is done once and not
-//! timed, and its checksum is what goes to standard output.
+//! WHAT is a kind of rows, the name of one row, or all. The kinds are lookups, inserts, growth, removals,
+//! walks, wholes, sets, algebra, caches, budgets and texts. For each N and each row there is a line
+//! `name N ns_per_operation operations` on standard output, the least of so many rounds of about a million
+//! operations, and a line `checksum name N hex` of all answers on standard error. With no rounds each row is
+//! done once and not timed, and its checksum is what goes to standard output.
+//!
+//! An operation is a call, or an entry where a call is one for all entries.
 #![tactic(auto)]
 
+mod algebra;
+mod budgets;
 mod caches;
+mod fill;
+mod growth;
+mod inserts;
 mod keys;
-mod maps;
+mod lists;
+mod lookups;
 mod plan;
 mod random;
+mod removals;
 mod request;
 mod sets;
 mod texts;
+mod walks;
+mod wholes;
 
 use keys::Keys;
 use plan::Plan;
-use request::{Kind, Request};
+use request::Request;
 use std::alloc::Global;
 use std::process::ExitCode;
 use std::{env, io};
 
 fn main(rt: HostRuntime) -> io::Result<ExitCode> {
     let Some(request) = Request::read(rt.alloc(), env::args(&rt)?)? else {
-        eprintln!(rt;
-            "usage: bench KIND ROUNDS [N ..], where KIND is maps, growth, caches, sets, texts, all"
-        )?;
-        return Ok(ExitCode::from(2));
+        return refuse(&rt);
     };
     for size in &request.sizes {
-        time_rows(&rt, rt.alloc(), &request, *size)?;
+        if !time_rows(&rt, rt.alloc(), &request, *size)? {
+            return refuse(&rt);
+        }
     }
     Ok(ExitCode::SUCCESS)
 }
 
-/// The rows at one size.
-fn time_rows(rt: &HostRuntime, alloc: Global, request: &Request, size: usize) -> io::Result<()> {
-    let keys = Keys::new(alloc, size)?;
-    rows_of(request.kind, &Plan::new(rt, request.rounds, size), &keys)
+/// Says how the program is called.
+fn refuse(rt: &HostRuntime) -> io::Result<ExitCode> {
+    eprintln!(rt;
+        "usage: bench WHAT ROUNDS [N ..], where WHAT is all, a row, or one of lookups, inserts, growth, \
+         removals, walks, wholes, sets, algebra, caches, budgets, texts"
+    )?;
+    Ok(ExitCode::from(2))
 }
 
-/// Each row of the kind, in the order of the table.
-fn rows_of(kind: Kind, plan: &Plan<'_>, keys: &Keys) -> io::Result<()> {
-    if kind.has(Kind::Maps) {
-        maps::rows(plan, keys)?;
-    }
-    if kind.has(Kind::Growth) {
-        maps::growth(plan, keys)?;
-    }
-    if kind.has(Kind::Caches) {
-        caches::rows(plan, keys)?;
-    }
-    if kind.has(Kind::Sets) {
-        sets::rows(plan, keys)?;
-    }
-    if kind.has(Kind::Texts) {
-        texts::rows(plan, keys)?;
-    }
-    Ok(())
+/// Does the rows that are asked for at one size, and returns whether there are any.
+fn time_rows(rt: &HostRuntime, alloc: Global, request: &Request, size: usize) -> io::Result<bool> {
+    let keys = Keys::new(alloc, size)?;
+    let mut plan = Plan::new(rt, request, &keys);
+    all_rows(&mut plan);
+    plan.end()
+}
+
+/// Each row, in the order of the table.
+fn all_rows(plan: &mut Plan<'_>) {
+    lookups::rows(plan);
+    inserts::rows(plan);
+    growth::rows(plan);
+    removals::rows(plan);
+    walks::rows(plan);
+    wholes::rows(plan);
+    sets::rows(plan);
+    algebra::rows(plan);
+    caches::rows(plan);
+    budgets::rows(plan);
+    texts::rows(plan);
 }

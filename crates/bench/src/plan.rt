@@ -1,144 +1,157 @@
 //! How a row is timed and told.
+use crate::fill::{Fill, Filled, Made};
+use crate::keys::Keys;
+use crate::lists::{Listed, Lists, Order};
+use crate::request::Request;
 use std::alloc::AllocError;
 use std::io;
 use std::rt::Clock;
 use std::time::Duration;
 
-/// About so many calls make a round.
-const CALLS: usize = 1_000_000;
+/// About so many operations make a round.
+const OPERATIONS: usize = 1_000_000;
 
-/// The calls of a row.
-pub(crate) trait Row {
-    /// What a call is given.
-    type Item;
-
-    /// The call that is timed, of an item and its place in the list. It returns the result as a number.
-    fn call(&mut self, place: u64, item: &Self::Item) -> Result<u64, AllocError>;
-}
-
-/// The items of the passes of a row.
-pub(crate) trait Lists<W: Row> {
-    /// Makes the row ready for the next pass, which is not timed, and returns the items of that.
-    fn list(&mut self, row: &mut W) -> Result<&[W::Item], AllocError>;
-}
-
-/// Two lists by turns.
+/// The rows that are asked for, at one size, and what became of them.
 #[derive(Drop)]
-pub(crate) struct Turns<'a, T> {
-    now: &'a [T],
-    next: &'a [T],
+pub(crate) struct Plan<'a> {
+    pub(crate) rt: &'a HostRuntime,
+    pub(crate) request: &'a Request,
+    pub(crate) keys: &'a Keys,
+    /// Whether all rows that are told next are asked for.
+    has_kind: bool,
+    /// Whether a row was asked for.
+    has_rows: bool,
+    /// Why a row could not be done. The rows after it are left out.
+    failure: Option<io::Error>,
 }
 
-impl<'a, T> Turns<'a, T> {
-    pub(crate) fn new(now: &'a [T], next: &'a [T]) -> Self {
-        Turns { now, next }
-    }
+/// A row: its name, what the calls are given, and what they are made on.
+pub(crate) type Line = (&'static str, Order, Made, Fill);
 
-    /// One list in each turn.
-    pub(crate) fn of(list: &'a [T]) -> Self {
-        Turns::new(list, list)
-    }
+/// A call that is timed.
+pub(crate) trait Row {
+    /// What it is made on.
+    type State: Filled;
+
+    /// What it is given.
+    type Item: Listed;
+
+    /// The rows of the call.
+    const LINES: &'static [Line];
+
+    /// The call, with an item and its place in the list. It returns the answer as a number, or `None` when
+    /// memory runs out.
+    fn call(state: &mut Self::State, place: u64, item: &Self::Item) -> Option<u64>;
 }
 
-impl<T, W: Row<Item = T>> Lists<W> for Turns<'_, T> {
-    fn list(&mut self, _row: &mut W) -> Result<&[T], AllocError> {
-        (self.now, self.next) = (self.next, self.now);
-        Ok(self.next)
-    }
-}
-
-/// Folds a result into a sum.
-#[inline]
+/// Folds an answer into a sum.
+#[inline(always)]
 pub(crate) fn fold(sum: u64, answer: u64) -> u64 {
     sum.rotate_left(5) ^ answer
 }
 
-/// How often each row is done, and with how many keys.
-#[derive(Drop)]
-pub(crate) struct Plan<'a> {
-    rt: &'a HostRuntime,
-    rounds: usize,
-    size: usize,
-}
-
 impl<'a> Plan<'a> {
-    pub(crate) fn new(rt: &'a HostRuntime, rounds: usize, size: usize) -> Self {
-        Plan { rt, rounds, size }
+    pub(crate) fn new(rt: &'a HostRuntime, request: &'a Request, keys: &'a Keys) -> Self {
+        Plan {
+            rt,
+            request,
+            keys,
+            has_kind: false,
+            has_rows: false,
+            failure: None,
+        }
     }
 
-    /// Does a row and writes its line. Each pass makes so many calls.
-    pub(crate) fn row<W: Row, L: Lists<W>>(
-        &self,
-        name: &str,
-        calls: usize,
-        lists: &mut L,
-        row: &mut W,
-    ) -> io::Result<()> {
-        let rt = self.rt;
-        let size = self.size;
-        if self.rounds == 0 {
-            let (sum, _) = self.pass(row, lists, 0)?;
-            return println!(rt; "{name} {size} {sum:016x}");
+    /// Tells of which kind the next rows are.
+    pub(crate) fn kind(&mut self, kind: &str) {
+        let what = self.request.what.as_str();
+        self.has_kind = what == kind || what == "all";
+    }
+
+    /// Returns whether a row was done, or why one could not be.
+    pub(crate) fn end(self) -> io::Result<bool> {
+        match self.failure {
+            Some(failure) => Err(failure),
+            None => Ok(self.has_rows),
         }
-        let passes = (CALLS / calls.max(1)).max(1);
-        let timed = passes.saturating_mul(calls).max(1) as u128;
+    }
+
+    /// The rows of four calls.
+    pub(crate) fn rows<A: Row, B: Row, C: Row, D: Row>(&mut self) {
+        self.row::<A>();
+        self.row::<B>();
+        self.row::<C>();
+        self.row::<D>();
+    }
+
+    /// The rows of a call.
+    pub(crate) fn row<W: Row>(&mut self) {
+        for line in W::LINES {
+            self.run::<10, W>(*line);
+        }
+    }
+
+    /// The rows of a call that the program makes at one place only.
+    pub(crate) fn row_alone<W: Row>(&mut self) {
+        for line in W::LINES {
+            self.run::<1, W>(*line);
+        }
+    }
+
+    /// Whether the row is asked for.
+    pub(crate) fn wants(&mut self, name: &str) -> bool {
+        let is_asked = self.has_kind || self.request.what.as_str() == name;
+        self.has_rows |= is_asked;
+        is_asked && self.failure.is_none()
+    }
+
+    /// Keeps why a row could not be done.
+    pub(crate) fn note(&mut self, outcome: io::Result<()>) {
+        if let Err(failure) = outcome {
+            self.failure = Some(failure);
+        }
+    }
+
+    /// Does a row if it is asked for.
+    pub(crate) fn run<const PLACES: u64, W: Row>(&mut self, line: Line) {
+        let (name, _, _, _) = line;
+        if self.wants(name) {
+            let outcome = self.time::<PLACES, W>(line);
+            self.note(outcome);
+        }
+    }
+
+    /// Does a row and writes its line.
+    fn time<const PLACES: u64, W: Row>(&self, line: Line) -> io::Result<()> {
+        let (name, order, _, fill) = line;
+        let mut lists = Lists::new(order);
+        let mut state = W::State::filled(self.keys, fill).ok_or(AllocError)?;
+        if self.request.rounds == 0 {
+            let (sum, _) = self.pass::<PLACES, W>(line, &mut lists, &mut state, 0)?;
+            return self.print_answers(name, sum);
+        }
+        let operations = order.operations(self.keys.size()).max(1);
+        let passes = (OPERATIONS / operations).max(1);
+        let timed = passes.saturating_mul(operations).max(1) as u128;
         let mut least = u128::MAX;
         let mut sum: u64 = 0;
-        for _ in 0..self.rounds {
-            let (answers, spent) = self.round(passes, row, lists, sum)?;
+        for _ in 0..self.request.rounds {
+            let (answers, spent) = self.round::<PLACES, W>(
+                passes, line, &mut lists, &mut state, sum,
+            )?;
             sum = answers;
             least = least.min(spent.as_nanos().saturating_mul(100) / timed);
         }
-        self.print_time(name, least, sum)
-    }
-
-    /// Does a row and writes a line with the longest call of a pass, the least of the rounds.
-    pub(crate) fn longest<W: Row, L: Lists<W>>(
-        &self,
-        name: &str,
-        lists: &mut L,
-        row: &mut W,
-    ) -> io::Result<()> {
-        if self.rounds == 0 {
-            return self.row(name, 1, lists, row);
-        }
-        let mut least = u128::MAX;
-        let mut sum: u64 = 0;
-        for _ in 0..self.rounds {
-            let items = lists.list(row)?;
-            let (answers, longest) = self.longest_call(row, items)?;
-            sum = answers;
-            least = least.min(longest.as_nanos().saturating_mul(100));
-        }
-        self.print_time(name, least, sum)
-    }
-
-    /// Calls the row on each item, and returns the sum with the results and the time of the longest call.
-    fn longest_call<W: Row>(&self, row: &mut W, items: &[W::Item]) -> io::Result<(u64, Duration)> {
-        let mut sum: u64 = 0;
-        let mut longest = Duration::ZERO;
-        for (place, item) in items.iter().enumerate() {
-            let start = self.rt.monotonic()?;
-            sum = fold(sum, row.call(place as u64, item)?);
-            let end = self.rt.monotonic()?;
-            longest = longest.max(end.saturating_sub(start));
-        }
-        Ok((sum, longest))
-    }
-
-    fn print_time(&self, name: &str, least: u128, sum: u64) -> io::Result<()> {
-        let rt = self.rt;
-        let size = self.size;
-        println!(rt; "{name} {size} {}.{:02}", least / 100, least % 100)?;
-        eprintln!(rt; "checksum {name} {size} {sum:016x}")
+        self.print_time(name, least, timed, sum)
     }
 
     /// Does so many passes.
-    fn round<W: Row, L: Lists<W>>(
+    fn round<const PLACES: u64, W: Row>(
         &self,
         passes: usize,
-        row: &mut W,
-        lists: &mut L,
+        line: Line,
+        lists: &mut Lists,
+        state: &mut W::State,
         sum: u64,
     ) -> io::Result<(u64, Duration)> {
         let mut sum = sum;
@@ -146,33 +159,94 @@ impl<'a> Plan<'a> {
         for _ in 0..passes {
             // Not linear as the folds are, so that equal passes don't cancel out.
             sum = sum.wrapping_add(1).wrapping_mul(0x9e37_79b9_7f4a_7c15);
-            let (answers, time) = self.pass(row, lists, sum)?;
+            let (answers, time) = self.pass::<PLACES, W>(line, lists, state, sum)?;
             sum = answers;
             spent = spent.saturating_add(time);
         }
         Ok((sum, spent))
     }
 
-    /// Does a pass, and returns the sum with the results and the time that they took.
-    fn pass<W: Row, L: Lists<W>>(
+    /// Does a pass, and returns the sum with the answers and the time that they took.
+    fn pass<const PLACES: u64, W: Row>(
         &self,
-        row: &mut W,
-        lists: &mut L,
+        line: Line,
+        lists: &mut Lists,
+        state: &mut W::State,
         sum: u64,
     ) -> io::Result<(u64, Duration)> {
-        let items = lists.list(row)?;
+        let (_, _, made, fill) = line;
+        let pass = lists.passes();
+        let items: Vec<W::Item> = lists.next(self.keys)?;
+        if made == Made::Anew {
+            *state = W::State::filled(self.keys, fill).ok_or(AllocError)?;
+        }
         let start = self.rt.monotonic()?;
-        let sum = call_each(row, items, sum)?;
+        let answers = if PLACES == 1 {
+            call_each::<0, W>(state, &items, sum)
+        } else {
+            call_each_from_ten::<W>(pass, state, &items, sum)
+        };
         let end = self.rt.monotonic()?;
-        Ok((sum, end.saturating_sub(start)))
+        Ok((answers.ok_or(AllocError)?, end.saturating_sub(start)))
+    }
+
+    pub(crate) fn print_answers(&self, name: &str, sum: u64) -> io::Result<()> {
+        let rt = self.rt;
+        let size = self.keys.size();
+        println!(rt; "{name} {size} {sum:016x}")
+    }
+
+    pub(crate) fn print_time(
+        &self,
+        name: &str,
+        hundredths: u128,
+        timed: u128,
+        sum: u64,
+    ) -> io::Result<()> {
+        let rt = self.rt;
+        let size = self.keys.size();
+        println!(rt;
+            "{name} {size} {}.{:02} {timed}",
+            hundredths / 100,
+            hundredths % 100
+        )?;
+        eprintln!(rt; "checksum {name} {size} {sum:016x}")
     }
 }
 
-/// Calls the row on each item, and folds the results into the sum.
-fn call_each<W: Row>(row: &mut W, items: &[W::Item], sum: u64) -> Result<u64, AllocError> {
-    let mut sum = sum;
-    for (place, item) in items.iter().enumerate() {
-        sum = fold(sum, row.call(place as u64, item)?);
+/// Makes the call on each item, and folds the answers into the sum. Each pass goes through another of ten
+/// places in the program, so that no call is fast because it has one caller.
+fn call_each_from_ten<W: Row>(
+    pass: u64,
+    state: &mut W::State,
+    items: &[W::Item],
+    sum: u64,
+) -> Option<u64> {
+    match pass % 10 {
+        0 => call_each::<0, W>(state, items, sum),
+        1 => call_each::<1, W>(state, items, sum),
+        2 => call_each::<2, W>(state, items, sum),
+        3 => call_each::<3, W>(state, items, sum),
+        4 => call_each::<4, W>(state, items, sum),
+        5 => call_each::<5, W>(state, items, sum),
+        6 => call_each::<6, W>(state, items, sum),
+        7 => call_each::<7, W>(state, items, sum),
+        8 => call_each::<8, W>(state, items, sum),
+        _ => call_each::<9, W>(state, items, sum),
     }
-    Ok(sum)
+}
+
+/// Makes the call on each item, and folds the answers into the sum, and the place too: so no two of these
+/// functions are alike, and none is replaced by another.
+#[inline(never)]
+fn call_each<const PLACE: u64, W: Row>(
+    state: &mut W::State,
+    items: &[W::Item],
+    sum: u64,
+) -> Option<u64> {
+    let mut sum = sum ^ PLACE;
+    for (place, item) in items.iter().enumerate() {
+        sum = fold(sum, W::call(state, place as u64, item)?);
+    }
+    Some(sum)
 }

@@ -1,5 +1,4 @@
-//! Numbers and choices that look random, the same in each run.
-use crate::plan::{Lists, Row};
+//! Numbers that look random, the same in each run.
 use std::alloc::{AllocError, Global};
 
 /// Marsaglia's xorshift of 64 bits. Its numbers differ from each other over the whole period.
@@ -40,54 +39,27 @@ impl Xorshift {
         }
         Ok(keys)
     }
-}
 
-/// Keys out of a list, as many as it has, others for each pass.
-///
-/// Each is one of the first n, n/2, n/4 and so on, in as many parts as are given, each part as often.
-#[derive(Drop)]
-pub(crate) struct Choices<'a> {
-    random: Xorshift,
-    keys: &'a [u64],
-    parts: u64,
-    chosen: Vec<u64>,
-}
-
-impl<'a> Choices<'a> {
-    /// Each key as often.
-    pub(crate) fn uniform(alloc: Global, keys: &'a [u64]) -> Self {
-        Choices::of(alloc, keys, 1)
-    }
-
-    /// The first keys the most often, about as by Zipf's law.
-    pub(crate) fn zipf(alloc: Global, keys: &'a [u64]) -> Self {
-        let parts = u64::from((keys.len() as u64).max(1).ilog2()) + 1;
-        Choices::of(alloc, keys, parts)
-    }
-
-    fn of(alloc: Global, keys: &'a [u64], parts: u64) -> Self {
-        Choices {
-            random: Xorshift::new(),
-            keys,
-            parts,
-            chosen: Vec::new(alloc),
-        }
-    }
-}
-
-impl<W: Row<Item = u64>> Lists<W> for Choices<'_> {
-    fn list(&mut self, _row: &mut W) -> Result<&[u64], AllocError> {
-        self.chosen.clear();
-        for _ in self.keys {
-            let mut part = self.keys.len() as u64;
-            for _ in 0..self.random.next() % self.parts.max(1) {
+    /// Keys out of a list, as many as it has.
+    ///
+    /// Each is one of the first n, n/2, n/4 and so on, in as many parts as are given, each part as often.
+    pub(crate) fn choose(
+        &mut self,
+        alloc: Global,
+        keys: &[u64],
+        parts: u64,
+    ) -> Result<Vec<u64>, AllocError> {
+        let mut chosen = Vec::new(alloc);
+        for _ in keys {
+            let mut part = keys.len() as u64;
+            for _ in 0..self.next() % parts.max(1) {
                 part /= 2;
             }
-            let rank = (self.random.next() >> 11) % part.max(1);
-            if let Some(key) = self.keys.get(rank as usize) {
-                self.chosen.push(*key)?;
+            let rank = (self.next() >> 11) % part.max(1);
+            if let Some(key) = keys.get(rank as usize) {
+                chosen.push(*key)?;
             }
         }
-        Ok(&self.chosen)
+        Ok(chosen)
     }
 }

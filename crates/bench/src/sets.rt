@@ -1,93 +1,349 @@
-//! The rows of sets.
-use crate::keys::{Afresh, Keys};
-use crate::plan::{Lists, Plan, Row, Turns, fold};
-use hashlink::LinkedHashSet;
-use std::alloc::AllocError;
-use std::io;
+//! The calls of one set.
+ghost use Rattle.std.specs.Iterator.{IsFinite};
 
-type Set = LinkedHashSet<u64>;
+use crate::fill::{Fill, LoneSet, Made, Set};
+use crate::lists::Order;
+use crate::plan::{Line, Plan, Row, fold};
+use crate::walks::sum_of;
 
-/// Inserts of new elements, into an empty set in each pass.
-#[derive(Drop)]
-struct Inserts {
-    set: Set,
-}
+struct Contains;
 
-impl Lists<Inserts> for Afresh<'_> {
-    fn list(&mut self, row: &mut Inserts) -> Result<&[u64], AllocError> {
-        row.set = LinkedHashSet::new(self.keys.alloc);
-        Ok(&self.keys.held)
-    }
-}
+impl Row for Contains {
+    type State = Set;
 
-impl Row for Inserts {
     type Item = u64;
 
-    #[inline]
-    fn call(&mut self, place: u64, key: &u64) -> Result<u64, AllocError> {
-        match self.set.insert(*key) {
-            Ok(is_new) => Ok(if is_new { *key } else { place }),
-            Err(_) => Err(AllocError),
+    const LINES: &'static [Line] = &[
+        ("set_contains_hit", Order::Mixed, Made::Once, Fill::Full),
+        ("set_contains_miss", Order::Absent, Made::Once, Fill::Full),
+    ];
+
+    #[inline(always)]
+    fn call(set: &mut Set, _place: u64, key: &u64) -> Option<u64> {
+        Some(u64::from(set.contains(key)))
+    }
+}
+
+struct ContainsLone;
+
+impl Row for ContainsLone {
+    type State = LoneSet;
+
+    type Item = (u64, ());
+
+    const LINES: &'static [Line] = &[
+        (
+            "set_contains_hit_from_one",
+            Order::Mixed,
+            Made::Once,
+            Fill::Full,
+        ),
+        (
+            "set_contains_miss_from_one",
+            Order::Absent,
+            Made::Once,
+            Fill::Full,
+        ),
+    ];
+
+    #[inline(always)]
+    fn call(set: &mut LoneSet, _place: u64, key: &(u64, ())) -> Option<u64> {
+        Some(u64::from(set.contains(key)))
+    }
+}
+
+struct Get;
+
+impl Row for Get {
+    type State = Set;
+
+    type Item = u64;
+
+    const LINES: &'static [Line] = &[
+        ("set_get_hit", Order::Mixed, Made::Once, Fill::Full),
+        ("set_get_miss", Order::Absent, Made::Once, Fill::Full),
+    ];
+
+    #[inline(always)]
+    fn call(set: &mut Set, place: u64, key: &u64) -> Option<u64> {
+        Some(set.get(key).copied().unwrap_or(place))
+    }
+}
+
+struct Insert;
+
+impl Row for Insert {
+    type State = Set;
+
+    type Item = u64;
+
+    const LINES: &'static [Line] = &[
+        ("set_insert", Order::Held, Made::Anew, Fill::Empty),
+        ("set_update", Order::MixedByTurns, Made::Once, Fill::Full),
+    ];
+
+    #[inline(always)]
+    fn call(set: &mut Set, place: u64, key: &u64) -> Option<u64> {
+        let is_new = set.insert(*key).ok()?;
+        Some(if is_new { *key } else { place })
+    }
+}
+
+struct Replace;
+
+impl Row for Replace {
+    type State = Set;
+
+    type Item = u64;
+
+    const LINES: &'static [Line] = &[
+        ("set_replace_new", Order::Held, Made::Anew, Fill::Empty),
+        ("set_replace_present", Order::Mixed, Made::Once, Fill::Full),
+    ];
+
+    #[inline(always)]
+    fn call(set: &mut Set, place: u64, key: &u64) -> Option<u64> {
+        Some(set.replace(*key).ok()?.unwrap_or(place))
+    }
+}
+
+struct GetOrInsert;
+
+impl Row for GetOrInsert {
+    type State = Set;
+
+    type Item = u64;
+
+    const LINES: &'static [Line] = &[
+        (
+            "set_get_or_insert_new",
+            Order::Held,
+            Made::Anew,
+            Fill::Empty,
+        ),
+        (
+            "set_get_or_insert_present",
+            Order::MixedByTurns,
+            Made::Once,
+            Fill::Full,
+        ),
+    ];
+
+    #[inline(always)]
+    fn call(set: &mut Set, _place: u64, key: &u64) -> Option<u64> {
+        match set.get_or_insert(*key) {
+            Ok(element) => Some(*element),
+            Err(_) => None,
         }
     }
 }
 
-/// An iterator over the union of two sets.
-#[derive(Drop)]
-struct Unions {
-    left: Set,
-    right: Set,
-}
+struct ToBack;
 
-impl Row for Unions {
-    type Item = ();
+impl Row for ToBack {
+    type State = Set;
 
-    #[inline]
-    fn call(&mut self, place: u64, _item: &()) -> Result<u64, AllocError> {
-        let mut sum = place;
-        for key in self.left.union(&self.right) {
-            sum = fold(sum, *key);
-        }
-        Ok(sum)
+    type Item = u64;
+
+    const LINES: &'static [Line] = &[(
+        "set_to_back_hit",
+        Order::MixedByTurns,
+        Made::Once,
+        Fill::Full,
+    )];
+
+    #[inline(always)]
+    fn call(set: &mut Set, _place: u64, key: &u64) -> Option<u64> {
+        Some(u64::from(set.to_back(key)))
     }
 }
 
-/// Inserts keys, each of which comes from one of the lists, where a key of the first is even or not.
-fn fill(set: &mut Set, even: &[u64], odd: &[u64]) -> Result<(), AllocError> {
-    for (key, other) in even.iter().zip(odd) {
-        let element = if *key % 2 == 0 { *key } else { *other };
-        if set.insert(element).is_err() {
-            return Err(AllocError);
+struct Remove;
+
+impl Row for Remove {
+    type State = Set;
+
+    type Item = u64;
+
+    const LINES: &'static [Line] = &[
+        ("set_remove_hit", Order::Mixed, Made::Anew, Fill::Full),
+        ("set_remove_miss", Order::Absent, Made::Once, Fill::Full),
+    ];
+
+    #[inline(always)]
+    fn call(set: &mut Set, _place: u64, key: &u64) -> Option<u64> {
+        Some(u64::from(set.remove(key)))
+    }
+}
+
+struct Take;
+
+impl Row for Take {
+    type State = Set;
+
+    type Item = u64;
+
+    const LINES: &'static [Line] = &[("set_take_hit", Order::Mixed, Made::Anew, Fill::Full)];
+
+    #[inline(always)]
+    fn call(set: &mut Set, place: u64, key: &u64) -> Option<u64> {
+        Some(set.take(key).unwrap_or(place))
+    }
+}
+
+/// A removal of the first element and an insert of a new one, as in a queue.
+struct Queue;
+
+impl Row for Queue {
+    type State = Set;
+
+    type Item = u64;
+
+    const LINES: &'static [Line] = &[(
+        "set_pop_insert",
+        Order::AbsentAndHeld,
+        Made::Once,
+        Fill::Full,
+    )];
+
+    #[inline(always)]
+    fn call(set: &mut Set, place: u64, key: &u64) -> Option<u64> {
+        let first = set.pop_front().unwrap_or(place);
+        let is_new = set.insert(*key).ok()?;
+        Some(fold(first, u64::from(is_new)))
+    }
+}
+
+/// Folds all elements.
+#[inline(always)]
+fn sum_of_owned<I: Iterator<Item = u64> + Drop>(elements: I) -> Option<u64>
+    requires can { I.can_next elements }
+    requires ends { IsFinite (I.remaining elements) }
+{
+    let mut sum: u64 = 0;
+    for element in elements {
+        sum = fold(sum, element);
+    }
+    Some(sum)
+}
+
+struct Iter;
+
+impl Row for Iter {
+    type State = Set;
+
+    type Item = u64;
+
+    const LINES: &'static [Line] = &[("set_iter", Order::Whole, Made::Once, Fill::Full)];
+
+    #[inline(always)]
+    fn call(set: &mut Set, _place: u64, _item: &u64) -> Option<u64> {
+        sum_of(set.iter())
+    }
+}
+
+struct IntoIter;
+
+impl Row for IntoIter {
+    type State = Option<Set>;
+
+    type Item = u64;
+
+    const LINES: &'static [Line] = &[("set_into_iter", Order::Whole, Made::Anew, Fill::Full)];
+
+    #[inline(always)]
+    fn call(set: &mut Option<Set>, place: u64, _item: &u64) -> Option<u64> {
+        match set.take() {
+            Some(set) => sum_of_owned(set.into_iter()),
+            None => Some(place),
         }
     }
-    Ok(())
 }
 
-fn time_inserts(plan: &Plan<'_>, keys: &Keys) -> io::Result<()> {
-    let set = LinkedHashSet::new(keys.alloc);
-    plan.row(
-        "set_insert",
-        keys.held.len(),
-        &mut Afresh { keys },
-        &mut Inserts { set },
-    )
+struct Drain;
+
+impl Row for Drain {
+    type State = Set;
+
+    type Item = u64;
+
+    const LINES: &'static [Line] = &[("set_drain", Order::Whole, Made::Anew, Fill::Full)];
+
+    #[inline(always)]
+    fn call(set: &mut Set, _place: u64, _item: &u64) -> Option<u64> {
+        sum_of_owned(set.drain())
+    }
 }
 
-fn time_unions(plan: &Plan<'_>, keys: &Keys) -> io::Result<()> {
-    let left = LinkedHashSet::new(keys.alloc);
-    let right = LinkedHashSet::new(keys.alloc);
-    time_unions_of(plan, keys, &mut Unions { left, right })
+struct Clear;
+
+impl Row for Clear {
+    type State = Set;
+
+    type Item = u64;
+
+    const LINES: &'static [Line] = &[("set_clear", Order::Whole, Made::Anew, Fill::Full)];
+
+    #[inline(always)]
+    fn call(set: &mut Set, _place: u64, _item: &u64) -> Option<u64> {
+        set.clear();
+        Some(set.len() as u64)
+    }
 }
 
-/// Of two sets that have about half of their elements in common. A call is a look at one element.
-fn time_unions_of(plan: &Plan<'_>, keys: &Keys, unions: &mut Unions) -> io::Result<()> {
-    fill(&mut unions.left, &keys.held, &keys.held)?;
-    fill(&mut unions.right, &keys.mixed, &keys.absent)?;
-    let calls = keys.held.len().saturating_mul(2);
-    plan.row("set_union", calls, &mut Turns::of(&[()]), unions)
+/// Keeps about half of the elements.
+struct Retain;
+
+impl Row for Retain {
+    type State = Set;
+
+    type Item = u64;
+
+    const LINES: &'static [Line] = &[("set_retain", Order::Whole, Made::Anew, Fill::Full)];
+
+    #[inline(always)]
+    fn call(set: &mut Set, _place: u64, _item: &u64) -> Option<u64> {
+        set.retain(|element| *element % 2 == 0);
+        Some(set.len() as u64)
+    }
 }
 
-pub(crate) fn rows(plan: &Plan<'_>, keys: &Keys) -> io::Result<()> {
-    time_inserts(plan, keys)?;
-    time_unions(plan, keys)
+struct CloneAll;
+
+impl Row for CloneAll {
+    type State = (Set, Set);
+
+    type Item = u64;
+
+    const LINES: &'static [Line] = &[("set_clone", Order::Whole, Made::Anew, Fill::Empty)];
+
+    #[inline(always)]
+    fn call(sets: &mut (Set, Set), _place: u64, _item: &u64) -> Option<u64> {
+        sets.1 = sets.0.clone().ok()?;
+        Some(sets.1.len() as u64)
+    }
+}
+
+struct IsEqual;
+
+impl Row for IsEqual {
+    type State = (Set, Set);
+
+    type Item = u64;
+
+    const LINES: &'static [Line] = &[("set_eq", Order::Whole, Made::Once, Fill::Full)];
+
+    #[inline(always)]
+    fn call(sets: &mut (Set, Set), _place: u64, _item: &u64) -> Option<u64> {
+        Some(u64::from(sets.0 == sets.1))
+    }
+}
+
+pub(crate) fn rows(plan: &mut Plan<'_>) {
+    plan.kind("sets");
+    plan.rows::<Contains, Get, Insert, Replace>();
+    plan.rows::<GetOrInsert, ToBack, Remove, Take>();
+    plan.rows::<Queue, Iter, IntoIter, Drain>();
+    plan.rows::<Clear, Retain, CloneAll, IsEqual>();
+    plan.row_alone::<ContainsLone>();
 }

@@ -1,86 +1,218 @@
-//! The rows of maps and caches whose keys are texts.
-use crate::keys::{Afresh, Keys};
-use crate::plan::{Lists, Plan, Row, Turns, fold};
-use crate::random::Choices;
+//! The calls of maps and caches whose keys are texts, which are asked for by `&str`. An insert takes a copy
+//! of the text that it is given.
+use crate::fill::{Fill, Filled, Made};
+use crate::keys::Keys;
+use crate::lists::{Listed, Order, items};
+use crate::plan::{Line, Plan, Row, fold};
 use hashlink::{LinkedHashMap, LruCache};
 use std::alloc::{AllocError, Global};
-use std::io;
 
 type Map = LinkedHashMap<String, u64>;
 
-#[inline]
-fn insert_copy(map: &mut Map, text: &String, value: u64) -> Result<Option<u64>, AllocError> {
-    match map.insert(text.clone()?, value) {
-        Ok(old) => Ok(old),
-        Err(_) => Err(AllocError),
+type Cache = LruCache<String, u64>;
+
+/// The key alone, in 20 bytes.
+impl Listed for String {
+    fn of(alloc: Global, key: u64, _other: u64) -> Result<String, AllocError> {
+        format!(in alloc; "{key:020}")
     }
 }
 
-/// Inserts of new texts, into an empty map in each pass. The texts are made before.
-#[derive(Drop)]
-struct Inserts {
-    coming: Vec<String>,
-    map: Map,
-}
-
-impl Lists<Inserts> for Afresh<'_> {
-    fn list(&mut self, row: &mut Inserts) -> Result<&[u64], AllocError> {
-        row.map = LinkedHashMap::new(self.keys.alloc);
-        row.coming = texts(self.keys.alloc, Form::Number, &self.keys.held)?;
-        Ok(&self.keys.held)
+impl Listed for (String, String) {
+    fn of(alloc: Global, key: u64, other: u64) -> Result<(String, String), AllocError> {
+        Ok((
+            String::of(alloc, key, other)?,
+            String::of(alloc, other, key)?,
+        ))
     }
 }
 
-impl Row for Inserts {
+/// Texts that come into a map, the last one first, which are made before.
+type Coming = (Vec<String>, Map);
+
+impl Filled for Coming {
+    fn filled(keys: &Keys, _fill: Fill) -> Option<Coming> {
+        let texts = items(keys.alloc, &keys.held, &keys.held).ok()?;
+        Some((texts, LinkedHashMap::new(keys.alloc)))
+    }
+}
+
+struct Insert;
+
+impl Row for Insert {
+    type State = Coming;
+
     type Item = u64;
 
-    #[inline]
-    fn call(&mut self, place: u64, key: &u64) -> Result<u64, AllocError> {
-        let Some(text) = self.coming.pop() else {
-            return Ok(place);
+    const LINES: &'static [Line] = &[("text_insert", Order::Held, Made::Anew, Fill::Empty)];
+
+    #[inline(always)]
+    fn call(coming: &mut Coming, place: u64, key: &u64) -> Option<u64> {
+        let Some(text) = coming.0.pop() else {
+            return Some(place);
         };
-        match self.map.insert(text, place) {
-            Ok(old) => Ok(old.unwrap_or(*key)),
-            Err(_) => Err(AllocError),
+        Some(coming.1.insert(text, place).ok()?.unwrap_or(*key))
+    }
+}
+
+impl Filled for Map {
+    fn filled(keys: &Keys, fill: Fill) -> Option<Map> {
+        if fill == Fill::Backwards {
+            backwards(keys)
+        } else {
+            in_order(keys)
         }
     }
 }
 
-/// Lookups of texts.
-#[derive(Drop)]
-struct Gets<'a> {
-    map: &'a Map,
+fn backwards(keys: &Keys) -> Option<Map> {
+    let mut coming = Coming::filled(keys, Fill::Empty)?;
+    for (place, key) in keys.held.iter().enumerate() {
+        Insert::call(&mut coming, place as u64, key)?;
+    }
+    Some(coming.1)
 }
 
-impl Row for Gets<'_> {
+fn in_order(keys: &Keys) -> Option<Map> {
+    let texts: Vec<String> = items(keys.alloc, &keys.held, &keys.held).ok()?;
+    let mut map = LinkedHashMap::new(keys.alloc);
+    for (place, text) in texts.iter().enumerate() {
+        Update::call(&mut map, place as u64, text)?;
+    }
+    Some(map)
+}
+
+struct Get;
+
+impl Row for Get {
+    type State = Map;
+
     type Item = String;
 
-    #[inline]
-    fn call(&mut self, place: u64, text: &String) -> Result<u64, AllocError> {
-        Ok(self.map.get(text.as_str()).copied().unwrap_or(place))
+    const LINES: &'static [Line] = &[
+        ("text_get_hit", Order::Mixed, Made::Once, Fill::Backwards),
+        ("text_get_miss", Order::Absent, Made::Once, Fill::Backwards),
+    ];
+
+    #[inline(always)]
+    fn call(map: &mut Map, place: u64, text: &String) -> Option<u64> {
+        Some(map.get(text.as_str()).copied().unwrap_or(place))
     }
 }
 
-/// A removal of the first entry and an insert of a copy of a text, as in a queue.
-#[derive(Drop)]
-struct Queues {
-    map: Map,
-}
+struct ContainsKey;
 
-impl Row for Queues {
+impl Row for ContainsKey {
+    type State = Map;
+
     type Item = String;
 
-    #[inline]
-    fn call(&mut self, place: u64, text: &String) -> Result<u64, AllocError> {
-        let first = match self.map.pop_front() {
+    const LINES: &'static [Line] = &[
+        (
+            "text_contains_key_hit",
+            Order::Mixed,
+            Made::Once,
+            Fill::Backwards,
+        ),
+        (
+            "text_contains_key_miss",
+            Order::Absent,
+            Made::Once,
+            Fill::Backwards,
+        ),
+    ];
+
+    #[inline(always)]
+    fn call(map: &mut Map, _place: u64, text: &String) -> Option<u64> {
+        Some(u64::from(map.contains_key(text.as_str())))
+    }
+}
+
+/// An insert, of a text that may be present.
+struct Update;
+
+impl Row for Update {
+    type State = Map;
+
+    type Item = String;
+
+    const LINES: &'static [Line] = &[(
+        "text_update",
+        Order::MixedByTurns,
+        Made::Once,
+        Fill::Backwards,
+    )];
+
+    #[inline(always)]
+    fn call(map: &mut Map, place: u64, text: &String) -> Option<u64> {
+        let copy = text.clone().ok()?;
+        Some(map.insert(copy, place).ok()?.unwrap_or(place))
+    }
+}
+
+struct Remove;
+
+impl Row for Remove {
+    type State = Map;
+
+    type Item = String;
+
+    const LINES: &'static [Line] = &[(
+        "text_remove_hit",
+        Order::Mixed,
+        Made::Anew,
+        Fill::Backwards,
+    )];
+
+    #[inline(always)]
+    fn call(map: &mut Map, place: u64, text: &String) -> Option<u64> {
+        Some(map.remove(text.as_str()).unwrap_or(place))
+    }
+}
+
+/// A removal of a text that is there and an insert of one that is not.
+struct Exchange;
+
+impl Row for Exchange {
+    type State = Map;
+
+    type Item = (String, String);
+
+    const LINES: &'static [Line] = &[("text_churn", Order::Exchanges, Made::Once, Fill::Full)];
+
+    #[inline(always)]
+    fn call(map: &mut Map, place: u64, item: &(String, String)) -> Option<u64> {
+        let left = map.remove(item.0.as_str()).unwrap_or(u64::MAX);
+        Some(fold(left, Update::call(map, place, &item.1)?))
+    }
+}
+
+/// A removal of the first entry and an insert of a text, as in a queue.
+struct Queue;
+
+impl Row for Queue {
+    type State = Map;
+
+    type Item = String;
+
+    const LINES: &'static [Line] = &[(
+        "text_pop_insert",
+        Order::AbsentAndHeld,
+        Made::Once,
+        Fill::Full,
+    )];
+
+    #[inline(always)]
+    fn call(map: &mut Map, place: u64, text: &String) -> Option<u64> {
+        let first = match map.pop_front() {
             Some((text, value)) => fold(last_byte(&text), value),
             None => place,
         };
-        let old = insert_copy(&mut self.map, text, place)?;
-        Ok(fold(first, old.unwrap_or(place)))
+        Some(fold(first, Update::call(map, place, text)?))
     }
 }
 
+#[inline(always)]
 fn last_byte(text: &str) -> u64 {
     match text.as_bytes().last() {
         Some(byte) => u64::from(*byte),
@@ -88,163 +220,183 @@ fn last_byte(text: &str) -> u64 {
     }
 }
 
-/// A lookup of a borrowed text, and an insert of a copy of it where it is not there.
-#[derive(Drop)]
-struct Uses<'a> {
-    texts: &'a [String],
-    cache: LruCache<String, u64>,
-}
-
-impl<'a> Uses<'a> {
-    fn new(alloc: Global, texts: &'a [String], capacity: usize) -> Self {
-        let cache = LruCache::new(alloc, capacity);
-        Uses { texts, cache }
-    }
-
-    /// Uses each text, the first one last.
-    fn use_each(&mut self) -> Result<(), AllocError> {
-        for place in (0..self.texts.len() as u64).rev() {
-            self.call(place, &place)?;
+impl Filled for Cache {
+    fn filled(keys: &Keys, _fill: Fill) -> Option<Cache> {
+        let texts: Vec<String> = items(keys.alloc, &keys.held, &keys.held).ok()?;
+        let mut cache = LruCache::new(keys.alloc, keys.size());
+        for (place, text) in texts.iter().enumerate() {
+            CacheInsert::call(&mut cache, place as u64, text)?;
         }
-        Ok(())
+        Some(cache)
     }
 }
 
-impl Row for Uses<'_> {
-    /// The place of a text.
+struct CachePeek;
+
+impl Row for CachePeek {
+    type State = Cache;
+
+    type Item = String;
+
+    const LINES: &'static [Line] = &[
+        ("lru_text_peek_hit", Order::Mixed, Made::Once, Fill::Full),
+        ("lru_text_peek_miss", Order::Absent, Made::Once, Fill::Full),
+    ];
+
+    #[inline(always)]
+    fn call(cache: &mut Cache, place: u64, text: &String) -> Option<u64> {
+        Some(cache.peek(text.as_str()).copied().unwrap_or(place))
+    }
+}
+
+struct CacheGet;
+
+impl Row for CacheGet {
+    type State = Cache;
+
+    type Item = String;
+
+    const LINES: &'static [Line] = &[
+        (
+            "lru_text_get_hit",
+            Order::MixedByTurns,
+            Made::Once,
+            Fill::Full,
+        ),
+        ("lru_text_get_miss", Order::Absent, Made::Once, Fill::Full),
+    ];
+
+    #[inline(always)]
+    fn call(cache: &mut Cache, place: u64, text: &String) -> Option<u64> {
+        Some(cache.get(text.as_str()).copied().unwrap_or(place))
+    }
+}
+
+struct CacheInsert;
+
+impl Row for CacheInsert {
+    type State = Cache;
+
+    type Item = String;
+
+    const LINES: &'static [Line] = &[(
+        "lru_text_insert_new",
+        Order::AbsentAndHeld,
+        Made::Once,
+        Fill::Full,
+    )];
+
+    #[inline(always)]
+    fn call(cache: &mut Cache, place: u64, text: &String) -> Option<u64> {
+        let copy = text.clone().ok()?;
+        Some(cache.insert(copy, place).ok()?.unwrap_or(place))
+    }
+}
+
+struct CacheRemove;
+
+impl Row for CacheRemove {
+    type State = Cache;
+
+    type Item = String;
+
+    const LINES: &'static [Line] = &[("lru_text_remove_hit", Order::Mixed, Made::Anew, Fill::Full)];
+
+    #[inline(always)]
+    fn call(cache: &mut Cache, place: u64, text: &String) -> Option<u64> {
+        Some(cache.remove(text.as_str()).unwrap_or(place))
+    }
+}
+
+/// Texts, and a cache for some of them.
+type Uses = (Vec<String>, Cache);
+
+impl Filled for Uses {
+    fn filled(keys: &Keys, fill: Fill) -> Option<Uses> {
+        if fill == Fill::Half {
+            tokens(keys)
+        } else {
+            statements(keys)
+        }
+    }
+}
+
+/// A look-up of the text at a place, and an insert of a copy of it where it is not there.
+struct UseText;
+
+impl Row for UseText {
+    type State = Uses;
+
     type Item = u64;
 
-    #[inline]
-    fn call(&mut self, place: u64, at: &u64) -> Result<u64, AllocError> {
-        let Some(text) = self.texts.get(*at as usize) else {
-            return Ok(place);
+    const LINES: &'static [Line] = &[
+        ("lru_text", Order::ZipfPlaces, Made::Once, Fill::Half),
+        ("statement_get", Order::ZipfPlaces, Made::Once, Fill::Empty),
+    ];
+
+    #[inline(always)]
+    fn call(uses: &mut Uses, place: u64, at: &u64) -> Option<u64> {
+        let Some(text) = uses.0.get(*at as usize) else {
+            return Some(place);
         };
-        if let Some(value) = self.cache.get(text.as_str()) {
-            return Ok(*value);
+        if let Some(value) = uses.1.get(text.as_str()) {
+            return Some(*value);
         }
-        match self.cache.insert(text.clone()?, place) {
-            Ok(old) => Ok(old.unwrap_or(*at)),
-            Err(_) => Err(AllocError),
-        }
+        let copy = text.clone().ok()?;
+        Some(uses.1.insert(copy, place).ok()?.unwrap_or(*at))
     }
 }
 
-/// What a text says of its key.
-#[derive(Clone, Copy)]
-enum Form {
-    /// The key alone, in 20 bytes.
-    Number,
-    /// A token of 32 bytes.
-    Token,
-    /// A statement of a database, of 77 bytes, which begins and ends as all others do.
-    Statement,
+/// A token of 32 bytes.
+fn token(alloc: Global, key: u64) -> Result<String, AllocError> {
+    let rest = !key;
+    format!(in alloc; "{key:016x}{rest:016x}")
 }
 
-fn text(alloc: Global, form: Form, key: u64) -> Result<String, AllocError> {
-    match form {
-        Form::Number => format!(in alloc; "{key:020}"),
-        Form::Token => {
-            let rest = !key;
-            format!(in alloc; "{key:016x}{rest:016x}")
-        }
-        Form::Statement => format!(in alloc;
-            "SELECT name, price FROM articles WHERE shop = {key:020} AND id = ?"
-        ),
-    }
+/// A statement of a database, of 77 bytes, which begins and ends as all others do.
+fn statement(alloc: Global, key: u64) -> Result<String, AllocError> {
+    format!(in alloc; "SELECT name, price FROM articles WHERE shop = {key:020} AND id = ?")
 }
 
-/// A text of each key.
-fn texts(alloc: Global, form: Form, keys: &[u64]) -> Result<Vec<String>, AllocError> {
-    let mut texts = Vec::new(alloc);
-    for key in keys {
-        texts.push(text(alloc, form, *key)?)?;
+/// A token or a statement of each key that is held.
+fn texts_of(keys: &Keys, are_tokens: bool) -> Result<Vec<String>, AllocError> {
+    let mut texts = Vec::new(keys.alloc);
+    for key in &keys.held {
+        let text = if are_tokens {
+            token(keys.alloc, *key)?
+        } else {
+            statement(keys.alloc, *key)?
+        };
+        texts.push(text)?;
     }
     Ok(texts)
 }
 
-fn time_gets(plan: &Plan<'_>, keys: &Keys, map: &Map) -> io::Result<()> {
-    let mixed = texts(keys.alloc, Form::Number, &keys.mixed)?;
-    plan.row(
-        "text_get_hit",
-        mixed.len(),
-        &mut Turns::of(&mixed),
-        &mut Gets { map },
-    )
-}
-
-/// The lookups are in the map that the last of the inserts have left.
-fn time_maps(plan: &Plan<'_>, keys: &Keys) -> io::Result<()> {
-    let inserts = &mut Inserts {
-        coming: Vec::new(keys.alloc),
-        map: LinkedHashMap::new(keys.alloc),
-    };
-    plan.row(
-        "text_insert",
-        keys.held.len(),
-        &mut Afresh { keys },
-        inserts,
-    )?;
-    time_gets(plan, keys, &inserts.map)
-}
-
-fn time_queue(plan: &Plan<'_>, keys: &Keys) -> io::Result<()> {
-    let held = texts(keys.alloc, Form::Number, &keys.held)?;
-    let absent = texts(keys.alloc, Form::Number, &keys.absent)?;
-    let map = LinkedHashMap::new(keys.alloc);
-    time_queue_of(plan, &absent, &held, &mut Queues { map })
-}
-
-/// The texts that are held are in the map at first.
-fn time_queue_of(
-    plan: &Plan<'_>,
-    absent: &[String],
-    held: &[String],
-    queues: &mut Queues,
-) -> io::Result<()> {
-    for (place, text) in held.iter().enumerate() {
-        insert_copy(&mut queues.map, text, place as u64)?;
+/// Uses each text, the first one last.
+fn use_each(uses: &mut Uses, keys: &Keys) -> Option<()> {
+    for place in keys.places.iter().rev() {
+        UseText::call(uses, *place, place)?;
     }
-    let sides = &mut Turns::new(absent, held);
-    plan.row("text_pop_insert", held.len(), sides, queues)
+    Some(())
 }
 
-/// The texts come about as by Zipf's law.
-fn time_uses(
-    plan: &Plan<'_>,
-    name: &str,
-    alloc: Global,
-    is_full: bool,
-    uses: &mut Uses<'_>,
-) -> io::Result<()> {
-    if is_full {
-        uses.use_each()?;
-    }
-    let places: Vec<u64> = (0..uses.texts.len() as u64).collect(alloc)?;
-    let chosen = &mut Choices::zipf(alloc, &places);
-    plan.row(name, places.len(), chosen, uses)
+/// Tokens, and a cache for half of them that is full.
+fn tokens(keys: &Keys) -> Option<Uses> {
+    let texts = texts_of(keys, true).ok()?;
+    let mut uses = (texts, LruCache::new(keys.alloc, keys.half()));
+    use_each(&mut uses, keys)?;
+    Some(uses)
 }
 
-/// Of a cache of texts for half of them, full at first, or for all, empty at first.
-fn time_cache(
-    plan: &Plan<'_>,
-    name: &str,
-    keys: &Keys,
-    form: Form,
-    is_full: bool,
-) -> io::Result<()> {
-    let texts = texts(keys.alloc, form, &keys.held)?;
-    let capacity = if is_full {
-        (texts.len() / 2).max(1)
-    } else {
-        texts.len()
-    };
-    let uses = &mut Uses::new(keys.alloc, &texts, capacity);
-    time_uses(plan, name, keys.alloc, is_full, uses)
+/// Statements, and an empty cache for all of them.
+fn statements(keys: &Keys) -> Option<Uses> {
+    let texts = texts_of(keys, false).ok()?;
+    Some((texts, LruCache::new(keys.alloc, keys.size())))
 }
 
-pub(crate) fn rows(plan: &Plan<'_>, keys: &Keys) -> io::Result<()> {
-    time_maps(plan, keys)?;
-    time_queue(plan, keys)?;
-    time_cache(plan, "lru_text", keys, Form::Token, true)?;
-    time_cache(plan, "statement_get", keys, Form::Statement, false)
+pub(crate) fn rows(plan: &mut Plan<'_>) {
+    plan.kind("texts");
+    plan.rows::<Insert, Update, Get, ContainsKey>();
+    plan.rows::<Remove, Exchange, Queue, CachePeek>();
+    plan.rows::<CacheGet, CacheInsert, CacheRemove, UseText>();
 }

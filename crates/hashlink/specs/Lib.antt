@@ -1,5 +1,6 @@
 -- The definitions that the contracts of the containers cite, passed on. Where two crates have a file of one
 -- name, the container stands before it here.
+pub mod Texts
 pub use Rattle.hashlink_model.specs.Algebra
 pub use Rattle.hashlink_model.specs.Cache
 pub use Rattle.hashlink_history.specs.CacheRuns
@@ -9,6 +10,7 @@ pub use Rattle.hashlink_model.specs.Entries
 pub use Rattle.hashlink_model.specs.Entry
 pub use Rattle.hashlink_history.specs.History
 pub use Rattle.hashlink_history.specs.Inclusion
+pub use Rattle.hashlink_model.specs.Lookups
 pub use Rattle.hashlink_model.specs.Many
 pub use Rattle.hashlink_model.specs.MapState
 pub use Rattle.hashlink_history.specs.Peak

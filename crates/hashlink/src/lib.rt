@@ -52,7 +52,8 @@ pub mod run {
 
 pub use hashlink_lru::LruCache;
 pub use hashlink_map::{
-    DefaultHashBuilder, DefaultHasher, Equivalent, LinkedHashMap, TryReserveError,
+    DefaultHashBuilder, DefaultHasher, Equivalent, ExtendError, LinkedHashMap, TryInsertError,
+    TryReserveError,
 };
 pub use hashlink_set::LinkedHashSet;
 pub use std::alloc::AllocError;

@@ -4,6 +4,7 @@ pub mod Names
 pub mod AtKey
 pub mod AtKeyNode
 pub mod Calls
+pub mod Draining
 pub mod Edits
 pub mod Finding
 pub mod Holding

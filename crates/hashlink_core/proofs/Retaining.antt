@@ -24,11 +24,6 @@ module _ {X : Type 0} where
   begins [] (y ∷ ys) x at = let same : y ≡ x = cc in (ys, ap (λ z. z ∷ ys) same)
   begins (z ∷ xs) ys x at = begins xs ys x at
 
-  -- where nothing passes nothing is left
-  pub none-passes : (xs : List X) → filter (λ x. false) xs ≡ []
-  none-passes [] = refl
-  none-passes (x ∷ xs) = none-passes xs
-
 -- a value that was written leaves the list sound
 sound-written : {K V S : Type 0} (eq : K → K → Bool) (m : Keyed K V S) (n : Node) (w : V) → IsKeyed eq m
     → IsKeyed eq (with_value_at m n w)

@@ -1,4 +1,5 @@
 -- What the contracts of the keyed list cite.
+pub mod Drained
 pub mod Hashing
 pub mod Keyed
 pub mod KeyedLends

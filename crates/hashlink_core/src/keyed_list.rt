@@ -6,6 +6,7 @@ ghost use Rattle.hashlink_core.specs.Tied.{short};
 ghost use Rattle.hashlink_table.specs.declared.error.TryReserveError.TheVariants.{CapacityOverflow};
 ghost use Rattle.hashlink_table.specs.declared.table.TheConstants.{MAX_ROOM};
 
+mod drains;
 mod extend;
 mod growth;
 mod inserts;

@@ -2,6 +2,7 @@
 #![tactic(auto)]
 
 mod compare;
+mod drained;
 mod equivalent;
 mod extend_error;
 mod hash_builder;
@@ -11,6 +12,7 @@ mod iter;
 mod keyed_list;
 
 pub use compare::{iter_cmp, iter_eq, iter_partial_cmp};
+pub use drained::DrainedNodes;
 pub use equivalent::Equivalent;
 pub use extend_error::ExtendError;
 pub use hash_builder::DefaultHashBuilder;

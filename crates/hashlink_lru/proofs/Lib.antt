@@ -5,3 +5,4 @@ pub mod Evicting
 pub mod Extending
 pub mod Pushing
 pub mod Using
+pub mod Updating

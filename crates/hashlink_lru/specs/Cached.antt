@@ -5,6 +5,7 @@ use Rattle.std.specs.Map.{lookup}
 use Rattle.std.specs.Option.{UnwrapsOrElse}
 use Rattle.hashlink_model.specs.Cache.{CacheState, CacheInserts, CacheGetsAndWrites, IsWithin}
 use Rattle.hashlink_model.specs.Cache.{KeepsLast, OnMap, InsertsLast, InsertsThenFits}
+use Rattle.hashlink_model.specs.Lookups.{UpdatesFitting}
 use Rattle.hashlink_model.specs.MapState.{MapState, empty_map, with_value}
 use Rattle.hashlink_core.specs.Keyed as keyed
 use Rattle.hashlink_core.specs.Keyed.{Keyed}
@@ -48,6 +49,12 @@ module _ {K V S : Type 0} (eq : K → K → Bool) where
   UsesAndWrites old new k w =
       MatchOption (lookup (eq k) old.map.entries) (PutsNewIn old new k w)
       (λ _. CacheGetsAndWrites eq old new k w)
+
+  -- what a look-up finds once w was written through what a use lent
+  abbrev pub UpdatesUsed : CacheState K V S → K → Type 0
+  UpdatesUsed old k =
+      (new : CacheState K V S) (w : V) → UsesAndWrites old new k w
+      → UpdatesFitting eq old.map.entries new.map.entries k w
 
   -- a use whose value was not made changed nothing, and one that was refused memory is an insert that was
   -- refused

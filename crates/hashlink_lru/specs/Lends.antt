@@ -62,17 +62,17 @@ module _ (K V S T : RattleType) (g : HashMembers K.Denot) (b : builder.Ghosts S.
       -- before
       abbrev pub LendsValueIn : Option (MutBor V.Denot) → Fml
       LendsValueIn r =
-          LendsSo cache_row V c r (λ new v. SameCapacity c.now new × OnSome r
-          ((state_of new ≡ record (state_of c.now) { map = with_match_value test (state_of c.now).map v })
-          × StaysWithin (state_of c.now) (state_of new))) (λ new. state_of new ≡ state_of c.now)
+          LendsSo cache_row V c r (λ new v. SameCapacity c.now new
+          × (state_of new ≡ record (state_of c.now) { map = with_match_value test (state_of c.now).map v })
+          × StaysWithin (state_of c.now) (state_of new)) (λ new. state_of new ≡ state_of c.now)
 
       -- it moved last, and its value is lent: the cache ends with what was written there, and where none
       -- passes as it was. No more entries are beyond the capacity than before
       abbrev pub LendsUsed : Option (MutBor V.Denot) → Fml
       LendsUsed r =
-          LendsSo cache_row V c r (λ new v. SameCapacity c.now new × OnSome r
-          (CacheGetsMatchAndWrites test (state_of c.now) (state_of new) v
-          × StaysWithin (state_of c.now) (state_of new))) (λ new. state_of new ≡ state_of c.now)
+          LendsSo cache_row V c r (λ new v. SameCapacity c.now new
+          × CacheGetsMatchAndWrites test (state_of c.now) (state_of new) v
+          × StaysWithin (state_of c.now) (state_of new)) (λ new. state_of new ≡ state_of c.now)
 
       -- it moved last, where one passes, with the value that stands, and no more entries are beyond the
       -- capacity than before

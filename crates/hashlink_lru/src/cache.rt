@@ -4,6 +4,7 @@ ghost use Rattle.std.specs.Prelude.{◌≡◌, ◌-◌, ◌^◌, ◌<◌, ◌↔
 ghost use Rattle.hashlink_model.specs.Entries.{IsEntries};
 ghost use Rattle.hashlink_lru.specs.Cached.{empty_cache};
 
+mod compared;
 mod entries;
 mod extend;
 mod get_or_insert;

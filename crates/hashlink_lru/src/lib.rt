@@ -4,6 +4,7 @@
 
 mod cache;
 mod debug;
+mod emptied;
 pub mod laws;
 
 pub use cache::LruCache;

@@ -4,3 +4,4 @@ pub use Rattle.std.specs.declared.hash.Hash.{Ghosts as HashGhosts}
 pub use Rattle.std.specs.declared.hash.Hasher.{Ghosts as HasherGhosts}
 pub use Rattle.std.specs.declared.hash.BuildHasher.{Ghosts as BuilderGhosts}
 pub use Rattle.hashlink_map.specs.declared.as_node.AsNode.{Ghosts as NodeGhosts}
+pub use Rattle.hashlink_map.specs.declared.as_drained.AsDrained.{Ghosts as DrainedGhosts}

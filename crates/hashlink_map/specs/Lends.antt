@@ -36,7 +36,7 @@ module _ (K V S T : RattleType) (g : HashMembers K.Denot) (b : BuilderGhosts S.D
     abbrev pub LendsValueOf : Option (MutBor V.Denot) → Fml
     LendsValueOf r =
         LendsSo map_row V m r
-        (λ new v. OnSome r (state_of new ≡ with_match_value test (state_of m.now) v))
+        (λ new v. state_of new ≡ with_match_value test (state_of m.now) v)
         (λ new. state_of new ≡ state_of m.now)
 
     -- it moved to the place p, and its value is lent: the map ends with what was written there, and where
@@ -44,5 +44,5 @@ module _ (K V S T : RattleType) (g : HashMembers K.Denot) (b : BuilderGhosts S.D
     abbrev pub LendsMoved : ℕ → Option (MutBor V.Denot) → Fml
     LendsMoved p r =
         LendsSo map_row V m r
-        (λ new v. OnSome r (MovesMatchAndWrites test (state_of m.now) (state_of new) p v))
+        (λ new v. MovesMatchAndWrites test (state_of m.now) (state_of new) p v)
         (λ new. state_of new ≡ state_of m.now)

@@ -1,6 +1,7 @@
 //! `LinkedHashMap`: a hash map that keeps its entries in an order which the caller controls.
 #![tactic(auto)]
 
+mod as_drained;
 mod as_node;
 mod at_node;
 mod at_place;
@@ -9,6 +10,7 @@ mod compare;
 mod cursor;
 mod debug;
 mod drain;
+mod emptied;
 mod entry;
 mod extend;
 mod hashing;
@@ -22,12 +24,13 @@ mod raw_entry;
 mod try_insert_error;
 mod values_mut;
 
+pub use as_drained::AsDrained;
 pub use as_node::AsNode;
 pub use cursor::CursorMut;
-pub use drain::Drain;
+pub use drain::{Drain, put_back, take_nodes};
 pub use entry::{Entry, OccupiedEntry, VacantEntry};
 pub use hashlink_core::{
-    DefaultHashBuilder, DefaultHasher, Equivalent, ExtendError, IntoIter, Iter, Keys,
+    DefaultHashBuilder, DefaultHasher, DrainedNodes, Equivalent, ExtendError, IntoIter, Iter, Keys,
     TryReserveError, Values,
 };
 pub use iter_from::IterFrom;

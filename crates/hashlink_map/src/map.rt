@@ -99,6 +99,14 @@ impl<K: Eq + Hash, V, S: BuildHasher> LinkedHashMap<K, V, S> {
         self.list.len()
     }
 
+    /// Does nothing. It tells the calls that change a map what holds of the one that they begin with.
+    #[inline(always)]
+    pub(crate) fn keys_are_distinct(&self)
+        ensures { IsEntries K.eq (entries_of self.now) }
+    {
+        self.list.len();
+    }
+
     /// Returns whether the map is empty. It takes constant time.
     pub fn is_empty(&self) -> bool
         ensures { IsTrue result ↔ (length (entries_of self.now) ≡ 0) }

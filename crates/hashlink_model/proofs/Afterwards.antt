@@ -13,7 +13,7 @@ use Rattle.hashlink_model.proofs.Finds.{lookup-equal}
 use Rattle.hashlink_model.proofs.Puts.{put_back, put_front, lookup_entry-put, none_without, IsEntries-put}
 pub use Rattle.hashlink_model.proofs.ByPlace.{moved-there}
 
-moved_match-none : {K V : Type 0} (test : K → Bool) (es : List (K × V)) (b : ℕ) → NonePasses test es
+pub moved_match-none : {K V : Type 0} (test : K → Bool) (es : List (K × V)) (b : ℕ) → NonePasses test es
     → moved_match test es b ≡ es
 moved_match-none test es b n = ap (λ o. option_map_or (λ j. moved_at es j b) o es) (place_of-none test es n)
 

@@ -16,6 +16,7 @@ pub mod Occupied
 pub mod Members
 pub mod Comparisons
 pub mod Retains
+pub mod Updates
 pub mod LazyWalks
 pub mod Caches
 pub mod Weighted
@@ -24,8 +25,10 @@ pub mod NodeCounts
 pub mod KeptNodes
 pub mod SetViews
 pub mod SetSteps
+pub mod SetUpdates
 pub mod Pops
 pub mod CacheSteps
+pub mod CacheUpdates
 pub mod CacheBounds
 pub mod InTurn
 pub mod Clones

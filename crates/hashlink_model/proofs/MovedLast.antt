@@ -1,10 +1,11 @@
 -- A key that moved last, through which the value that stands was written.
-use Rattle.hashlink_model.proofs.Names.{◌≡◌, Bool, Some, length, IsEquivalence, lookup, ap, sym, subst, ◌∙◌}
+use Rattle.hashlink_model.proofs.Names.{◌≡◌, ℕ, Bool, Some, length, IsEquivalence, lookup, ap, refl, sym, subst, ◌∙◌}
+use Rattle.hashlink_model.proofs.Names.{NonePasses, arith, le_refl}
 use Rattle.hashlink_model.proofs.Names.{IsEntries, IsKeyTest, moved, MapState, Changes, Moves, MovesMatch}
 use Rattle.hashlink_model.proofs.Names.{set_value_same}
-use Rattle.hashlink_model.specs.Steps.{MovesAndWrites, MovesMatchAndWrites}
-use Rattle.hashlink_model.proofs.Afterwards.{lookup-moved}
-use Rattle.hashlink_model.proofs.Splits.{key_from_lookup}
+use Rattle.hashlink_model.specs.Steps.{MovesAndWrites, MovesMatchAndWrites, with_match_value}
+use Rattle.hashlink_model.proofs.Afterwards.{lookup-moved, moved_match-none}
+use Rattle.hashlink_model.proofs.Splits.{key_from_lookup, set_value-none}
 
 -- it moved last, and nothing else
 pub moved_last : {K V S : Type 0} (eq : K → K → Bool) → IsEquivalence eq
@@ -35,3 +36,22 @@ moved_match_last eq laws test tells old new w d at s =
     subst
     (λ t. lookup t old.entries ≡ Some w → MovesMatchAndWrites t old new b w → MovesMatch t old new b (Some w))
     (sym k.1) (λ l m. moved_last eq laws old new k.0 w d l m) at s
+
+-- ---- where no key passes nothing is lent, and whatever is said to be written changes nothing
+
+module _ {K V S : Type 0} (test : K → Bool) (m : MapState K V S) (w : V) (none : NonePasses test m.entries) where
+  pub writes_none : m ≡ with_match_value test m w
+  writes_none = ap (λ es. record m { entries = es }) (sym (set_value-none test m.entries w none))
+
+  pub moves_none : (b : ℕ) → MovesMatchAndWrites test m m b w
+  moves_none b = record {
+    between = m;
+    moves = record {
+      entries = sym (moved_match-none test m.entries b none);
+      spare = refl;
+      room = refl;
+      link_writes = record { grows = le_refl m.link_writes; bound = omega arith };
+      hasher = refl;
+    };
+    writes = writes_none;
+  }

@@ -50,6 +50,10 @@ module _ {K V : Type 0} (test : K → Bool) where
   remove_entry-none [] n = refl
   remove_entry-none (x ∷ es) n = rw n.0 (ap (λ r. x ∷ r) (remove_entry-none es n.1))
 
+  pub set_value-none : (es : List (K × V)) (v : V) → NonePasses test es → set_value test es v ≡ es
+  set_value-none [] v n = refl
+  set_value-none (x ∷ es) v n = rw n.0 (ap (λ r. x ∷ r) (set_value-none es v n.1))
+
   -- ---- where e is the first entry whose key passes
 
   module _ (e : K × V) (ys : List (K × V)) (t : test e.0 ≡ true) where

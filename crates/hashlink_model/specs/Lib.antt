@@ -6,6 +6,7 @@ pub mod Cursor
 pub mod Entries
 pub mod Entry
 pub mod Labels
+pub mod Lookups
 pub mod Many
 pub mod MapState
 pub mod Numbers

@@ -2,18 +2,19 @@
 use Rattle.hashlink_nodes.proofs.Names
 use Names.{◌≡◌, ℕ, ◌+◌, ◌-◌, ◌^◌, ◌<◌, [], ◌∷◌, ◌++◌, length, Option, Some, None, refl, sym, ap, ◌∙◌, subst}
 use Names.{arith, keys_of, unwrap_or, remove_entry, set_value, option_map, append-nil, length-append}
+use Names.{append_assoc, is_some, lookup, same_node-refl, Holds, IsDistinct, IsDistinct-head}
 use Names.{length-drop, length-set_value, Node, Inside, same_node, state_of, Ring, ring, Held, IsRing}
 use Names.{IsSound, SoundAt, ring_of, State, GuardIs, attached, detached, hold, store_next, Adds, Drops}
 use Names.{AreThere, IsPlace, put_before, put_after, held, pair_of, with_number}
 use Rattle.std.proofs.Common.{drop}
 use Rattle.hashlink_nodes.specs.declared.pool.Pool.{Pool}
-use Rattle.hashlink_nodes.proofs.Paths.{head_or, last_or}
+use Rattle.hashlink_nodes.proofs.Paths.{head_or, last_or, Off, IsOff, all_left, to_front}
 use Rattle.hashlink_nodes.proofs.Cuts.{Gap, before_place, after_place, same_some}
 use Rattle.hashlink_nodes.proofs.Rings.{Linked, linked, attach, Entries, InRing, in_ring, detach, held_out}
 use Rattle.hashlink_nodes.proofs.Rings.{holds_now, held_now, added, dropped, spared, take_spare, renew, Taken}
-use Rattle.hashlink_nodes.proofs.Rings.{guarded, held_anew}
+use Rattle.hashlink_nodes.proofs.Rings.{guarded, held_anew, keys-append}
 use Rattle.hashlink_nodes.proofs.Opening.{length-gap, Leaves, NodeAt, Opened, leaves, length-removed, opened}
-use Rattle.hashlink_nodes.proofs.Opening.{empty}
+use Rattle.hashlink_nodes.proofs.Opening.{empty, known}
 
 module _ {K V : Type 0} where
   -- ---- an entry goes in
@@ -200,6 +201,26 @@ module _ {K V : Type 0} where
       (leaves is (dropped (spare_of o some).ring drops) o.is_len
       (omega (arith, length-drop 1 v.free, o.is_spare)))
 
+  -- an entry whose node is none of those before it is found at its node
+  found_here : (xs : Entries K V) (n : Node) (h : Held K V) (ys : Entries K V) → IsOff n (keys_of xs)
+      → (lookup (same_node n) (xs ++ (n, h) ∷ ys) ≡ Some h)
+      × (remove_entry (same_node n) (xs ++ (n, h) ∷ ys) ≡ xs ++ ys)
+  found_here [] n h ys off = let here = same_node-refl n in (rw here, rw here)
+  found_here (x ∷ xs) n h ys off =
+      let rest = found_here xs n h ys off.1 in (rw off.0 rest.0, rw off.0 (ap (λ l. x ∷ l) rest.1))
+
+  module _ (xs : Entries K V) (n : Node) (h : Held K V) (ys : Entries K V) {es : Entries K V}
+      (is : es ≡ xs ++ (n, h) ∷ ys) (off : IsOff n (keys_of xs)) where
+    pub found_there : Holds es n
+    found_there = ap is_some (ap (lookup (same_node n)) is ∙ (found_here xs n h ys off).0)
+
+    pub pair_found : {p : K × V} → option_map pair_of (lookup (same_node n) es) ≡ Some p → pair_of h ≡ p
+    pair_found found = same_some (ap (option_map pair_of)
+        (sym (ap (lookup (same_node n)) is ∙ (found_here xs n h ys off).0)) ∙ found)
+
+    pub left_without : remove_entry (same_node n) es ≡ xs ++ ys
+    left_without = ap (remove_entry (same_node n)) is ∙ (found_here xs n h ys off).1
+
   -- the first node of the ring
   pub record FirstIs (n : Node) (es : Entries K V) : Type 0 where
     pub value : Held K V
@@ -266,6 +287,15 @@ module _ {K V : Type 0} where
 
     pub last_in : InRing (state_of n.pool) m last.value
     last_in = in_ring o.ring last.before m last.value [] last.is
+
+    -- it is none of those before it
+    pub last_off : IsOff m (keys_of last.before)
+    last_off =
+        let ks = keys_of last.before in
+        let d = subst (IsDistinct same_node) (ap (λ es. keys_of es ++ v.free) last.is
+        ∙ ap (λ ns. ns ++ v.free) (keys-append last.before ((m, last.value) ∷ []))
+        ∙ append_assoc ks (m ∷ []) v.free) (known sound view).differ in
+        all_left (Off m) ks v.free (IsDistinct-head same_node m (ks ++ v.free) (to_front ks m v.free d))
 
     pub last_bare : {s₁ s₂ : State K V} → s₁ ≡ detached m (state_of n.pool) → s₂ ≡ hold m None s₁
         → IsRing s₂ (m ∷ []) g n.first_spare (ring last.before v.free (v.link_writes + 2))

@@ -30,7 +30,7 @@ module _ (P : Node → Type 0) where
 abbrev pub Entries : Type 0 → Type 0 → Type 0
 Entries K V = List (Node × Held K V)
 
-keys-append : {X : Type 0} (xs ys : List (Node × X)) → keys_of (xs ++ ys) ≡ keys_of xs ++ keys_of ys
+pub keys-append : {X : Type 0} (xs ys : List (Node × X)) → keys_of (xs ++ ys) ≡ keys_of xs ++ keys_of ys
 keys-append {X} xs ys = map-append (λ (e : Node × X). e.0) xs ys
 
 module _ {K V : Type 0} where

@@ -14,7 +14,7 @@ ghost use Rattle.hashlink_nodes.specs.Ownership.{blocks_own, blocks_lent};
 use crate::node::Node;
 use crate::pool::Links;
 use std::alloc::Global;
-use std::marker::{Model, PhantomData};
+use std::marker::{Model, PhantomData, Send, Sync};
 use std::mem::size_of;
 use std_alloc::room::Vacant;
 
@@ -47,6 +47,13 @@ impl<T> Model for Arena<T> {
 
     ghost also_shares = { λ a _ κ. blocks_lent T.row a.blocks κ };
 }
+
+// An arena is the only owner of its blocks, as a `Vec` is of its items: where it goes, all pairs go, and no
+// other pointer to them is left.
+unsafe impl<T: Send> Send for Arena<T> {}
+
+// A reference to an arena reads links and pairs, and writes none.
+unsafe impl<T: Sync> Sync for Arena<T> {}
 
 impl<T> Arena<T> {
     ghost use Rattle.hashlink_nodes.specs.ArenaLends.{LendsLinks, LendsPair};

@@ -2,7 +2,7 @@
 ghost use Rattle.std.specs.Prelude.{◌≡◌, ℕ, ◌+◌};
 ghost use base.Fml.{ftrue};
 
-use std::marker::{Model, PhantomData};
+use std::marker::{Model, PhantomData, Send, Sync};
 use std::mem::size_of;
 
 /// The number of links that were stored. It is a number of the contracts alone: it has no bytes, and no
@@ -19,6 +19,12 @@ impl Model for LinkWrites {
 
     ghost also_shares = { λ _ _ _. ftrue };
 }
+
+// It has no bytes, so no thread can see what another does to it.
+unsafe impl Send for LinkWrites {}
+
+// The same.
+unsafe impl Sync for LinkWrites {}
 
 impl Drop for LinkWrites {
     fn drop(self) {

@@ -1,4 +1,5 @@
 //! Nodes.
+use std::marker::{Send, Sync};
 use std::mem::size_of;
 use std::ptr;
 
@@ -9,6 +10,12 @@ pub struct Node {
 }
 
 const _: () = prove!(size_of::<Node>() == 8);
+
+// A node is an address that nothing is read or written through without the arena that owns the block.
+unsafe impl Send for Node {}
+
+// The same: a reference to a node gives its address and no more.
+unsafe impl Sync for Node {}
 
 impl Node {
     /// No node of any ring.

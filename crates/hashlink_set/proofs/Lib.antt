@@ -9,3 +9,5 @@ pub mod Moved
 pub mod OfClones
 pub mod Retaining
 pub mod Stored
+pub mod Updated
+pub mod Texts

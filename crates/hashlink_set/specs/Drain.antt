@@ -4,26 +4,32 @@ use Rattle.std.specs.Borrow.{MutBor}
 use Rattle.std.specs.Map.Iter.{TakesFirst, TakesLast}
 use Rattle.hashlink_model.specs.Sets.{SetState, elements_of}
 use Rattle.hashlink_model.specs.Steps.{PopsFront, PopsBack}
+use Rattle.hashlink_core.specs.Drained.{state_with}
+use Rattle.hashlink_map.specs.Bounds.{EqGhosts, HashGhosts, HasherGhosts, BuilderGhosts}
+use Rattle.hashlink_map.specs.declared.as_drained.AsDrained.{Ghosts as DrainedGhosts}
 use Rattle.hashlink_set.specs.Answers.{as_entry}
 use Rattle.hashlink_set.specs.declared.drain.Drain.{Drain}
 
-module _ {T S H : Type 0} where
-  -- the set that it borrows
-  abbrev pub drained_set : Drain T S H → MutBor (SetState T S)
-  drained_set d = d.set
+module _ {T S H : Type 0} {g : EqGhosts T} {h : HashGhosts T} {b : BuilderGhosts S H} {w : HasherGhosts H}
+    {D : Type 0} {d : DrainedGhosts D T (Unit {0})} where
+  -- the set that it borrows, with the nodes that were taken out as its own
+  abbrev pub drained_set : Drain T S D H g h b w d → MutBor (SetState T S)
+  drained_set i = record i.set { now = state_with i.set.now (d.drained i.drained) }
 
   -- the elements left
-  abbrev pub drain_rest : Drain T S H → List T
-  drain_rest d = elements_of (drained_set d).now
+  abbrev pub drain_rest : Drain T S D H g h b w d → List T
+  drain_rest i = elements_of (drained_set i).now
 
   -- `next` took the first element left, if any, out of the set
-  pub record DrainSteps (old : Drain T S H) (r : Option T) (new : Drain T S H) : Type 0 where
+  pub record DrainSteps (old : Drain T S D H g h b w d) (r : Option T)
+      (new : Drain T S D H g h b w d) : Type 0 where
     pub takes : TakesFirst (λ t. t) (drain_rest old) r (drain_rest new)
     pub pops : PopsFront (drained_set old).now (drained_set new).now (as_entry r)
     pub same_set : (drained_set new).ghost_name ≡ (drained_set old).ghost_name
 
   -- `next_back` took the last one
-  pub record DrainStepsBack (old : Drain T S H) (r : Option T) (new : Drain T S H) : Type 0 where
+  pub record DrainStepsBack (old : Drain T S D H g h b w d) (r : Option T)
+      (new : Drain T S D H g h b w d) : Type 0 where
     pub takes : TakesLast (λ t. t) (drain_rest old) r (drain_rest new)
     pub pops : PopsBack (drained_set old).now (drained_set new).now (as_entry r)
     pub same_set : (drained_set new).ghost_name ≡ (drained_set old).ghost_name

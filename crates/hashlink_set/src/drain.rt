@@ -2,42 +2,54 @@
 ghost use Rattle.std.specs.Prelude.{◌≡◌, Some, IfSome, length};
 ghost use Rattle.std.specs.Iterator.{at_most, UpTo};
 ghost use Rattle.std.specs.Iterator.SizeHint.{IsWithinCount};
+ghost use Rattle.hashlink_core.specs.Drained.{FitsBack, FitsBack-prop};
 ghost use Rattle.hashlink_model.specs.Steps.{Drains};
 
 use crate::set::LinkedHashSet;
-use hashlink_map::DefaultHashBuilder;
+use hashlink_map::{AsDrained, DefaultHashBuilder, DrainedNodes, put_back, take_nodes};
 use std::hash::{BuildHasher, Hash};
 use std::iter::FusedIterator;
 
 /// An iterator that removes the elements of a set and returns them, from front to back. When it is dropped,
 /// exhausted or not, the set is empty and every node is spare.
-pub struct Drain<'a, T: Eq + Hash, S: BuildHasher = DefaultHashBuilder> {
+///
+/// If it is forgotten (`mem::forget`), the set is empty too, with its room and without spare nodes. The
+/// elements that were left are then never dropped, and no node is freed.
+pub struct Drain<
+    'a,
+    T: Eq + Hash,
+    S: BuildHasher = DefaultHashBuilder,
+    D: AsDrained<T, ()> = DrainedNodes<T, ()>,
+> {
     pub(crate) set: &'a mut LinkedHashSet<T, S>,
+    pub(crate) drained: D,
+    ghost fits: { FitsBack set.now (D.drained drained) } by { FitsBack-prop _ _ },
 }
 
-impl<'a, T: Eq + Hash + Drop, S: BuildHasher> Drop for Drain<'a, T, S> {
+impl<'a, T: Eq + Hash + Drop, S: BuildHasher, D: AsDrained<T, ()>> Drop for Drain<'a, T, S, D> {
     ghost use Rattle.hashlink_set.specs.Drain.{drained_set};
 
     fn drop(self)
         ensures { Drains (drained_set self.entry).now self.exit.0.now }
     {
-        let Drain { set } = self;
-        set.retain(|_| false);
+        let Drain { set, drained } = self;
+        put_back(&mut set.map, drained.into_drained());
     }
 }
 
 impl<T: Eq + Hash + Drop, S: BuildHasher> LinkedHashSet<T, S> {
     ghost use Rattle.hashlink_set.specs.Drain.{drained_set};
 
-    /// Returns an iterator that removes the elements and returns them, from front to back. The call takes
-    /// constant time and does not allocate. When the iterator is dropped, exhausted or not, the set is empty.
-    /// The drop takes linear time in the number of elements that are left, hashes nothing, does not allocate,
-    /// and stores at most three links for each.
+    /// Returns an iterator that removes the elements and returns them, from front to back. When it is dropped,
+    /// exhausted or not, the set is empty. The call takes linear time in the number of buckets, the drop in
+    /// the number of elements that are left, for each of which it stores at most three links. Neither hashes
+    /// or allocates.
     pub fn drain(&mut self) -> Drain<'_, T, S>
         ensures same_set { (drained_set result).ghost_name ≡ self.entry.ghost_name }
         ensures unchanged { (drained_set result).now ≡ self.old }
     {
-        Drain { set: self }
+        let drained = take_nodes(&mut self.map);
+        Drain { set: self, drained }
     }
 }
 
@@ -51,7 +63,8 @@ impl<'a, T: Eq + Hash + Drop, S: BuildHasher> Iterator for Drain<'a, T, S> {
     ghost remaining = { λ s. at_most (length (drain_rest s)) };
 
     fn next(&mut self) -> Option<T> {
-        self.set.pop_front()
+        let (element, ()) = self.drained.pop_front()?;
+        Some(element)
     }
 
     fn size_hint(&self) -> (usize, Option<usize>)
@@ -59,7 +72,7 @@ impl<'a, T: Eq + Hash + Drop, S: BuildHasher> Iterator for Drain<'a, T, S> {
         ensures upper { IfSome result.1 (UpTo (at_most (length (drain_rest self.now)))) }
         ensures exact { result ≡ (length (drain_rest self.now), Some (length (drain_rest self.now))) }
     {
-        let left = self.set.len();
+        let left = self.drained.len();
         (left, Some(left))
     }
 }
@@ -70,13 +83,14 @@ impl<'a, T: Eq + Hash + Drop, S: BuildHasher> DoubleEndedIterator for Drain<'a, 
     ghost next_back_gives = { DrainStepsBack };
 
     fn next_back(&mut self) -> Option<T> {
-        self.set.pop_back()
+        let (element, ()) = self.drained.pop_back()?;
+        Some(element)
     }
 }
 
 impl<'a, T: Eq + Hash + Drop, S: BuildHasher> ExactSizeIterator for Drain<'a, T, S> {
     fn len(&self) -> usize {
-        self.set.len()
+        self.drained.len()
     }
 }
 

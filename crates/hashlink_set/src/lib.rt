@@ -7,6 +7,7 @@ mod building;
 mod compared;
 mod debug;
 mod drain;
+mod emptied;
 mod extend;
 mod into_iter;
 mod iter;

@@ -3,6 +3,5 @@ pub mod Answers
 pub mod Appearances
 pub mod Contents
 pub mod Merged
-pub mod Texts
 pub mod Turns
 pub mod WithoutFirst

@@ -1,16 +1,17 @@
 //! Calls of a cache, and what is known of it once a loan has ended.
-ghost use Rattle.std.specs.Prelude.{◌≡◌, ℕ, ◌+◌, ◌<◌, ◌^◌, IsTrue, IsFalse, IsOk, OnOk, IfErr, Ok, length};
-ghost use Rattle.std.specs.Prelude.{is_some, unwrap_or};
+ghost use Rattle.std.specs.Prelude.{◌≡◌, ℕ, ◌+◌, ◌<◌, ◌^◌, [], IsTrue, IsFalse, IsOk, OnOk, IfErr, Ok};
+ghost use Rattle.std.specs.Prelude.{is_some, length, unwrap_or};
 ghost use Rattle.std.specs.Map.{lookup};
 ghost use Rattle.hashlink.specs.Cache.{CacheGetsAndWrites, EvictsFront, OnMap, IsWithin, front_evicted};
 ghost use Rattle.hashlink.specs.Entries.{put};
 ghost use Rattle.hashlink.specs.MapState.{MapState, Inserts, RefusesEntry};
-ghost use Rattle.hashlink.specs.Steps.{Drains, with_value_of};
+ghost use Rattle.hashlink.specs.Steps.{with_value_of};
 ghost use Rattle.hashlink.specs.Cached.{entries_of, state_of};
 
 use crate::maps::entries::count_word as count_word_in;
 use hashlink::LruCache;
 use std::hash::{BuildHasher, Hash};
+use std::mem::drop;
 
 /// Writes the value of a key by `get_mut`, which is a use, and returns whether the key is present.
 pub fn use_and_write<K: Eq + Hash, V: Drop, S: BuildHasher>(
@@ -53,11 +54,14 @@ pub fn write_in_place<K: Eq + Hash, V: Drop, S: BuildHasher>(
     }
 }
 
-/// Empties a cache, and keeps its nodes.
+/// Empties a cache, and keeps its nodes. What a drain of a cache leaves is not known to its caller, so a
+/// `clear` follows, which finds nothing to remove.
 pub fn empty_out<K: Eq + Hash + Drop, V: Drop, S: BuildHasher>(cache: &mut LruCache<K, V, S>)
-    ensures { OnMap Drains (state_of cache.old) (state_of cache.new) }
+    ensures empty { entries_of cache.new ≡ [] }
+    ensures capacity { (state_of cache.new).cap ≡ (state_of cache.old).cap }
 {
-    let _rest = cache.drain();
+    drop(cache.drain());
+    cache.clear();
 }
 
 /// Inserts a value by `entry` if the key is absent. If there were more entries than the capacity, this cannot

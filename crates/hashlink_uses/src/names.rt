@@ -5,7 +5,7 @@ ghost use Rattle.std.specs.Map.{lookup, remove_entry};
 ghost use Rattle.std.specs.String.{string_eq};
 ghost use Rattle.hashlink.specs.Cache.{cache_put};
 ghost use Rattle.hashlink.specs.Cached.{entries_of, state_of};
-ghost use Rattle.hashlink_uses.specs.Texts.{is_text};
+ghost use Rattle.hashlink.specs.Texts.{is_text};
 ghost use Rattle.hashlink_uses.specs.Answers.{address_at, holds_at};
 
 use hashlink::LruCache;

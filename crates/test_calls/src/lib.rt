@@ -37,3 +37,5 @@ mod rooms;
 mod serving;
 #[cfg(test)]
 mod uses;
+#[cfg(test)]
+mod values;

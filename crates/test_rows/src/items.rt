@@ -24,5 +24,5 @@ pub use said::{
     put, room, set, shown, taken, taken_pair, write, write_item, write_pair,
 };
 pub use steps::{Goes, Step};
-pub use walk::{Walk, walk_and_clone, walk_or_forget, walk_whole};
+pub use walk::{Walk, walk_and_clone, walk_and_forget, walk_whole};
 pub use words::Words;

@@ -4,7 +4,7 @@ ghost use Rattle.std.specs.Prelude.{◌≡◌, IfSome};
 ghost use Rattle.std.specs.Map.{lookup};
 ghost use Rattle.hashlink_nodes.specs.Node.{same_node};
 ghost use Rattle.hashlink_nodes.specs.Ring.{Holds};
-ghost use Rattle.hashlink_model.specs.Steps.{RemovesMatch, PopsFront, PopsBack, Drains};
+ghost use Rattle.hashlink_model.specs.Steps.{RemovesMatch, PopsFront, PopsBack};
 ghost use Rattle.hashlink_core.specs.Keyed.{state_of, entries_of, IsKeyed};
 
 use super::{KeyedList, short_hash};
@@ -64,16 +64,5 @@ impl<K: Eq + Hash, V, S: BuildHasher> KeyedList<K, V, S> {
             hash_builder: _,
         } = self;
         IntoIter::new(nodes)
-    }
-
-    /// Removes every entry and drops it. The nodes are then spare. It hashes nothing, and stores at most
-    /// three links for each entry.
-    pub fn remove_all(&mut self)
-    where
-        K: Drop,
-        V: Drop,
-        ensures { Drains (state_of self.old) (state_of self.new) }
-    {
-        self.retain_in_order(&mut |_, _| false);
     }
 }

@@ -8,7 +8,7 @@ ghost use Rattle.hashlink_model.specs.Entries.{IsEntries};
 ghost use Rattle.hashlink_model.specs.Walk.{last_of};
 ghost use Rattle.hashlink_core.specs.Keyed as keyed;
 ghost use Rattle.hashlink_map.specs.TryInsert.{FailsToInsert, HandsBack};
-ghost use Rattle.hashlink_lru.specs.Cached.{MovesOrMakes};
+ghost use Rattle.hashlink_lru.specs.Cached.{MovesOrMakes, UpdatesUsed};
 
 use super::LruCache;
 use hashlink_map::{LinkedHashMap, TryInsertError};
@@ -44,6 +44,7 @@ impl<K: Eq + Hash, V, S: BuildHasher> LruCache<K, V, S> {
         requires { lookup (K.eq key) (entries_of self.old) ≡ None → F.pre make }
         ensures* lends { sem 𝓛 (LendsUsedOrNew K.row V.row S.row S.Hasher.row K.Hash
             S.BuildHasher S.Hasher.Hasher self.entry key result) }
+        ensures updates { IfOk result (λ _. UpdatesUsed K.eq (state_of self.old) key) }
         ensures value { IfOk result
             (λ v. UnwrapsOrElse (lookup (K.eq key) (entries_of self.old)) (F.post make) v.now) }
         ensures given { IfErr result (λ pair. pair.0 ≡ key) }
@@ -76,6 +77,7 @@ impl<K: Eq + Hash, V, S: BuildHasher> LruCache<K, V, S> {
         requires { lookup (K.eq key) (entries_of self.old) ≡ None → F.pre make }
         ensures* lends { sem 𝓛 (LendsUsedOrTryNew K.row V.row S.row S.Hasher.row K.Hash
             S.BuildHasher S.Hasher.Hasher self.entry key result) }
+        ensures updates { IfOk result (λ _. UpdatesUsed K.eq (state_of self.old) key) }
         ensures value { IfOk result
             (λ v. UnwrapsOrElse (lookup (K.eq key) (entries_of self.old)) (λ x. F.post make (Ok x)) v.now) }
         ensures handed_back { IfErr result (HandsBack (F.post make) key) }

@@ -2,6 +2,7 @@
 ghost use Rattle.std.specs.Prelude.{◌≡◌, OnOk};
 ghost use Rattle.hashlink_model.specs.Cache.{CacheInserts, EvictsFront, IsWithin, OnMap};
 ghost use Rattle.hashlink_model.specs.Entries.{IsEntries};
+ghost use Rattle.hashlink_model.specs.Lookups.{UpdatesWithin};
 
 use super::LruCache;
 use std::hash::{BuildHasher, Hash};
@@ -27,6 +28,8 @@ impl<K: Eq + Hash, V, S: BuildHasher> LruCache<K, V, S> {
         K: Drop,
         V: Drop,
         ensures inserts { CacheInserts K.eq (state_of self.old) (state_of self.new) key value result }
+        ensures updates { OnOk result (UpdatesWithin K.eq (state_of self.old).cap (entries_of self.old)
+            (entries_of self.new) key value) }
         ensures distinct { IsEntries K.eq (entries_of self.new) }
         ensures fits { OnOk result (IsWithin (state_of self.new) 0) }
         ensures within { StaysWithin (state_of self.old) (state_of self.new) }

@@ -4,6 +4,7 @@ ghost use Rattle.std.specs.Map.{lookup};
 ghost use Rattle.std.specs.Option.{option_map};
 ghost use Rattle.hashlink_model.specs.Cache.{IsWithin, KeepsLast, OnMap, cache_put};
 ghost use Rattle.hashlink_model.specs.Entries.{IsEntries};
+ghost use Rattle.hashlink_model.specs.Lookups.{UpdatesWithin};
 ghost use Rattle.hashlink_model.specs.MapState.{Inserts};
 ghost use Rattle.hashlink_model.specs.Walk.{first_of};
 ghost use Rattle.hashlink_core.specs.Keyed as keyed;
@@ -35,6 +36,8 @@ impl<K: Eq + Hash, V, S: BuildHasher> LruCache<K, V, S> {
             (λ left. left ≡ pushed_out K.eq (entries_of self.old) (state_of self.old).cap key value) }
         ensures entries { OnOk result (entries_of self.new
             ≡ cache_put K.eq (entries_of self.old) (state_of self.old).cap key value) }
+        ensures updates { OnOk result (UpdatesWithin K.eq (state_of self.old).cap (entries_of self.old)
+            (entries_of self.new) key value) }
         ensures there { IsSome (lookup (K.eq key) (entries_of self.old)) → IsOk result }
         ensures distinct { IsEntries K.eq (entries_of self.new) }
         ensures fits { OnOk result (IsWithin (state_of self.new) 0) }

@@ -1,11 +1,12 @@
 //! Reads of a cache. A `get` is a use and moves its entry to the back; a `peek` does not change the order.
 //! Each hashes the key once, does not allocate, and looks at the entries of one bucket.
-ghost use Rattle.std.specs.Prelude.{◌≡◌, is_some, option_copied};
+ghost use Rattle.std.specs.Prelude.{◌≡◌, [], IfNone, IfSome, is_some, length, option_copied};
 ghost use Rattle.std.specs.Borrow.{sem};
 ghost use Rattle.std.specs.Option.{option_map, option_copied_mut};
 ghost use Rattle.std.specs.Map.{lookup, remove_entry};
 ghost use Rattle.std.specs.Map.Iter.{deref_pair};
-ghost use Rattle.hashlink_model.specs.Entries.{IsEntries};
+ghost use Rattle.hashlink_model.specs.Entries.{IsEntries, moved_match};
+ghost use Rattle.hashlink_model.specs.Lookups.{KeepsLookups, UpdatesLent};
 ghost use Rattle.hashlink_model.specs.Walk.{first_of, last_of};
 ghost use Rattle.hashlink_lru.specs.Evicted.{evicted_by};
 
@@ -43,6 +44,8 @@ impl<K: Eq + Hash, V, S: BuildHasher> LruCache<K, V, S> {
     pub fn peek_mut<Q: Equivalent<K>>(&mut self, key: Q) -> Option<&mut V>
         ensures* lends { sem 𝓛 (LendsValueIn K.row V.row S.row S.Hasher.row K.Hash
             S.BuildHasher S.Hasher.Hasher self.entry (Q.matches key) result) }
+        ensures updates { IfSome result
+            (λ _. UpdatesLent K.eq (Q.matches key) (entries_of self.old) (entries_of self.old)) }
         ensures value { option_copied_mut result ≡ lookup (Q.matches key) (entries_of self.old) }
         ensures distinct { IsEntries K.eq (entries_of self.old) }
     {
@@ -53,6 +56,7 @@ impl<K: Eq + Hash, V, S: BuildHasher> LruCache<K, V, S> {
     /// is empty. The order does not change. It takes constant time and hashes nothing.
     pub fn peek_lru(&self) -> Option<(&K, &V)>
         ensures found { option_map deref_pair result ≡ first_of (entries_of self.now) }
+        ensures none { IfNone result (entries_of self.now ≡ []) }
         ensures distinct { IsEntries K.eq (entries_of self.now) }
     {
         self.map.front()
@@ -62,6 +66,7 @@ impl<K: Eq + Hash, V, S: BuildHasher> LruCache<K, V, S> {
     /// does not change. It takes constant time and hashes nothing.
     pub fn back(&self) -> Option<(&K, &V)>
         ensures found { option_map deref_pair result ≡ last_of (entries_of self.now) }
+        ensures none { IfNone result (entries_of self.now ≡ []) }
         ensures distinct { IsEntries K.eq (entries_of self.now) }
     {
         self.map.back()
@@ -112,6 +117,8 @@ impl<K: Eq + Hash, V, S: BuildHasher> LruCache<K, V, S> {
     pub fn get<Q: Equivalent<K>>(&mut self, key: Q) -> Option<&V>
         ensures* used { sem 𝓛 (EndsUsed K.row V.row S.row S.Hasher.row K.Hash S.BuildHasher S.Hasher.Hasher
             self.entry (Q.matches key) (option_copied result)) }
+        ensures keeps { KeepsLookups K.eq (Q.matches key) (entries_of self.old)
+            (moved_match (Q.matches key) (entries_of self.old) (length (entries_of self.old))) }
         ensures value { option_copied result ≡ lookup (Q.matches key) (entries_of self.old) }
         ensures distinct { IsEntries K.eq (entries_of self.old) }
     {
@@ -127,6 +134,10 @@ impl<K: Eq + Hash, V, S: BuildHasher> LruCache<K, V, S> {
     pub fn get_mut<Q: Equivalent<K>>(&mut self, key: Q) -> Option<&mut V>
         ensures* lends { sem 𝓛 (LendsUsed K.row V.row S.row S.Hasher.row K.Hash S.BuildHasher S.Hasher.Hasher
             self.entry (Q.matches key) result) }
+        ensures updates { IfSome result (λ _. UpdatesLent K.eq (Q.matches key) (entries_of self.old)
+            (moved_match (Q.matches key) (entries_of self.old) (length (entries_of self.old)))) }
+        ensures keeps { KeepsLookups K.eq (Q.matches key) (entries_of self.old)
+            (moved_match (Q.matches key) (entries_of self.old) (length (entries_of self.old))) }
         ensures value { option_copied_mut result ≡ lookup (Q.matches key) (entries_of self.old) }
         ensures distinct { IsEntries K.eq (entries_of self.old) }
     {

@@ -1,11 +1,12 @@
 //! Removals. The other entries keep their order. Except for `clear`, each removal leaves a spare node, which
 //! the next insert of an absent key uses. No removal allocates.
-ghost use Rattle.std.specs.Prelude.{◌≡◌, IfSome, Contains};
+ghost use Rattle.std.specs.Prelude.{◌≡◌, IfSome, None, Contains};
 ghost use Rattle.std.specs.Map.{lookup, lookup_entry, remove_entry};
 ghost use Rattle.std.specs.Map.Calls.{CalledAtPair, TakesPair, CallableOnEachPair};
 ghost use Rattle.std.specs.Map.Iter.{TakesFirst};
 ghost use Rattle.hashlink_model.specs.Cache.{IsWithin, KeepsLast, OnMap, SetsCapacity};
 ghost use Rattle.hashlink_model.specs.Entries.{IsEntries};
+ghost use Rattle.hashlink_model.specs.Lookups.{UpdatesBy, UpdatesKept, UpdatesPopped};
 ghost use Rattle.hashlink_model.specs.Retain.{RetainsInOrder};
 ghost use Rattle.hashlink_model.specs.Steps.{RemovesMatch, PopsFront, Clears};
 
@@ -23,6 +24,7 @@ impl<K: Eq + Hash, V, S: BuildHasher> LruCache<K, V, S> {
         K: Drop,
         ensures value { result ≡ lookup (Q.matches key) (entries_of self.old) }
         ensures entries { entries_of self.new ≡ remove_entry (Q.matches key) (entries_of self.old) }
+        ensures updates { UpdatesBy K.eq (Q.matches key) (entries_of self.old) (entries_of self.new) None }
         ensures removes { OnMap (λ a b. RemovesMatch (Q.matches key) a b
             (lookup_entry (Q.matches key) a.entries)) (state_of self.old) (state_of self.new) }
         ensures distinct { IsEntries K.eq (entries_of self.new) }
@@ -35,6 +37,7 @@ impl<K: Eq + Hash, V, S: BuildHasher> LruCache<K, V, S> {
     /// the key up as `peek` does, and stores at most three links.
     pub fn remove_entry<Q: Equivalent<K>>(&mut self, key: Q) -> Option<(K, V)>
         ensures held { IfSome result (Contains (entries_of self.old)) }
+        ensures updates { UpdatesBy K.eq (Q.matches key) (entries_of self.old) (entries_of self.new) None }
         ensures removes { OnMap (λ a b. RemovesMatch (Q.matches key) a b result) (state_of self.old)
             (state_of self.new) }
         ensures distinct { IsEntries K.eq (entries_of self.new) }
@@ -48,6 +51,7 @@ impl<K: Eq + Hash, V, S: BuildHasher> LruCache<K, V, S> {
     pub fn remove_lru(&mut self) -> Option<(K, V)>
         ensures pops { OnMap (λ a b. PopsFront a b result) (state_of self.old) (state_of self.new) }
         ensures entries { TakesFirst (λ e. e) (entries_of self.old) result (entries_of self.new) }
+        ensures updates { UpdatesPopped K.eq (entries_of self.old) (entries_of self.new) result }
         ensures distinct { IsEntries K.eq (entries_of self.new) }
         ensures within { StaysWithin (state_of self.old) (state_of self.new) }
     {
@@ -103,6 +107,8 @@ impl<K: Eq + Hash, V, S: BuildHasher> LruCache<K, V, S> {
         requires { CallableOnEachPair (CalledAtPair F.FnMut) (TakesPair F.FnMut) keep (entries_of self.old) }
         ensures retained { (end : F) × OnMap (λ a b. RetainsInOrder (CalledAtPair F.FnMut) keep a b end)
             (state_of self.old) (state_of self.new) }
+        ensures updates { UpdatesKept (CalledAtPair F.FnMut) K.eq (entries_of self.old)
+            (entries_of self.new) }
         ensures distinct { IsEntries K.eq (entries_of self.new) }
         ensures within { StaysWithin (state_of self.old) (state_of self.new) }
     {
@@ -121,6 +127,8 @@ impl<K: Eq + Hash, V, S: BuildHasher> LruCache<K, V, S> {
             (entries_of self.old) }
         ensures retained { OnMap (λ a b. RetainsInOrder (CalledAtPair F.FnMut) keep.old a b keep.new)
             (state_of self.old) (state_of self.new) }
+        ensures updates { UpdatesKept (CalledAtPair F.FnMut) K.eq (entries_of self.old)
+            (entries_of self.new) }
         ensures distinct { IsEntries K.eq (entries_of self.new) }
         ensures within { StaysWithin (state_of self.old) (state_of self.new) }
     {

@@ -66,10 +66,10 @@ impl<K: Eq + Hash, V, S: BuildHasher> LruCache<K, V, S> {
         self.map.iter_mut()
     }
 
-    /// Returns an iterator that removes the entries and returns them, from front to back. The call takes
-    /// constant time and does not allocate. When the iterator is dropped, exhausted or not, the cache is
-    /// empty. The drop takes linear time in the number of entries that are left, hashes nothing, does not
-    /// allocate, and stores at most three links for each.
+    /// Returns an iterator that removes the entries and returns them, from front to back. When it is dropped,
+    /// exhausted or not, the cache is empty. The call takes linear time in the number of buckets, the drop in
+    /// the number of entries that are left, for each of which it stores at most three links. Neither hashes
+    /// or allocates.
     pub fn drain(&mut self) -> Drain<'_, K, V, S>
     where
         K: Drop,

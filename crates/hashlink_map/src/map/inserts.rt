@@ -1,9 +1,10 @@
 //! Inserts. Each one hashes the key once, and looks it up as `get` does.
-ghost use Rattle.std.specs.Prelude.{◌≡◌, [], ◌∷◌, ◌++◌, None, IfOk, IfErr, IsOk, IsSome, OnOk, length};
+ghost use Rattle.std.specs.Prelude.{◌≡◌, [], ◌∷◌, ◌++◌, None, Some, IfOk, IfErr, IsOk, IsSome, OnOk, length};
 ghost use Rattle.std.specs.Borrow.{sem};
 ghost use Rattle.std.specs.Map.{lookup};
 ghost use Rattle.std.specs.Option.{UnwrapsOrElse};
 ghost use Rattle.hashlink_model.specs.Entries.{IsEntries, place_or_end, put};
+ghost use Rattle.hashlink_model.specs.Lookups.{Updates, UpdatesLast};
 ghost use Rattle.hashlink_model.specs.MapState.{Inserts};
 ghost use Rattle.hashlink_model.specs.Steps.{Replaces};
 ghost use Rattle.hashlink_core.specs.Keyed.{state_of, entries_of};
@@ -29,12 +30,15 @@ impl<K: Eq + Hash, V, S: BuildHasher> LinkedHashMap<K, V, S> {
             (length (entries_of self.old)) result }
         ensures entries { OnOk result (entries_of self.new
             ≡ put K.eq (entries_of self.old) key value (length (entries_of self.old))) }
+        ensures updates { OnOk result
+            (Updates K.eq (entries_of self.old) (entries_of self.new) key (Some value)) }
         ensures added { lookup (K.eq key) (entries_of self.old) ≡ None
             → OnOk result (entries_of self.new ≡ entries_of self.old ++ (key, value) ∷ []) }
         ensures old { IfOk result (λ old. old ≡ lookup (K.eq key) (entries_of self.old)) }
         ensures there { IsSome (lookup (K.eq key) (entries_of self.old)) → IsOk result }
         ensures distinct { IsEntries K.eq (entries_of self.new) }
     {
+        self.keys_are_distinct();
         self.list.insert(key, value)
     }
 
@@ -52,10 +56,13 @@ impl<K: Eq + Hash, V, S: BuildHasher> LinkedHashMap<K, V, S> {
         ensures inserts { Inserts K.eq (state_of self.old) (state_of self.new) key value 0 result }
         ensures entries { OnOk result (entries_of self.new
             ≡ put K.eq (entries_of self.old) key value 0) }
+        ensures updates { OnOk result
+            (Updates K.eq (entries_of self.old) (entries_of self.new) key (Some value)) }
         ensures old { IfOk result (λ old. old ≡ lookup (K.eq key) (entries_of self.old)) }
         ensures there { IsSome (lookup (K.eq key) (entries_of self.old)) → IsOk result }
         ensures distinct { IsEntries K.eq (entries_of self.new) }
     {
+        self.keys_are_distinct();
         self.list.insert_front(key, value)
     }
 
@@ -73,10 +80,13 @@ impl<K: Eq + Hash, V, S: BuildHasher> LinkedHashMap<K, V, S> {
         ensures replaces { Replaces K.eq (state_of self.old) (state_of self.new) key value result }
         ensures entries { OnOk result (entries_of self.new
             ≡ put K.eq (entries_of self.old) key value (place_or_end K.eq (entries_of self.old) key)) }
+        ensures updates { OnOk result
+            (Updates K.eq (entries_of self.old) (entries_of self.new) key (Some value)) }
         ensures old { IfOk result (λ old. old ≡ lookup (K.eq key) (entries_of self.old)) }
         ensures there { IsSome (lookup (K.eq key) (entries_of self.old)) → IsOk result }
         ensures distinct { IsEntries K.eq (entries_of self.new) }
     {
+        self.keys_are_distinct();
         self.list.replace(key, value)
     }
 
@@ -100,6 +110,7 @@ impl<K: Eq + Hash, V, S: BuildHasher> LinkedHashMap<K, V, S> {
         requires { lookup (K.eq key) (entries_of self.old) ≡ None → F.pre make }
         ensures* lends { sem 𝓛 (LendsPutLast K.row V.row S.row S.Hasher.row K.Hash
             S.BuildHasher S.Hasher.Hasher self.entry key result) }
+        ensures updates { IfOk result (λ _. UpdatesLast K.eq (entries_of self.old) key) }
         ensures value { IfOk result
             (λ v. UnwrapsOrElse (lookup (K.eq key) (entries_of self.old)) (F.post make) v.now) }
         ensures given { IfErr result (λ pair. pair.0 ≡ key) }

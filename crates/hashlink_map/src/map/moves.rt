@@ -1,11 +1,12 @@
 //! Moves of an entry to either end. A move hashes the key once, does not allocate, and stores at most six
 //! links.
-ghost use Rattle.std.specs.Prelude.{◌≡◌, length};
+ghost use Rattle.std.specs.Prelude.{◌≡◌, IfSome, length};
 ghost use Rattle.std.specs.Borrow.{sem};
 ghost use Rattle.std.specs.Option.{option_copied_mut};
 ghost use Rattle.std.specs.Map.{lookup};
 ghost use Rattle.hashlink_core.specs.Keyed.{entries_of};
-ghost use Rattle.hashlink_model.specs.Entries.{IsEntries};
+ghost use Rattle.hashlink_model.specs.Entries.{IsEntries, moved_match};
+ghost use Rattle.hashlink_model.specs.Lookups.{KeepsLookups, UpdatesLent};
 
 use super::LinkedHashMap;
 use hashlink_core::Equivalent;
@@ -20,6 +21,10 @@ impl<K: Eq + Hash, V, S: BuildHasher> LinkedHashMap<K, V, S> {
     pub fn to_front<Q: Equivalent<K>>(&mut self, key: Q) -> Option<&mut V>
         ensures* lends { sem 𝓛 (LendsMoved K.row V.row S.row S.Hasher.row K.Hash S.BuildHasher S.Hasher.Hasher
             self.entry (Q.matches key) 0 result) }
+        ensures updates { IfSome result (λ _. UpdatesLent K.eq (Q.matches key) (entries_of self.old)
+            (moved_match (Q.matches key) (entries_of self.old) 0)) }
+        ensures keeps { KeepsLookups K.eq (Q.matches key) (entries_of self.old)
+            (moved_match (Q.matches key) (entries_of self.old) 0) }
         ensures value { option_copied_mut result ≡ lookup (Q.matches key) (entries_of self.old) }
         ensures distinct { IsEntries K.eq (entries_of self.old) }
     {
@@ -39,6 +44,10 @@ impl<K: Eq + Hash, V, S: BuildHasher> LinkedHashMap<K, V, S> {
     pub fn to_back<Q: Equivalent<K>>(&mut self, key: Q) -> Option<&mut V>
         ensures* lends { sem 𝓛 (LendsMoved K.row V.row S.row S.Hasher.row K.Hash S.BuildHasher S.Hasher.Hasher
             self.entry (Q.matches key) (length (entries_of self.old)) result) }
+        ensures updates { IfSome result (λ _. UpdatesLent K.eq (Q.matches key) (entries_of self.old)
+            (moved_match (Q.matches key) (entries_of self.old) (length (entries_of self.old)))) }
+        ensures keeps { KeepsLookups K.eq (Q.matches key) (entries_of self.old)
+            (moved_match (Q.matches key) (entries_of self.old) (length (entries_of self.old))) }
         ensures value { option_copied_mut result ≡ lookup (Q.matches key) (entries_of self.old) }
         ensures distinct { IsEntries K.eq (entries_of self.old) }
     {

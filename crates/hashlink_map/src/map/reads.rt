@@ -1,10 +1,12 @@
 //! Reads of a map. Each lookup hashes the key once, and looks at the entries of one bucket.
-ghost use Rattle.std.specs.Prelude.{◌≡◌, ◌-◌, [], length, None, IfNone, MatchOption, is_some, option_copied};
+ghost use Rattle.std.specs.Prelude.{◌≡◌, ◌-◌, [], length, None, IfNone, IfSome, MatchOption};
+ghost use Rattle.std.specs.Prelude.{is_some, option_copied};
 ghost use Rattle.std.specs.Borrow.{sem};
 ghost use Rattle.std.specs.Option.{option_map, option_copied_mut};
 ghost use Rattle.std.specs.Map.{lookup, lookup_entry};
 ghost use Rattle.std.specs.Map.Iter.{deref_pair};
 ghost use Rattle.hashlink_model.specs.Entries.{IsEntries, place_of};
+ghost use Rattle.hashlink_model.specs.Lookups.{UpdatesLent};
 ghost use Rattle.hashlink_model.specs.Walk.{first_of, last_of};
 ghost use Rattle.hashlink_core.specs.Keyed.{entries_of, HoldsMatch};
 ghost use Rattle.hashlink_core.specs.Places.{IsPlaceAt};
@@ -84,6 +86,8 @@ impl<K: Eq + Hash, V, S: BuildHasher> LinkedHashMap<K, V, S> {
         ensures* lends { sem 𝓛 (LendsValueOf K.row V.row S.row S.Hasher.row K.Hash
             S.BuildHasher S.Hasher.Hasher self.entry (Q.matches key) result) }
         ensures value { option_copied_mut result ≡ lookup (Q.matches key) (entries_of self.old) }
+        ensures updates { IfSome result
+            (λ _. UpdatesLent K.eq (Q.matches key) (entries_of self.old) (entries_of self.old)) }
         ensures distinct { IsEntries K.eq (entries_of self.old) }
     {
         match self.find(key) {
@@ -97,6 +101,7 @@ impl<K: Eq + Hash, V, S: BuildHasher> LinkedHashMap<K, V, S> {
     #[inline]
     pub fn front(&self) -> Option<(&K, &V)>
         ensures found { option_map deref_pair result ≡ first_of (entries_of self.now) }
+        ensures none { IfNone result (entries_of self.now ≡ []) }
         ensures distinct { IsEntries K.eq (entries_of self.now) }
     {
         let node = self.first_node()?;
@@ -108,6 +113,7 @@ impl<K: Eq + Hash, V, S: BuildHasher> LinkedHashMap<K, V, S> {
     #[inline]
     pub fn back(&self) -> Option<(&K, &V)>
         ensures found { option_map deref_pair result ≡ last_of (entries_of self.now) }
+        ensures none { IfNone result (entries_of self.now ≡ []) }
         ensures distinct { IsEntries K.eq (entries_of self.now) }
     {
         let node = self.last_node()?;

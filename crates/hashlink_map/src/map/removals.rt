@@ -1,9 +1,10 @@
 //! Removals. The other entries keep their order. Except for `clear`, each removal leaves a spare node, which
 //! the next insert of an absent key uses. No removal allocates.
-ghost use Rattle.std.specs.Prelude.{◌≡◌, Contains, IfSome};
+ghost use Rattle.std.specs.Prelude.{◌≡◌, Contains, IfSome, None};
 ghost use Rattle.std.specs.Map.{lookup, lookup_entry, remove_entry};
 ghost use Rattle.std.specs.Map.Iter.{TakesFirst, TakesLast};
 ghost use Rattle.hashlink_model.specs.Entries.{IsEntries};
+ghost use Rattle.hashlink_model.specs.Lookups.{UpdatesBy, UpdatesPopped};
 ghost use Rattle.hashlink_model.specs.Steps.{RemovesMatch, PopsFront, PopsBack, Clears};
 ghost use Rattle.hashlink_core.specs.Keyed.{state_of, entries_of};
 
@@ -20,6 +21,7 @@ impl<K: Eq + Hash, V, S: BuildHasher> LinkedHashMap<K, V, S> {
         K: Drop,
         ensures value { result ≡ lookup (Q.matches key) (entries_of self.old) }
         ensures entries { entries_of self.new ≡ remove_entry (Q.matches key) (entries_of self.old) }
+        ensures updates { UpdatesBy K.eq (Q.matches key) (entries_of self.old) (entries_of self.new) None }
         ensures removes { RemovesMatch (Q.matches key) (state_of self.old) (state_of self.new)
             (lookup_entry (Q.matches key) (entries_of self.old)) }
         ensures distinct { IsEntries K.eq (entries_of self.new) }
@@ -34,10 +36,12 @@ impl<K: Eq + Hash, V, S: BuildHasher> LinkedHashMap<K, V, S> {
     pub fn remove_entry<Q: Equivalent<K>>(&mut self, key: Q) -> Option<(K, V)>
         ensures found { result ≡ lookup_entry (Q.matches key) (entries_of self.old) }
         ensures entries { entries_of self.new ≡ remove_entry (Q.matches key) (entries_of self.old) }
+        ensures updates { UpdatesBy K.eq (Q.matches key) (entries_of self.old) (entries_of self.new) None }
         ensures held { IfSome result (Contains (entries_of self.old)) }
         ensures removes { RemovesMatch (Q.matches key) (state_of self.old) (state_of self.new) result }
         ensures distinct { IsEntries K.eq (entries_of self.new) }
     {
+        self.keys_are_distinct();
         self.list.remove_key(key)
     }
 
@@ -47,8 +51,10 @@ impl<K: Eq + Hash, V, S: BuildHasher> LinkedHashMap<K, V, S> {
     pub fn pop_front(&mut self) -> Option<(K, V)>
         ensures pops { PopsFront (state_of self.old) (state_of self.new) result }
         ensures entries { TakesFirst (λ e. e) (entries_of self.old) result (entries_of self.new) }
+        ensures updates { UpdatesPopped K.eq (entries_of self.old) (entries_of self.new) result }
         ensures distinct { IsEntries K.eq (entries_of self.new) }
     {
+        self.keys_are_distinct();
         self.list.pop_front()
     }
 
@@ -58,8 +64,10 @@ impl<K: Eq + Hash, V, S: BuildHasher> LinkedHashMap<K, V, S> {
     pub fn pop_back(&mut self) -> Option<(K, V)>
         ensures pops { PopsBack (state_of self.old) (state_of self.new) result }
         ensures entries { TakesLast (λ e. e) (entries_of self.old) result (entries_of self.new) }
+        ensures updates { UpdatesPopped K.eq (entries_of self.old) (entries_of self.new) result }
         ensures distinct { IsEntries K.eq (entries_of self.new) }
     {
+        self.keys_are_distinct();
         self.list.pop_back()
     }
 

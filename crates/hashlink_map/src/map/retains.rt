@@ -3,6 +3,7 @@
 //! insert of an absent key.
 ghost use Rattle.std.specs.Map.Calls.{CalledAtPair, TakesPair, CallableOnEachPair};
 ghost use Rattle.hashlink_model.specs.Entries.{IsEntries};
+ghost use Rattle.hashlink_model.specs.Lookups.{UpdatesKept};
 ghost use Rattle.hashlink_model.specs.Retain.{RetainsInOrder};
 ghost use Rattle.hashlink_core.specs.Keyed.{state_of, entries_of};
 
@@ -20,6 +21,8 @@ impl<K: Eq + Hash, V, S: BuildHasher> LinkedHashMap<K, V, S> {
         requires { CallableOnEachPair (CalledAtPair F.FnMut) (TakesPair F.FnMut) keep (entries_of self.old) }
         ensures retained { (end : F) × RetainsInOrder (CalledAtPair F.FnMut) keep (state_of self.old)
             (state_of self.new) end }
+        ensures updates { UpdatesKept (CalledAtPair F.FnMut) K.eq (entries_of self.old)
+            (entries_of self.new) }
         ensures distinct { IsEntries K.eq (entries_of self.new) }
     {
         self.retain_from(&mut keep);
@@ -35,6 +38,8 @@ impl<K: Eq + Hash, V, S: BuildHasher> LinkedHashMap<K, V, S> {
         requires { CallableOnEachPair (CalledAtPair F.FnMut) (TakesPair F.FnMut) keep (entries_of self.old) }
         ensures retained { (end : F) × RetainsInOrder (CalledAtPair F.FnMut) keep (state_of self.old)
             (state_of self.new) end }
+        ensures updates { UpdatesKept (CalledAtPair F.FnMut) K.eq (entries_of self.old)
+            (entries_of self.new) }
         ensures distinct { IsEntries K.eq (entries_of self.new) }
     {
         self.retain_from(&mut keep);
@@ -52,8 +57,11 @@ impl<K: Eq + Hash, V, S: BuildHasher> LinkedHashMap<K, V, S> {
             (entries_of self.old) }
         ensures retained { RetainsInOrder (CalledAtPair F.FnMut) keep.old (state_of self.old)
             (state_of self.new) keep.new }
+        ensures updates { UpdatesKept (CalledAtPair F.FnMut) K.eq (entries_of self.old)
+            (entries_of self.new) }
         ensures distinct { IsEntries K.eq (entries_of self.new) }
     {
+        self.keys_are_distinct();
         self.list.retain_in_order(keep);
     }
 }

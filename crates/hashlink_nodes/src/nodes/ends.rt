@@ -1,5 +1,6 @@
 //! How nodes are freed, and entries leave at the ends.
-ghost use Rattle.std.specs.Prelude.{◌≡◌, ◌+◌, ◌*◌, ◌<◌, [], ◌∷◌, ◌++◌, length, drop};
+ghost use Rattle.std.specs.Prelude.{◌≡◌, ℕ, ◌+◌, ◌*◌, ◌<◌, [], ◌∷◌, ◌++◌, length, drop};
+ghost use Rattle.hashlink_nodes.specs.Ring.{held};
 ghost use Rattle.hashlink_nodes.specs.declared.node.Node.{Node};
 
 use super::Nodes;
@@ -83,6 +84,55 @@ impl<K, V> Nodes<K, V> {
         self.pool.give_back(node, self.alloc);
         self.len -= 1;
         Held { number, key, value }
+    }
+
+    /// Removes the first entry and returns its pair. Its node is the next spare one. It stores three links.
+    #[inline]
+    pub fn spare_first(&mut self) -> (K, V)
+        requires { 0 < length self.old.entries }
+        ensures first { (node : Node) × (number : ℕ)
+            × (self.old.entries ≡ (node, held number result.0 result.1) ∷ self.new.entries) }
+        ensures free { length self.new.free ≡ length self.old.free + 1 }
+        ensures link_writes { self.new.link_writes ≡ self.old.link_writes + 3 }
+    {
+        let guard = match self.guard {
+            Some(guard) => guard,
+            None => unreachable!(),
+        };
+        let node = self.pool.next(guard);
+        self.detach_into_free(node)
+    }
+
+    /// Removes the last entry and returns its pair. Its node is the next spare one. It stores three links.
+    #[inline]
+    pub fn spare_last(&mut self) -> (K, V)
+        requires { 0 < length self.old.entries }
+        ensures last { (node : Node) × (number : ℕ)
+            × (self.old.entries ≡ self.new.entries ++ (node, held number result.0 result.1) ∷ []) }
+        ensures free { length self.new.free ≡ length self.old.free + 1 }
+        ensures link_writes { self.new.link_writes ≡ self.old.link_writes + 3 }
+    {
+        let guard = match self.guard {
+            Some(guard) => guard,
+            None => unreachable!(),
+        };
+        let node = self.pool.prev(guard);
+        self.detach_into_free(node)
+    }
+
+    /// Drops the entries, from the last to the first. Their nodes are then spare. It stores three links for
+    /// each entry.
+    pub fn spare_all(&mut self)
+    where
+        K: Drop,
+        V: Drop,
+        ensures entries { self.new.entries ≡ [] }
+        ensures free { length self.new.free ≡ length self.old.free + length self.old.entries }
+        ensures link_writes { self.new.link_writes ≡ self.old.link_writes + 3 * length self.old.entries }
+    {
+        while self.len() != 0 {
+            let _pair = self.spare_last();
+        }
     }
 
     /// Ends a ring without nodes, and frees the guard's block.

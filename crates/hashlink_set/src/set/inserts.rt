@@ -1,11 +1,12 @@
 //! Inserts. Each one hashes an element that it is given once, and looks it up as `contains` does.
 ghost use Rattle.std.specs.Prelude.{◌≡◌, IsSome, IsTrue, IsOk, None, option_copied, OnOk, IfOk, IfErr, Ok};
-ghost use Rattle.std.specs.Prelude.{Err, Some, length, not};
+ghost use Rattle.std.specs.Prelude.{Err, Some, length, not, true};
 ghost use Rattle.std.specs.Borrow.{sem};
 ghost use Rattle.std.specs.Fn.{FnOnceReturnsAt};
 ghost use Rattle.std.specs.List.{find};
 ghost use Rattle.std.specs.Option.{UnwrapsOrElse};
 ghost use Rattle.std.specs.Set.{is_member};
+ghost use Rattle.hashlink_model.specs.Lookups.{SetUpdates};
 ghost use Rattle.hashlink_model.specs.MapState.{RefusesEntry};
 ghost use Rattle.hashlink_model.specs.Walk.{last_of};
 ghost use Rattle.std.specs.List.{IsDistinct};
@@ -36,6 +37,8 @@ impl<T: Eq + Hash, S: BuildHasher> LinkedHashSet<T, S> {
         ensures inserts { SetInserts T.eq self.old self.new value result }
         ensures elements { OnOk result (elements_of self.new
             ≡ put_element T.eq (elements_of self.old) value (length (elements_of self.old))) }
+        ensures updates { OnOk result
+            (SetUpdates T.eq (elements_of self.old) (elements_of self.new) value true) }
         ensures new { IfOk result (λ new. new ≡ not (is_member T.eq (elements_of self.old) value)) }
         ensures there { IsTrue (is_member T.eq (elements_of self.old) value) → IsOk result }
         ensures distinct { IsDistinct T.eq (elements_of self.new) }

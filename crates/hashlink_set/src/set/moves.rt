@@ -2,6 +2,7 @@
 //! six links.
 ghost use Rattle.std.specs.Prelude.{◌≡◌, length};
 ghost use Rattle.std.specs.List.{IsDistinct};
+ghost use Rattle.hashlink_model.specs.Lookups.{SetKeepsLookups};
 ghost use Rattle.hashlink_model.specs.Steps.{MovesMatch};
 ghost use Rattle.hashlink_model.specs.Sets.{elements_of};
 ghost use Rattle.hashlink_set.specs.Answers.{as_value};
@@ -15,6 +16,7 @@ impl<T: Eq + Hash, S: BuildHasher> LinkedHashSet<T, S> {
     /// changes. It hashes the element once, and stores at most six links.
     pub fn to_front<Q: Equivalent<T>>(&mut self, value: Q) -> bool
         ensures moves { MovesMatch (Q.matches value) self.old self.new 0 (as_value result) }
+        ensures keeps { SetKeepsLookups T.eq (Q.matches value) (elements_of self.old) (elements_of self.new) }
     {
         self.find_to_front(value).is_some()
     }
@@ -24,13 +26,15 @@ impl<T: Eq + Hash, S: BuildHasher> LinkedHashSet<T, S> {
     pub fn to_back<Q: Equivalent<T>>(&mut self, value: Q) -> bool
         ensures moves { MovesMatch (Q.matches value) self.old self.new (length self.old.entries)
             (as_value result) }
+        ensures keeps { SetKeepsLookups T.eq (Q.matches value) (elements_of self.old) (elements_of self.new) }
     {
         self.find_to_back(value).is_some()
     }
 
     /// Does the same as `to_front`, and returns `Some(())` if the element is present.
     fn find_to_front<Q: Equivalent<T>>(&mut self, value: Q) -> Option<()>
-        ensures { MovesMatch (Q.matches value) self.old self.new 0 result }
+        ensures moves { MovesMatch (Q.matches value) self.old self.new 0 result }
+        ensures keeps { SetKeepsLookups T.eq (Q.matches value) (elements_of self.old) (elements_of self.new) }
     {
         self.map.to_front(value)?;
         Some(())
@@ -38,7 +42,8 @@ impl<T: Eq + Hash, S: BuildHasher> LinkedHashSet<T, S> {
 
     /// Does the same as `to_back`, and returns `Some(())` if the element is present.
     fn find_to_back<Q: Equivalent<T>>(&mut self, value: Q) -> Option<()>
-        ensures { MovesMatch (Q.matches value) self.old self.new (length self.old.entries) result }
+        ensures moves { MovesMatch (Q.matches value) self.old self.new (length self.old.entries) result }
+        ensures keeps { SetKeepsLookups T.eq (Q.matches value) (elements_of self.old) (elements_of self.new) }
     {
         self.map.to_back(value)?;
         Some(())

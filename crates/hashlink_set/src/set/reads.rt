@@ -1,5 +1,5 @@
 //! Reads of a set. Each lookup hashes the element once, and looks at the elements of one bucket.
-ghost use Rattle.std.specs.Prelude.{◌≡◌, option_copied};
+ghost use Rattle.std.specs.Prelude.{◌≡◌, [], IfNone, option_copied};
 ghost use Rattle.std.specs.List.{IsDistinct, find, list_any};
 ghost use Rattle.hashlink_model.specs.Walk.{first_of, last_of};
 ghost use Rattle.hashlink_model.specs.Sets.{elements_of};
@@ -35,6 +35,7 @@ impl<T: Eq + Hash, S: BuildHasher> LinkedHashSet<T, S> {
     #[inline]
     pub fn front(&self) -> Option<&T>
         ensures found { option_copied result ≡ first_of (elements_of self.now) }
+        ensures none { IfNone result (elements_of self.now ≡ []) }
         ensures distinct { IsDistinct T.eq (elements_of self.now) }
     {
         let (first, _) = self.map.front()?;
@@ -46,6 +47,7 @@ impl<T: Eq + Hash, S: BuildHasher> LinkedHashSet<T, S> {
     #[inline]
     pub fn back(&self) -> Option<&T>
         ensures found { option_copied result ≡ last_of (elements_of self.now) }
+        ensures none { IfNone result (elements_of self.now ≡ []) }
         ensures distinct { IsDistinct T.eq (elements_of self.now) }
     {
         let (last, _) = self.map.back()?;

@@ -1,10 +1,11 @@
 //! Removals. The other elements keep their order. Except for `clear`, each removal leaves a spare node, which
 //! the next insert of an absent element uses. No removal allocates.
-ghost use Rattle.std.specs.Prelude.{◌≡◌};
+ghost use Rattle.std.specs.Prelude.{◌≡◌, false};
 ghost use Rattle.std.specs.List.{IsDistinct, list_any};
 ghost use Rattle.std.specs.Map.{lookup_entry};
 ghost use Rattle.std.specs.Map.Iter.{TakesFirst, TakesLast};
 ghost use Rattle.std.specs.Set.{remove_key};
+ghost use Rattle.hashlink_model.specs.Lookups.{SetUpdatesBy, SetUpdatesPopped};
 ghost use Rattle.hashlink_model.specs.Steps.{RemovesMatch, PopsFront, PopsBack, Clears};
 ghost use Rattle.hashlink_model.specs.Sets.{elements_of};
 ghost use Rattle.hashlink_set.specs.Answers.{as_entry};
@@ -21,6 +22,8 @@ impl<T: Eq + Hash, S: BuildHasher> LinkedHashSet<T, S> {
         T: Drop,
         ensures answer { result ≡ list_any (Q.matches value) (elements_of self.old) }
         ensures elements { elements_of self.new ≡ remove_key (Q.matches value) (elements_of self.old) }
+        ensures updates { SetUpdatesBy T.eq (Q.matches value) (elements_of self.old) (elements_of self.new)
+            false }
         ensures removes { RemovesMatch (Q.matches value) self.old self.new
             (lookup_entry (Q.matches value) self.old.entries) }
         ensures distinct { IsDistinct T.eq (elements_of self.new) }
@@ -32,6 +35,8 @@ impl<T: Eq + Hash, S: BuildHasher> LinkedHashSet<T, S> {
     /// as `contains` does, and stores at most three links.
     pub fn take<Q: Equivalent<T>>(&mut self, value: Q) -> Option<T>
         ensures removes { RemovesMatch (Q.matches value) self.old self.new (as_entry result) }
+        ensures updates { SetUpdatesBy T.eq (Q.matches value) (elements_of self.old) (elements_of self.new)
+            false }
         ensures distinct { IsDistinct T.eq (elements_of self.new) }
     {
         let (stored, ()) = self.map.remove_entry(value)?;
@@ -43,6 +48,7 @@ impl<T: Eq + Hash, S: BuildHasher> LinkedHashSet<T, S> {
     pub fn pop_front(&mut self) -> Option<T>
         ensures pops { PopsFront self.old self.new (as_entry result) }
         ensures elements { TakesFirst (λ t. t) (elements_of self.old) result (elements_of self.new) }
+        ensures updates { SetUpdatesPopped T.eq (elements_of self.old) (elements_of self.new) result }
         ensures distinct { IsDistinct T.eq (elements_of self.new) }
     {
         let (first, ()) = self.map.pop_front()?;
@@ -54,6 +60,7 @@ impl<T: Eq + Hash, S: BuildHasher> LinkedHashSet<T, S> {
     pub fn pop_back(&mut self) -> Option<T>
         ensures pops { PopsBack self.old self.new (as_entry result) }
         ensures elements { TakesLast (λ t. t) (elements_of self.old) result (elements_of self.new) }
+        ensures updates { SetUpdatesPopped T.eq (elements_of self.old) (elements_of self.new) result }
         ensures distinct { IsDistinct T.eq (elements_of self.new) }
     {
         let (last, ()) = self.map.pop_back()?;

@@ -1,6 +1,7 @@
 //! Inserts, and how they make room.
 ghost use Rattle.std.specs.Prelude.{◌≡◌, ◌<◌, ◌↔◌, IfOk, OnOk, OnErr, Err};
 ghost use Rattle.hashlink_model.specs.Entries.{IsEntries};
+ghost use Rattle.hashlink_model.specs.Lookups.{UpdatesFitting};
 ghost use Rattle.hashlink_weighted.specs.Answers.{without_weight};
 ghost use Rattle.hashlink_weighted.specs.Evicted.{IsGivenEach, TakesEach, evicted_by};
 ghost use Rattle.hashlink_weighted.specs.Weighed.{entries_of, weight_or_none};
@@ -42,6 +43,8 @@ impl<K: Eq + Hash, V, S: BuildHasher> WeightedCache<K, V, S> {
         K: Drop,
         V: Drop,
         ensures inserts { InsertsWithin K.eq self.old self.new key value weight result }
+        ensures updates { OnOk result
+            (UpdatesFitting K.eq (entries_of self.old) (entries_of self.new) key (value, weight)) }
         ensures too_heavy { (result ≡ Err (TooHeavy (key, value))) ↔ (self.old.budget < weight) }
         ensures distinct { IfOk result (λ _. IsEntries K.eq (entries_of self.new)) }
     {
@@ -68,6 +71,8 @@ impl<K: Eq + Hash, V, S: BuildHasher> WeightedCache<K, V, S> {
         V: Drop,
         requires { TakesEach F.FnMut on_evicted.old (evicted_by K.eq self.old key value weight) }
         ensures inserts { InsertsWithin K.eq self.old self.new key value weight result }
+        ensures updates { OnOk result
+            (UpdatesFitting K.eq (entries_of self.old) (entries_of self.new) key (value, weight)) }
         ensures too_heavy { (result ≡ Err (TooHeavy (key, value))) ↔ (self.old.budget < weight) }
         ensures distinct { IfOk result (λ _. IsEntries K.eq (entries_of self.new)) }
         ensures given { OnOk result (IsGivenEach F.FnMut on_evicted.old

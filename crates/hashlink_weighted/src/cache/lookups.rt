@@ -1,10 +1,11 @@
 //! Reads, uses and removals. Each hashes the key once and does not allocate.
-ghost use Rattle.std.specs.Prelude.{◌≡◌, is_some, length, option_copied};
+ghost use Rattle.std.specs.Prelude.{◌≡◌, None, is_some, length, option_copied};
 ghost use Rattle.std.specs.Borrow.{sem};
 ghost use Rattle.std.specs.Map.{lookup};
 ghost use Rattle.hashlink_core.specs.Keyed as keyed;
 ghost use Rattle.hashlink_core.specs.Keyed.{state_of};
-ghost use Rattle.hashlink_model.specs.Entries.{IsEntries};
+ghost use Rattle.hashlink_model.specs.Entries.{IsEntries, moved_match};
+ghost use Rattle.hashlink_model.specs.Lookups.{KeepsLookups, UpdatesBy};
 ghost use Rattle.hashlink_model.specs.Steps.{MovesMatch};
 ghost use Rattle.hashlink_weighted.specs.Weighed.{entries_of, WeightedRemovesMatch};
 
@@ -23,6 +24,8 @@ fn move_last<K: Eq + Hash, V, S: BuildHasher, Q: Equivalent<K>>(
     ensures there { result ≡ is_some (lookup (Q.matches key) (keyed.entries_of map.old)) }
     ensures moves { MovesMatch (Q.matches key) (state_of map.old) (state_of map.new)
         (length (keyed.entries_of map.old)) (lookup (Q.matches key) (keyed.entries_of map.old)) }
+    ensures keeps { KeepsLookups K.eq (Q.matches key) (keyed.entries_of map.old)
+        (moved_match (Q.matches key) (keyed.entries_of map.old) (length (keyed.entries_of map.old))) }
     ensures distinct { IsEntries K.eq (keyed.entries_of map.old) }
 {
     match map.to_back(key) {
@@ -51,6 +54,8 @@ impl<K: Eq + Hash, V, S: BuildHasher> WeightedCache<K, V, S> {
     pub fn get<Q: Equivalent<K>>(&mut self, key: Q) -> Option<&V>
         ensures* used { sem 𝓛 (EndsUsed K.row V.row S.row S.Hasher.row K.Hash S.BuildHasher S.Hasher.Hasher
             self.entry (Q.matches key)) }
+        ensures keeps { KeepsLookups K.eq (Q.matches key) (entries_of self.old)
+            (moved_match (Q.matches key) (entries_of self.old) (length (entries_of self.old))) }
         ensures value { option_copied result ≡ without_weight (lookup (Q.matches key) (entries_of self.old)) }
         ensures distinct { IsEntries K.eq (entries_of self.old) }
     {
@@ -69,6 +74,7 @@ impl<K: Eq + Hash, V, S: BuildHasher> WeightedCache<K, V, S> {
         K: Drop,
         ensures value { result ≡ without_weight (lookup (Q.matches key) (entries_of self.old)) }
         ensures removes { WeightedRemovesMatch (Q.matches key) self.old self.new }
+        ensures updates { UpdatesBy K.eq (Q.matches key) (entries_of self.old) (entries_of self.new) None }
         ensures distinct { IsEntries K.eq (entries_of self.new) }
     {
         let (value, weight) = self.map.remove(key)?;

@@ -1,13 +1,15 @@
-//! Names, settings, lines and tasks.
+//! Names, settings, lines, tasks and squares.
 use crate::few::{is_pair, passes};
 use hashlink::{LinkedHashMap, LinkedHashSet, LruCache};
 use hashlink_uses::lines::distinct_lines;
+use hashlink_uses::memo::{Squares, shared_square};
 use hashlink_uses::names::{Answer, address_of, learn, sweep};
 use hashlink_uses::settings::merge;
 use hashlink_uses::tasks::RoundRobin;
 use std::alloc::{AllocError, Global};
 use std::hash::RandomState;
 use std::process::ExitCode;
+use std::sync::Mutex;
 
 type Names = LruCache<String, Answer, RandomState>;
 
@@ -171,4 +173,28 @@ fn have_their_turns(tasks: &mut RoundRobin<u32>) -> bool {
 #[test]
 fn each_task_has_its_turn(rt: HostRuntime) -> ExitCode {
     passes(have_their_turns(&mut RoundRobin::new(rt.alloc())))
+}
+
+#[test]
+fn a_square_is_found_again(rt: HostRuntime) -> ExitCode {
+    let mut squares = Squares::new(rt.alloc(), 1);
+    let found = [
+        squares.get(3),
+        squares.get(3),
+        squares.get(4),
+        squares.get(u32::MAX),
+    ];
+    passes(found == [9, 9, 16, 0xffff_fffe_0000_0001])
+}
+
+#[test]
+fn a_square_is_found_behind_a_lock(rt: HostRuntime) -> ExitCode {
+    let memo = Mutex::new(Squares::new(rt.alloc(), 1));
+    passes(
+        [
+            shared_square(&memo, 3),
+            shared_square(&memo, 3),
+            shared_square(&memo, 5),
+        ] == [9, 9, 25],
+    )
 }

@@ -9,7 +9,7 @@ use crate::calls::raw_entries::{call_end, call_raw, read_raw};
 use crate::hashers::Hashing;
 use crate::items::{
     Answer, Item, KEEPS, Keep, Line, Retain, Stop, Word, made, read_keep, shown, walk_and_clone,
-    walk_or_forget, walk_whole,
+    walk_and_forget, walk_whole,
 };
 use hashlink_map::{IterFrom, LinkedHashMap};
 use std::alloc::Global;
@@ -64,8 +64,8 @@ const CALLS: [(&str, ManyCall); 26] = [
     ("values", ManyCall::Walk(WalkCall::Values)),
     ("iter_mut", ManyCall::Walk(WalkCall::IterMut)),
     ("values_mut", ManyCall::Walk(WalkCall::ValuesMut)),
-    ("drain", ManyCall::Walk(WalkCall::Drain(false))),
-    ("forgotten_drain", ManyCall::Walk(WalkCall::Drain(true))),
+    ("drain", ManyCall::Walk(WalkCall::Drain)),
+    ("forgotten_drain", ManyCall::Walk(WalkCall::ForgottenDrain)),
     ("into_iter", ManyCall::Walk(WalkCall::IntoIter)),
     ("iter_from", ManyCall::Walk(WalkCall::From)),
     ("collect", ManyCall::Walk(WalkCall::Collect)),
@@ -127,8 +127,9 @@ enum WalkCall {
     Values,
     IterMut,
     ValuesMut,
-    /// Whether it is forgotten after its steps.
-    Drain(bool),
+    Drain,
+    /// A drain that is forgotten after its steps.
+    ForgottenDrain,
     IntoIter,
     /// From the entry of a key on.
     From,
@@ -143,7 +144,8 @@ fn walk_map(map: &mut Map, call: WalkCall, line: &mut Line<'_>) -> Result<(), St
         WalkCall::Values => walk_and_clone(map.values(), line),
         WalkCall::IterMut => walk_whole(map.iter_mut(), line),
         WalkCall::ValuesMut => walk_whole(map.values_mut(), line),
-        WalkCall::Drain(is_forgotten) => walk_or_forget(map.drain(), is_forgotten, line),
+        WalkCall::Drain => walk_whole(map.drain(), line),
+        WalkCall::ForgottenDrain => walk_and_forget(map.drain(), 2, line),
         WalkCall::IntoIter => walk_whole(take(map, line.home.alloc).into_iter(), line),
         WalkCall::From => walk_from(map, line),
         WalkCall::Collect => line.say(collect(map, line.home.alloc)),

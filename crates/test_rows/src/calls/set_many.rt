@@ -7,7 +7,7 @@ use crate::calls::extended::{
 use crate::calls::set_calls::{Set, lent_or_back};
 use crate::items::{
     Answer, Item, Keep, Line, Stop, Word, is_other, read_keep, taken, walk_and_clone,
-    walk_or_forget, walk_whole,
+    walk_and_forget, walk_whole,
 };
 use hashlink_set::{ExtendError, LinkedHashSet};
 use std::alloc::Global;
@@ -42,8 +42,8 @@ const CALLS: [(&str, ManyCall); 13] = [
     ("retain", ManyCall::Retain(false)),
     ("retain_with_order", ManyCall::Retain(true)),
     ("iter", ManyCall::Walk(WalkCall::Iter)),
-    ("drain", ManyCall::Walk(WalkCall::Drain(false))),
-    ("forgotten_drain", ManyCall::Walk(WalkCall::Drain(true))),
+    ("drain", ManyCall::Walk(WalkCall::Drain)),
+    ("forgotten_drain", ManyCall::Walk(WalkCall::ForgottenDrain)),
     ("into_iter", ManyCall::Walk(WalkCall::IntoIter)),
 ];
 
@@ -124,15 +124,17 @@ fn is_kept(element: &Item, keep: Keep, met: &mut Vec<Word>) -> bool {
 #[derive(Clone, Copy)]
 enum WalkCall {
     Iter,
-    /// Whether it is forgotten after its steps.
-    Drain(bool),
+    Drain,
+    /// A drain that is forgotten after its steps.
+    ForgottenDrain,
     IntoIter,
 }
 
 fn walk_set(set: &mut Set, call: WalkCall, line: &mut Line<'_>) -> Result<(), Stop> {
     match call {
         WalkCall::Iter => walk_and_clone(set.iter(), line),
-        WalkCall::Drain(is_forgotten) => { walk_or_forget(set.drain(), is_forgotten, line) }
+        WalkCall::Drain => walk_whole(set.drain(), line),
+        WalkCall::ForgottenDrain => walk_and_forget(set.drain(), 1, line),
         WalkCall::IntoIter => walk_whole(take(set, line.home.alloc).into_iter(), line),
     }
 }

@@ -1,12 +1,14 @@
-//! How often items are hashed, compared and cloned.
+//! How often items are hashed, compared and cloned, and how many are forgotten.
 use std::cell::Cell;
 
-/// What items share: how often any of them was hashed, two of them were compared, and any was cloned.
+/// What items share: how often any of them was hashed, two of them were compared, and any was cloned, and how
+/// many are never dropped.
 #[derive(Drop)]
 pub struct Counts {
     hashes: Cell<u64>,
     comparisons: Cell<u64>,
     clones: Cell<u64>,
+    forgotten: Cell<usize>,
 }
 
 impl Counts {
@@ -15,6 +17,7 @@ impl Counts {
             hashes: Cell::new(0),
             comparisons: Cell::new(0),
             clones: Cell::new(0),
+            forgotten: Cell::new(0),
         }
     }
 
@@ -28,6 +31,17 @@ impl Counts {
 
     pub fn clone_one(&self) {
         self.clones.set(self.clones.get().wrapping_add(1));
+    }
+
+    /// Counts items that are never dropped.
+    pub fn forget(&self, items: usize) {
+        self.forgotten
+            .set(self.forgotten.get().saturating_add(items));
+    }
+
+    /// How many items are never dropped.
+    pub fn forgotten(&self) -> usize {
+        self.forgotten.get()
     }
 
     /// How many hashes and how many comparisons there were since the last call of this.

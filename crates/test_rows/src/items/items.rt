@@ -21,9 +21,16 @@ pub struct Home<'h> {
 }
 
 impl Home<'_> {
-    /// How many items live.
+    /// How many items live, but those that were forgotten.
     pub fn living(self) -> usize {
-        Rc::strong_count(self.counts).saturating_sub(1)
+        Rc::strong_count(self.counts)
+            .saturating_sub(1)
+            .saturating_sub(self.counts.forgotten())
+    }
+
+    /// Counts items that are forgotten.
+    pub fn forget(self, items: usize) {
+        self.counts.forget(items);
     }
 
     /// How many hashes and how many comparisons of items there were since the last call of this.

@@ -44,16 +44,16 @@ pub fn walk_whole<W: Walk + Drop>(mut walk: W, line: &mut Line<'_>) -> Result<()
     take_steps(&mut walk, line)
 }
 
-/// The same of an iterator that may be forgotten after its steps.
-pub fn walk_or_forget<W: Walk + Drop>(
+/// The same of an iterator that is then forgotten, and has so many items of each entry that is left.
+pub fn walk_and_forget<W: Walk + Iterator>(
     mut walk: W,
-    is_forgotten: bool,
+    items: usize,
     line: &mut Line<'_>,
 ) -> Result<(), Stop> {
     let taken = take_steps(&mut walk, line);
-    if is_forgotten {
-        mem::forget(walk);
-    }
+    let (left, _) = walk.size_hint();
+    line.home.forget(left.saturating_mul(items));
+    mem::forget(walk);
     taken
 }
 

@@ -8,14 +8,14 @@ returns-in-None-clause-said g c = rw (lookup_entry-absent _ _ (sym c.in-None.ens
 pub returns-in-Some-clause-moved : goal.returns-in-Some-clause-moved
 returns-in-Some-clause-moved g c =
     moves_and_left g.met.K.Eq.laws c.args.key.now c.to_front.ensures.distinct (sym c.in-Some.ensures.value)
-    (rw c.in-Some.is at (c.to_front.follows.holds c.in-Some._value.now))
+    (c.to_front.follows.holds c.in-Some._value.now)
 
 pub said_of-requires : goal.said_of-requires
 said_of-requires g c = record {
   says = λ pair is.
       let there =
       first_of-new g.met.K.Eq.laws c.args.key.now c.to_front.ensures.distinct (sym c.in-Some.ensures.value)
-      (rw c.in-Some.is at (c.to_front.follows.holds c.in-Some._value.now)) refl in
+      (c.to_front.follows.holds c.in-Some._value.now) refl in
       c.requires.says pair (sym there ∙ sym c.front.ensures.found ∙ is);
 }
 
@@ -23,5 +23,5 @@ pub returns-in-Some-clause-said : goal.returns-in-Some-clause-said
 returns-in-Some-clause-said g c =
     let there =
     first_of-new g.met.K.Eq.laws c.args.key.now c.to_front.ensures.distinct (sym c.in-Some.ensures.value)
-    (rw c.in-Some.is at (c.to_front.follows.holds c.in-Some._value.now)) refl in
+    (c.to_front.follows.holds c.in-Some._value.now) refl in
     rw (c.front.ensures.found ∙ there) at c.said_of.ensures

@@ -2,7 +2,6 @@ use Rattle.std.proofs.Common.{refl, ap, sym, ◌∙◌, None, Some}
 use Rattle.std.specs.Option.{option_copied_mut}
 use Rattle.hashlink_core.specs.Keyed.{state_of}
 use Rattle.hashlink_model.proofs.MovedLast.{moved_match_last}
-use Rattle.hashlink_map.proofs.Walking.{on-some}
 use Rattle.hashlink_lru.proofs.Ends.{used}
 use Rattle.hashlink_lru.proofs.cache.LruCache.get.Goals as goal
 
@@ -19,11 +18,16 @@ returns-in-Some g c =
               map =
                   moved_match_last g.K.PartialEq.eq g.met.K.Eq.laws test
                   (g.met.Q.Equivalent.finds_equal c.args.key) (state_of c.args.self.now.map) _ v
-                  c.to_back.ensures.distinct at (on-some c.in-Some.is (c.to_back.follows.holds v));
+                  c.to_back.ensures.distinct at (c.to_back.follows.holds v);
               cap = refl;
             }),
       ),
-      record { used = tt; value = sym at; distinct = c.to_back.ensures.distinct },
+      record {
+        used = tt;
+        keeps = c.to_back.ensures.keeps;
+        value = sym at;
+        distinct = c.to_back.ensures.distinct;
+      },
     )
 
 pub returns-in-None : goal.returns-in-None
@@ -39,5 +43,10 @@ returns-in-None g c =
               cap = refl;
             }),
       ),
-      record { used = tt; value = sym none; distinct = c.to_back.ensures.distinct },
+      record {
+        used = tt;
+        keeps = c.to_back.ensures.keeps;
+        value = sym none;
+        distinct = c.to_back.ensures.distinct;
+      },
     )

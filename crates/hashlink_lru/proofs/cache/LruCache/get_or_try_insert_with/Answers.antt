@@ -3,6 +3,7 @@ use Rattle.hashlink_core.specs.Keyed as keyed
 use Rattle.hashlink_map.proofs.Walking.{on-some}
 use Rattle.hashlink_lru.specs.Cached.{state_of}
 use Rattle.hashlink_lru.proofs.Using.{lent_value, some_lent, used_and_written}
+use Rattle.hashlink_lru.proofs.Updating.{updates-used}
 use Rattle.hashlink_lru.proofs.cache.LruCache.get_or_try_insert_with.Goals as goal
 
 pub unreachable-requires : goal.unreachable-requires
@@ -26,6 +27,7 @@ returns g c =
       ),
       record {
         lends = tt;
+        updates = updates-used eq g.met.K.Eq.laws old c.args.key c.len-before.ensures.distinct;
         value = lent_value eq _ old.map new c.args.key made v c.in-Some.ensures.value;
         handed_back = tt;
       },

@@ -3,6 +3,7 @@ use Rattle.std.specs.Prelude.{Ok}
 use Rattle.hashlink_core.specs.Keyed as keyed
 use Rattle.hashlink_model.specs.Cache.{CacheInserts}
 use Rattle.hashlink_model.proofs.CacheBounds.{within-inserted, within-inserts}
+use Rattle.hashlink_model.proofs.CacheUpdates.{updates-kept_last}
 use Rattle.hashlink_lru.specs.Cached.{state_of}
 use Rattle.hashlink_lru.proofs.cache.LruCache.insert.Goals as goal
 
@@ -27,6 +28,9 @@ returns g c =
     } in
     record {
       inserts = step;
+      updates = updates-kept_last eq g.met.K.Eq.laws _ _ _ c.args.self.now.capacity c.args.key c.args.value
+          c.in_ok-old.ensures.entries c.in_ok-old.ensures.distinct c.in_ok-old.ensures.updates
+          e.keeps.map.entries;
       distinct = e.distinct;
       fits = within-inserted old new eq c.args.key c.args.value c.in_ok-old.old step;
       within = λ n. within-inserts old new n eq c.args.key c.args.value (Ok c.in_ok-old.old) step;

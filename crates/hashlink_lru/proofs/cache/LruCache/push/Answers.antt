@@ -2,6 +2,7 @@ use Rattle.std.proofs.Common.{refl, subst, sym}
 use Rattle.std.specs.Prelude.{Ok}
 use Rattle.hashlink_core.specs.Keyed as keyed
 use Rattle.hashlink_model.proofs.CacheBounds.{within-inserted, within-inserts}
+use Rattle.hashlink_model.proofs.CacheUpdates.{updates-pushed}
 use Rattle.hashlink_model.proofs.CacheSteps.{inserts_entries}
 use Rattle.hashlink_lru.specs.Cached.{state_of}
 use Rattle.hashlink_lru.specs.Evicted.{Pushes}
@@ -17,10 +18,13 @@ returns g c =
     (sym c.or.ensures)
     (pushes _ old new _ _ (keyed.state_of c.put_last.new.map) _ _ c.in_ok-replaced.ensures.inserts
     c.in_ok-replaced.ensures.replaced keeps.map keeps.cap c.evict_excess-evicted.ensures.first) in
+    let entries = inserts_entries g.K.PartialEq.eq old new _ _ _ step.inserts in
     record {
       pushes = step;
       left = step.left;
-      entries = inserts_entries _ old new _ _ _ step.inserts;
+      entries = entries;
+      updates = updates-pushed g.K.PartialEq.eq g.met.K.Eq.laws _ _ old.cap c.args.key c.args.value
+          c.put_last.ensures.distinct entries;
       there = λ _. refl;
       distinct = c.evict_excess-evicted.ensures.distinct;
       fits = within-inserted old new _ _ _ _ step.inserts;

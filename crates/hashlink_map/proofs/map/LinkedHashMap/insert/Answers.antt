@@ -1,4 +1,5 @@
 use Rattle.std.proofs.Common.{rules}
+use Rattle.hashlink_model.proofs.Updates.{updates-inserted}
 use Rattle.hashlink_map.proofs.Outcomes.{inserts_outcome, inserts_added}
 use Rattle.hashlink_map.proofs.map.LinkedHashMap.insert.Goals as goal
 
@@ -16,3 +17,8 @@ returns-clause-there g c = (inserts_outcome _ _ _ _ _ _ _ (returns-clause-insert
 
 pub returns-clause-added : goal.returns-clause-added
 returns-clause-added g c = inserts_added _ _ _ _ _ _ (returns-clause-inserts g c)
+
+pub returns-clause-updates : goal.returns-clause-updates
+returns-clause-updates g c =
+    updates-inserted g.K.PartialEq.eq g.met.K.Eq.laws c.insert.result _ _ c.args.key c.args.value _
+    c.keys_are_distinct.ensures (returns-clause-entries g c)

@@ -1,4 +1,5 @@
 use Rattle.std.proofs.Common.{rules}
+use Rattle.hashlink_model.proofs.Updates.{updates-inserted}
 use Rattle.hashlink_map.proofs.Outcomes.{inserts_outcome}
 use Rattle.hashlink_map.proofs.map.LinkedHashMap.insert_front.Goals as goal
 
@@ -13,3 +14,8 @@ returns-clause-old g c = (inserts_outcome _ _ _ _ _ _ _ (returns-clause-inserts 
 
 pub returns-clause-there : goal.returns-clause-there
 returns-clause-there g c = (inserts_outcome _ _ _ _ _ _ _ (returns-clause-inserts g c)).2
+
+pub returns-clause-updates : goal.returns-clause-updates
+returns-clause-updates g c =
+    updates-inserted g.K.PartialEq.eq g.met.K.Eq.laws c.insert_front.result _ _ c.args.key c.args.value _
+    c.keys_are_distinct.ensures (returns-clause-entries g c)

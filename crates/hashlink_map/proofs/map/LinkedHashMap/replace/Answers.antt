@@ -1,4 +1,5 @@
 use Rattle.std.proofs.Common.{rules}
+use Rattle.hashlink_model.proofs.Updates.{updates-inserted}
 use Rattle.hashlink_map.proofs.Outcomes.{replaces_outcome}
 use Rattle.hashlink_map.proofs.map.LinkedHashMap.replace.Goals as goal
 
@@ -13,3 +14,8 @@ returns-clause-old g c = (replaces_outcome _ _ _ _ _ _ (returns-clause-replaces 
 
 pub returns-clause-there : goal.returns-clause-there
 returns-clause-there g c = (replaces_outcome _ _ _ _ _ _ (returns-clause-replaces g c)).2
+
+pub returns-clause-updates : goal.returns-clause-updates
+returns-clause-updates g c =
+    updates-inserted g.K.PartialEq.eq g.met.K.Eq.laws c.replace.result _ _ c.args.key c.args.value _
+    c.keys_are_distinct.ensures (returns-clause-entries g c)

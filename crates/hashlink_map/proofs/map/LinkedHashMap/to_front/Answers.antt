@@ -1,5 +1,8 @@
 use Rattle.hashlink_map.proofs.Names.{length, refl, sym, arith, following_place-guard}
 use Rattle.hashlink_map.proofs.Names.{moved-found, lent-moved, moved-value, lookup-unplaced}
+use Rattle.hashlink_map.proofs.Names.{◌≡◌, Some, ap, is_some, lookup, entries_of, state_of, none_passes_from_place}
+use Rattle.hashlink_model.proofs.MovedLast.{moves_none}
+use Rattle.hashlink_model.proofs.Updates.{keeps-moved, updates-lent_moved}
 use Rattle.hashlink_map.proofs.map.LinkedHashMap.to_front.Goals as goal
 
 pub value_mut-requires : goal.value_mut-requires
@@ -27,21 +30,33 @@ returns-in-Some g c =
     s.sound in
     let was = moved-value eq laws test tells m new n e.found 0 _ first (omega (arith, first)) s.moved
     s.sound in
+    let value : lookup test (entries_of m) ≡ Some c.value_mut.result.now
+    = was c.value_mut.result.now c.value_mut.ensures.value e.sound.distinct in
     rw (← c.self.view_is) (
       (refl, written, refl),
       record {
         lends = tt;
-        value = sym (was c.value_mut.result.now c.value_mut.ensures.value e.sound.distinct);
+        updates = updates-lent_moved eq laws test tells (entries_of m) 0 e.sound.distinct
+            (ap is_some value);
+        keeps = keeps-moved eq laws test tells (entries_of m) 0 e.sound.distinct;
+        value = sym value;
         distinct = e.sound.distinct;
       },
     )
 
 pub returns-in-None : goal.returns-in-None
 returns-in-None g c =
-    let e = c.in-None.ensures in rw (← c.self.view_is) (
-      (refl, λ w. tt, refl),
+    let m = c.self.inside.list in
+    let test = g.Q.Equivalent.matches c.args.key in
+    let e = c.in-None.ensures in
+    let none = none_passes_from_place test (entries_of m) e.found in
+    rw (← c.self.view_is) (
+      (refl, λ w. moves_none test (state_of m) w none 0, refl),
       record {
         lends = tt;
+        updates = tt;
+        keeps = keeps-moved g.K.PartialEq.eq g.met.K.Eq.laws (g.Q.Equivalent.matches c.args.key)
+            (g.met.Q.Equivalent.finds_equal c.args.key) (entries_of m) 0 e.sound.distinct;
         value = sym (lookup-unplaced (g.Q.Equivalent.matches c.args.key) _ e.found);
         distinct = e.sound.distinct;
       },

@@ -1,5 +1,6 @@
 use Rattle.std.proofs.Common.{◌≤◌, refl, ap, arith}
 use Rattle.hashlink_core.specs.Keyed.{state_of}
+use Rattle.hashlink_model.proofs.CacheUpdates.{updates-fitted}
 use Rattle.hashlink_weighted.proofs.Inserted.{old_weight, leaves_last, accepts}
 use Rattle.hashlink_weighted.proofs.cache.WeightedCache.insert_evicting.Goals as goal
 
@@ -29,6 +30,9 @@ returns-in-Ok g c =
       inserts = accepts g.K.PartialEq.eq (state_of c.self.inside.map) (state_of c.insert.new.self) c.args.key
           c.args.value c.args.weight c.in-Ok.old c.in-Ok.ensures.inserts
           (state_of c.evict_until_fitting-self-inside.new.map) c.self.inside.budget fits e.keeps;
+      updates = updates-fitted g.K.PartialEq.eq g.met.K.Eq.laws _ _ _ c.self.inside.budget c.args.key
+          c.args.value c.args.weight c.in-Ok.ensures.entries c.in-Ok.ensures.distinct c.in-Ok.ensures.updates
+          fits e.keeps.entries;
       too_heavy = (λ same. absurd (cc), λ over. absurd (omega arith));
       distinct = e.distinct;
       given = rw c.in-Ok.ensures.entries at e.given;

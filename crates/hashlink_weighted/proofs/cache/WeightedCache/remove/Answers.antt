@@ -23,11 +23,21 @@ returns-in_err-value g c =
     let e = c.remove.ensures in
     let value = c.from_residual.ensures ∙ ap without_weight (sym c.in_err-value.was ∙ e.value) in
     rw (← c.self.view_is)
-    (record { value = value; removes = record { removes = e.removes; budget = refl }; distinct = e.distinct })
+    (record {
+      value = value;
+      removes = record { removes = e.removes; budget = refl };
+      updates = e.updates;
+      distinct = e.distinct;
+    })
 
 pub returns : goal.returns
 returns g c =
     let e = c.remove.ensures in
     let value = ap without_weight (sym c.in_ok-value.was ∙ e.value) in
     rw (← c.self.view_is)
-    (record { value = value; removes = record { removes = e.removes; budget = refl }; distinct = e.distinct })
+    (record {
+      value = value;
+      removes = record { removes = e.removes; budget = refl };
+      updates = e.updates;
+      distinct = e.distinct;
+    })

@@ -3,7 +3,6 @@ use Rattle.std.specs.Option.{option_copied_mut}
 use Rattle.hashlink_core.specs.Keyed.{state_of}
 use Rattle.hashlink_model.specs.Steps.{MovesMatch}
 use Rattle.hashlink_model.proofs.MovedLast.{moved_match_last}
-use Rattle.hashlink_map.proofs.Walking.{on-some}
 use Rattle.hashlink_weighted.proofs.cache.lookups.move_last.Goals as goal
 
 pub returns-in-Some-clause-moves : goal.returns-in-Some-clause-moves
@@ -14,4 +13,4 @@ returns-in-Some-clause-moves g c =
     subst (MovesMatch test (state_of c.args.map.now) _ _) (sym at)
     (moved_match_last g.K.PartialEq.eq g.met.K.Eq.laws test (g.met.Q.Equivalent.finds_equal c.args.key)
     (state_of c.args.map.now) _ v c.to_back.ensures.distinct at
-    (on-some c.in-Some.is (c.to_back.follows.holds v)))
+    (c.to_back.follows.holds v))

@@ -1,0 +1,180 @@
+//! What the containers of rows have in them.
+use crate::caches::UseKey;
+use crate::keys::Keys;
+use crate::plan::Row;
+use hashlink::{LinkedHashMap, LinkedHashSet, LruCache};
+
+/// What a container has in it before the calls of a row.
+#[derive(Clone, Copy, PartialEq, Eq)]
+pub(crate) enum Fill {
+    Empty,
+    /// Nothing, but there is room for the keys.
+    Roomy,
+    /// The keys that are held. Into a cache of numbers they come from the last one on.
+    Full,
+    /// The same, whose order is not that in memory.
+    Moved,
+    /// The same, which came from the last one on.
+    Backwards,
+    /// All but about a quarter of them.
+    Thinned,
+    /// Half of the keys, and there is room for no more.
+    Half,
+    /// About half of the keys, and as many others as are left out.
+    Overlapping,
+    /// As many others.
+    Absent,
+}
+
+/// When a container is made.
+#[derive(Clone, Copy, PartialEq, Eq)]
+pub(crate) enum Made {
+    /// Once, for all passes.
+    Once,
+    /// Anew, for each pass.
+    Anew,
+}
+
+/// What the calls of a row are made on: a container, or two, of which the first is full and the second has
+/// what is said.
+pub(crate) trait Filled: Drop {
+    /// Makes it, or returns `None` when memory runs out.
+    fn filled(keys: &Keys, fill: Fill) -> Option<Self>;
+}
+
+pub(crate) type Map = LinkedHashMap<u64, u64>;
+
+/// A map of a type of its own, whose calls are functions that no other rows call.
+pub(crate) type LoneMap = LinkedHashMap<u64, u32>;
+
+pub(crate) type Set = LinkedHashSet<u64>;
+
+/// As `LoneMap`.
+pub(crate) type LoneSet = LinkedHashSet<(u64, ())>;
+
+pub(crate) type Cache = LruCache<u64, u64>;
+
+/// As `LoneMap`.
+pub(crate) type LoneCache = LruCache<u64, u32>;
+
+impl Filled for Map {
+    fn filled(keys: &Keys, fill: Fill) -> Option<Map> {
+        match fill {
+            Fill::Empty => Some(LinkedHashMap::new(keys.alloc)),
+            Fill::Roomy => LinkedHashMap::with_capacity(keys.alloc, keys.size()).ok(),
+            Fill::Moved => moved(keys),
+            Fill::Thinned => thinned(keys),
+            _ => full(keys),
+        }
+    }
+}
+
+/// Inserts each key with its place in the list as its value.
+fn insert_each(map: &mut Map, keys: &[u64]) -> Option<()> {
+    for (place, key) in keys.iter().enumerate() {
+        map.insert(*key, place as u64).ok()?;
+    }
+    Some(())
+}
+
+fn full(keys: &Keys) -> Option<Map> {
+    let mut map = LinkedHashMap::new(keys.alloc);
+    insert_each(&mut map, &keys.held)?;
+    Some(map)
+}
+
+fn moved(keys: &Keys) -> Option<Map> {
+    let mut map = full(keys)?;
+    insert_each(&mut map, &keys.mixed)?;
+    Some(map)
+}
+
+fn thinned(keys: &Keys) -> Option<Map> {
+    let mut map = full(keys)?;
+    map.retain(|key, _| *key % 4 != 0);
+    Some(map)
+}
+
+impl Filled for LoneMap {
+    fn filled(keys: &Keys, _fill: Fill) -> Option<LoneMap> {
+        let mut map = LinkedHashMap::new(keys.alloc);
+        for (key, place) in keys.held.iter().zip(0..u32::MAX) {
+            map.insert(*key, place).ok()?;
+        }
+        Some(map)
+    }
+}
+
+impl Filled for Set {
+    fn filled(keys: &Keys, fill: Fill) -> Option<Set> {
+        match fill {
+            Fill::Empty => Some(LinkedHashSet::new(keys.alloc)),
+            Fill::Moved => set_of(keys, &keys.mixed, &keys.mixed),
+            Fill::Overlapping => set_of(keys, &keys.mixed, &keys.absent),
+            Fill::Absent => set_of(keys, &keys.absent, &keys.absent),
+            _ => set_of(keys, &keys.held, &keys.held),
+        }
+    }
+}
+
+/// The keys, each of which comes from one of the lists, where a key of the first is even or not.
+fn set_of(keys: &Keys, even: &[u64], odd: &[u64]) -> Option<Set> {
+    let mut set = LinkedHashSet::new(keys.alloc);
+    for (key, other) in even.iter().zip(odd) {
+        let element = if *key % 2 == 0 { *key } else { *other };
+        set.insert(element).ok()?;
+    }
+    Some(set)
+}
+
+impl Filled for LoneSet {
+    fn filled(keys: &Keys, _fill: Fill) -> Option<LoneSet> {
+        let mut set = LinkedHashSet::new(keys.alloc);
+        for key in &keys.held {
+            set.insert((*key, ())).ok()?;
+        }
+        Some(set)
+    }
+}
+
+impl Filled for Cache {
+    fn filled(keys: &Keys, fill: Fill) -> Option<Cache> {
+        if fill == Fill::Half {
+            cache_of(keys, keys.half())
+        } else {
+            cache_of(keys, keys.size())
+        }
+    }
+}
+
+/// A cache that the keys went into, the first one last.
+fn cache_of(keys: &Keys, capacity: usize) -> Option<Cache> {
+    let mut cache = LruCache::new(keys.alloc, capacity);
+    for (place, key) in keys.held.iter().rev().enumerate() {
+        UseKey::call(&mut cache, place as u64, key)?;
+    }
+    Some(cache)
+}
+
+impl Filled for LoneCache {
+    fn filled(keys: &Keys, _fill: Fill) -> Option<LoneCache> {
+        let mut cache = LruCache::new(keys.alloc, keys.size());
+        for (key, place) in keys.held.iter().zip(0..u32::MAX) {
+            cache.insert(*key, place).ok()?;
+        }
+        Some(cache)
+    }
+}
+
+impl<C: Filled> Filled for (C, C) {
+    fn filled(keys: &Keys, fill: Fill) -> Option<(C, C)> {
+        Some((C::filled(keys, Fill::Full)?, C::filled(keys, fill)?))
+    }
+}
+
+/// A container that a call takes.
+impl<C: Filled> Filled for Option<C> {
+    fn filled(keys: &Keys, fill: Fill) -> Option<Option<C>> {
+        Some(Some(C::filled(keys, fill)?))
+    }
+}

@@ -1,0 +1,61 @@
+//! The nodes of a keyed list while they are drained.
+ghost use Rattle.std.specs.Prelude.{◌≡◌, length};
+ghost use Rattle.std.specs.Map.{values_of};
+ghost use Rattle.hashlink_core.specs.Drained.{GivesFirst, GivesLast};
+
+use crate::iter::Iter;
+use hashlink_nodes::Nodes;
+use std::marker::Model;
+
+/// The nodes that were taken out of a keyed list, with their entries, and the spare ones. Contracts see the
+/// pairs with their nodes, how many nodes are spare, and how many links were stored.
+#[derive(Drop)]
+pub struct DrainedNodes<K, V> {
+    pub(crate) nodes: Nodes<K, V>,
+}
+
+impl<K, V> Model for DrainedNodes<K, V> {
+    ghost use Rattle.hashlink_core.specs.Drained.{Drained, drained_as};
+
+    ghost Value = { Drained K V };
+
+    ghost view = { λ d. drained_as d.nodes };
+}
+
+impl<K, V> DrainedNodes<K, V> {
+    /// Returns the number of entries.
+    pub fn len(&self) -> usize
+        ensures { result ≡ length self.now.nodes }
+    {
+        self.nodes.len()
+    }
+
+    /// Returns an iterator over the entries, front to back.
+    pub fn iter(&self) -> Iter<'_, K, V>
+        ensures { result ≡ values_of self.now.nodes }
+    {
+        Iter::new(&self.nodes)
+    }
+
+    /// Removes the first entry and returns it. Its node is then spare.
+    #[inline]
+    pub fn pop_front(&mut self) -> Option<(K, V)>
+        ensures { GivesFirst self.old self.new result }
+    {
+        if self.nodes.len() == 0 {
+            return None;
+        }
+        Some(self.nodes.spare_first())
+    }
+
+    /// Removes the last entry and returns it. Its node is then spare.
+    #[inline]
+    pub fn pop_back(&mut self) -> Option<(K, V)>
+        ensures { GivesLast self.old self.new result }
+    {
+        if self.nodes.len() == 0 {
+            return None;
+        }
+        Some(self.nodes.spare_last())
+    }
+}

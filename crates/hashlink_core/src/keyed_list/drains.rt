@@ -1,0 +1,41 @@
+//! How the nodes of a keyed list are taken out, to be drained, and put back.
+ghost use Rattle.std.specs.Prelude.{◌≡◌};
+ghost use Rattle.hashlink_model.specs.Steps.{Drains};
+ghost use Rattle.hashlink_core.specs.Keyed.{state_of, IsKeyed};
+ghost use Rattle.hashlink_core.specs.Drained.{with_drained, FitsBack};
+
+use super::KeyedList;
+use crate::drained::DrainedNodes;
+use hashlink_nodes::Nodes;
+use std::hash::{BuildHasher, Hash};
+use std::mem;
+
+impl<K: Eq + Hash, V, S: BuildHasher> KeyedList<K, V, S> {
+    /// Takes all nodes out, with their entries. The list is then empty, and keeps its room. It takes linear
+    /// time in the number of buckets, and hashes nothing.
+    pub fn take_nodes(&mut self) -> DrainedNodes<K, V>
+        ensures taken { with_drained self.new result ≡ self.old }
+        ensures fits { FitsBack (state_of self.new) result }
+        ensures sound { IsKeyed K.eq self.old }
+    {
+        self.table.clear();
+        let own = Nodes::new(self.nodes.allocator());
+        DrainedNodes {
+            nodes: mem::replace(&mut self.nodes, own),
+        }
+    }
+
+    /// Puts nodes back that were taken out, and drops the entries that they still have. Every node is then
+    /// spare. It stores three links for each of these entries.
+    pub fn put_back(&mut self, drained: DrainedNodes<K, V>)
+    where
+        K: Drop,
+        V: Drop,
+        requires { FitsBack (state_of self.old) drained }
+        ensures { Drains (state_of (with_drained self.old drained)) (state_of self.new) }
+    {
+        let DrainedNodes { mut nodes } = drained;
+        nodes.spare_all();
+        self.nodes = nodes;
+    }
+}

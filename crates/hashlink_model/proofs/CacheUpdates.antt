@@ -1,0 +1,101 @@
+-- What a look-up finds after an insert into a cache.
+use Rattle.hashlink_model.proofs.Names.{◌≡◌, ◌⊎◌, ℕ, ◌-◌, ◌≤◌, Bool, List, [], ◌∷◌, ◌++◌, length, drop, take}
+use Rattle.hashlink_model.proofs.Names.{Option, None, Some, inl, inr, refl, sym, ap, ◌∙◌, subst, arith}
+use Rattle.hashlink_model.proofs.Names.{append_assoc, take-append-drop, option_map, IsEquivalence, lookup}
+use Rattle.hashlink_model.proofs.Names.{lookup_entry, IsEntries, put, cache_put, last_entries, without}
+use Rattle.hashlink_model.proofs.Names.{stored_key}
+use Rattle.std.proofs.Common.{⊎_elim}
+use Rattle.hashlink_model.specs.Lookups.{Updates, UpdatesFitting, UpdatesWithin}
+use Rattle.hashlink_model.specs.Weights.{fitting}
+use Rattle.hashlink_model.proofs.Splits.{lookup-here}
+use Rattle.hashlink_model.proofs.Distinct.{each-right}
+use Rattle.hashlink_model.proofs.Finds.{lookup_is, stored_key-equal}
+use Rattle.hashlink_model.proofs.Places.{none_before}
+use Rattle.hashlink_model.proofs.Puts.{put_back, IsEntries-put}
+use Rattle.hashlink_model.proofs.Afterwards.{length-put}
+use Rattle.hashlink_model.proofs.Caches.{last_entries-end, length-last_entries, cache_put-with_a_place}
+use Rattle.hashlink_model.proofs.Remaining.{last_stays, found_in_end}
+use Rattle.hashlink_model.proofs.Updates.{updates-put}
+use Rattle.hashlink_model.proofs.Weighted.{fitting-end, length-weighted_put}
+
+module _ {K V : Type 0} (eq : K → K → Bool) (laws : IsEquivalence eq) where
+  -- of an end of the list a look-up finds nothing, or what it finds of the whole
+  by_found : (q : K) (front back : List (K × V)) → IsEntries eq (front ++ back) → (o : Option (K × V))
+      → lookup_entry (eq q) back ≡ o
+      → (lookup (eq q) back ≡ None) ⊎ (lookup (eq q) back ≡ lookup (eq q) (front ++ back))
+  by_found q front back d None l = inl (lookup_is (eq q) back ∙ ap (option_map (λ e. e.1)) l)
+  by_found q front back d (Some e) l =
+      let whole = found_in_end eq laws q e front back d l in
+      inr (lookup_is (eq q) back ∙ ap (option_map (λ e. e.1)) (l ∙ sym whole)
+      ∙ sym (lookup_is (eq q) (front ++ back)))
+
+  in_the_end : (q : K) (n : ℕ) (es : List (K × V)) → IsEntries eq es
+      → (lookup (eq q) (drop n es) ≡ None) ⊎ (lookup (eq q) (drop n es) ≡ lookup (eq q) es)
+  in_the_end q n es d =
+      let whole = take-append-drop n es in
+      subst (λ zs. (lookup (eq q) (drop n es) ≡ None) ⊎ (lookup (eq q) (drop n es) ≡ lookup (eq q) zs)) whole
+      (by_found q (take n es) (drop n es) (subst (IsEntries eq) (sym whole) d)
+      (lookup_entry (eq q) (drop n es)) refl)
+
+  -- a key that was put last is in each end that is not empty
+  last_here : (es : List (K × V)) (k : K) (v : V) (front back : List (K × V))
+      → IsEntries eq (put eq es k v (length es)) → put eq es k v (length es) ≡ front ++ back
+      → 1 ≤ length back → lookup (eq k) back ≡ Some v
+  last_here es k v front back d is l =
+      let k0 = stored_key eq es k in
+      let s = last_stays (without eq es k) (k0, v) front back (sym (put_back eq es k v) ∙ is) l in
+      let whole : put eq es k v (length es) ≡ (front ++ s.0) ++ (k0, v) ∷ []
+      = is ∙ ap (λ zs. front ++ zs) s.1 ∙ sym (append_assoc front s.0 ((k0, v) ∷ [])) in
+      let same = stored_key-equal eq laws k es in
+      let none = none_before eq laws (front ++ s.0) (k0, v) [] k (subst (IsEntries eq) whole d) same in
+      ap (lookup (eq k)) s.1 ∙ lookup-here (eq k) (k0, v) [] same s.0 (each-right _ front s.0 none)
+
+  -- goal: the look-ups after an insert into a cache
+  pub updates-cache_put : (es : List (K × V)) (cap : ℕ) (k : K) (v : V)
+      → IsEntries eq (put eq es k v (length es)) → Updates eq es (put eq es k v (length es)) k (Some v)
+      → UpdatesWithin eq cap es (cache_put eq es cap k v) k v
+  updates-cache_put es cap k v d u =
+      let zs = put eq es k v (length es) in
+      let more = length-put eq es k v (length es) in
+      let few = length-last_entries zs cap in (
+        λ some. last_here es k v (take (length zs - cap) zs) (last_entries zs cap) d
+            (sym (last_entries-end zs cap)) (omega (arith, some, more, few)),
+        λ q n. ⊎_elim (λ e. inl e) (λ e. inr (e ∙ u.2 q n)) (in_the_end q (length zs - cap) zs d),
+        λ room. subst (λ ys. Updates eq es ys k (Some v)) (sym (cache_put-with_a_place eq es cap k v room)) u,
+      )
+
+  -- the same by the steps that it takes
+  pub updates-kept_last : (es mid new : List (K × V)) (cap : ℕ) (k : K) (v : V)
+      → mid ≡ put eq es k v (length es) → IsEntries eq mid → Updates eq es mid k (Some v)
+      → new ≡ last_entries mid cap → UpdatesWithin eq cap es new k v
+  updates-kept_last es mid new cap k v put_last d u kept =
+      let is : new ≡ cache_put eq es cap k v = kept ∙ ap (λ zs. last_entries zs cap) put_last in
+      subst (λ zs. UpdatesWithin eq cap es zs k v) (sym is)
+      (updates-cache_put es cap k v (subst (IsEntries eq) put_last d)
+      (subst (λ zs. Updates eq es zs k (Some v)) put_last u))
+
+  -- the same by the exact list
+  pub updates-pushed : (es new : List (K × V)) (cap : ℕ) (k : K) (v : V) → IsEntries eq es
+      → new ≡ cache_put eq es cap k v → UpdatesWithin eq cap es new k v
+  updates-pushed es new cap k v d is =
+      subst (λ zs. UpdatesWithin eq cap es zs k v) (sym is)
+      (updates-cache_put es cap k v (IsEntries-put eq laws es k v (length es) d)
+      (updates-put eq laws es k v (length es) d))
+
+-- goal: the look-ups after an insert into a cache with a budget
+pub updates-fitted : {K V : Type 0} (eq : K → K → Bool) → IsEquivalence eq
+    → (es mid new : List (K × (V × ℕ))) (budget : ℕ) (k : K) (v : V) (weight : ℕ)
+    → mid ≡ put eq es k (v, weight) (length es) → IsEntries eq mid → Updates eq es mid k (Some (v, weight))
+    → weight ≤ budget → new ≡ fitting mid budget → UpdatesFitting eq es new k (v, weight)
+updates-fitted eq laws es mid new budget k v weight put_last d u light kept =
+    let s = fitting-end mid budget in
+    let some : 1 ≤ length (fitting mid budget)
+    = subst (λ ys. 1 ≤ length (fitting ys budget)) (sym put_last)
+    (length-weighted_put eq es budget k v weight light) in
+    let whole = subst (IsEntries eq) s.1 d in
+    subst (λ ys. UpdatesFitting eq es ys k (v, weight)) (sym kept) (
+      last_here eq laws es k (v, weight) s.0 (fitting mid budget) (subst (IsEntries eq) put_last d)
+          (sym put_last ∙ s.1) some,
+      λ q n. ⊎_elim (λ e. inl e) (λ e. inr (e ∙ ap (lookup (eq q)) (sym s.1) ∙ u.2 q n))
+          (by_found eq laws q s.0 (fitting mid budget) whole (lookup_entry (eq q) (fitting mid budget)) refl),
+    )

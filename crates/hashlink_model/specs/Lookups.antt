@@ -1,0 +1,91 @@
+-- What a look-up finds after a change of the entries, in the words of std's maps and sets.
+use Rattle.std.specs.Prelude.{◌≡◌, ◌⊎◌, ℕ, ◌<◌, Bool, false, cond, List, length, Option, Some, None, IfSome}
+use Rattle.std.specs.Prelude.{MatchOption}
+use Rattle.std.specs.List.{list_any}
+use Rattle.std.specs.Map.{lookup, lookup_entry, set_value, KeepsOthers}
+use Rattle.std.specs.Set.{is_member}
+use Rattle.std.specs.Set.{KeepsOthers as KeepsOtherElements}
+use Rattle.hashlink_model.specs.Entries.{put}
+
+module _ {K V : Type 0} (eq : K → K → Bool) where
+  -- a key that passes the test has w now (`None`: it is absent), and each other key has what it had. The
+  -- parts are: of every key; of the test itself; of a key that does not pass; of a query for such keys
+  abbrev pub UpdatesBy : (K → Bool) → List (K × V) → List (K × V) → Option V → Type 0
+  UpdatesBy test old new w =
+      ((q : K) → lookup (eq q) new ≡ cond (test q) w (lookup (eq q) old)) × (lookup test new ≡ w)
+      × ((q : K) → test q ≡ false → lookup (eq q) new ≡ lookup (eq q) old) × KeepsOthers eq test old new
+
+  -- the test's key had a value, which is lent while the entries are es: once w is written there the key has w,
+  -- and each other key has what it had
+  abbrev pub UpdatesLent : (K → Bool) → List (K × V) → List (K × V) → Type 0
+  UpdatesLent test old es = (w : V) → UpdatesBy test old (set_value test es w) (Some w)
+
+  -- each key has what it had: every key, the test itself, and each query that is apart from it
+  abbrev pub KeepsLookups : (K → Bool) → List (K × V) → List (K × V) → Type 0
+  KeepsLookups test old new =
+      ((q : K) → lookup (eq q) new ≡ lookup (eq q) old) × (lookup test new ≡ lookup test old)
+      × KeepsOthers eq test old new
+
+module _ {K V : Type 0} (eq : K → K → Bool) where
+  -- `UpdatesBy`, at the key k
+  abbrev pub Updates : List (K × V) → List (K × V) → K → Option V → Type 0
+  Updates old new k w = UpdatesBy eq (eq k) old new w
+
+  -- the key stands last, and its value is lent: once w is written there the key has w, and each other key has
+  -- what it had
+  abbrev pub UpdatesLast : List (K × V) → K → Type 0
+  UpdatesLast old k = (w : V) → UpdatesBy eq (eq k) old (put eq old k w (length old)) (Some w)
+
+  -- the entry that a pop returned is absent now, and each other key has what it had
+  abbrev pub UpdatesPopped : List (K × V) → List (K × V) → Option (K × V) → Type 0
+  UpdatesPopped old new popped = IfSome popped (λ e. UpdatesBy eq (eq e.0) old new None)
+
+  -- each key but k has what it had, or was evicted
+  abbrev pub EvictsOthers : List (K × V) → List (K × V) → K → Type 0
+  EvictsOthers old new k =
+      (q : K) → eq k q ≡ false → (lookup (eq q) new ≡ None) ⊎ (lookup (eq q) new ≡ lookup (eq q) old)
+
+  -- an insert into a cache of the capacity `cap`: the key has v now, unless that is 0, and where there was a
+  -- place each other key has what it had
+  abbrev pub UpdatesWithin : ℕ → List (K × V) → List (K × V) → K → V → Type 0
+  UpdatesWithin cap old new k v =
+      (0 < cap → lookup (eq k) new ≡ Some v) × EvictsOthers old new k
+      × (length old < cap → UpdatesBy eq (eq k) old new (Some v))
+
+  -- an insert into a cache with a budget: the key has v now
+  abbrev pub UpdatesFitting : List (K × V) → List (K × V) → K → V → Type 0
+  UpdatesFitting old new k v = (lookup (eq k) new ≡ Some v) × EvictsOthers old new k
+
+module _ {F K V : Type 0} (T : F → K → V → Bool → V → F → Type 0) where
+  -- what `found` is of the key of an entry at which a closure was called: what that call left there, or
+  -- nothing, as it answered
+  abbrev pub AsAnswered : Option V → K × V → Type 0
+  AsAnswered found e =
+      (f : F) × (b : Bool) × (w : V) × (g : F) × T f e.0 e.1 b w g × (found ≡ cond b (Some w) None)
+
+  -- a retain: at each key that was there the closure was called, and its answer decides. No other key is there
+  abbrev pub UpdatesKept : (K → K → Bool) → List (K × V) → List (K × V) → Type 0
+  UpdatesKept eq old new =
+      ((q : K) → MatchOption (lookup_entry (eq q) old) (lookup (eq q) new ≡ None)
+      (AsAnswered (lookup (eq q) new)))
+      × ((test : K → Bool) → lookup test old ≡ None → lookup test new ≡ None)
+
+-- the same of a set, where a look-up answers whether an element is there
+module _ {T : Type 0} (eq : T → T → Bool) where
+  abbrev pub SetUpdatesBy : (T → Bool) → List T → List T → Bool → Type 0
+  SetUpdatesBy test old new b =
+      ((q : T) → is_member eq new q ≡ cond (test q) b (is_member eq old q)) × (list_any test new ≡ b)
+      × ((q : T) → test q ≡ false → is_member eq new q ≡ is_member eq old q)
+      × KeepsOtherElements eq test old new
+
+  abbrev pub SetKeepsLookups : (T → Bool) → List T → List T → Type 0
+  SetKeepsLookups test old new =
+      ((q : T) → is_member eq new q ≡ is_member eq old q) × (list_any test new ≡ list_any test old)
+      × KeepsOtherElements eq test old new
+
+module _ {T : Type 0} (eq : T → T → Bool) where
+  abbrev pub SetUpdates : List T → List T → T → Bool → Type 0
+  SetUpdates old new t b = SetUpdatesBy eq (eq t) old new b
+
+  abbrev pub SetUpdatesPopped : List T → List T → Option T → Type 0
+  SetUpdatesPopped old new popped = IfSome popped (λ t. SetUpdatesBy eq (eq t) old new false)

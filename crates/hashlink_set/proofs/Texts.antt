@@ -1,0 +1,37 @@
+-- Sets of texts: what is found of another text than the one that a call was for.
+use Rattle.std.proofs.Common.{◌≡◌, ◌≢◌, ℕ, Bool, true, false, List, sym, ◌∙◌, ⊎_elim}
+use Rattle.std.specs.Cmp.Lexicographic.{bytes_decides}
+use Rattle.std.specs.List.{list_any}
+use Rattle.std.specs.Map.{AreApart, IsKeyTest}
+use Rattle.std.specs.Set.{KeepsOthers}
+use Rattle.std.specs.Str.{bytes_eq}
+use Rattle.std.specs.String.{string_bytes, string_eq}
+use Rattle.std.specs.declared.string.String.{String}
+use Rattle.std.proofs.lemmas.Bool.{cases_Bool}
+use Rattle.std.proofs.lemmas.Cmp.{nat_list_eq_equiv}
+
+of_another : {T : Type 0} (eq : T → T → Bool) (test : T → Bool) (old new : List T)
+    → KeepsOthers eq test old new
+    → (other : T → Bool) → IsKeyTest eq other → AreApart test other → list_any other new ≡ list_any other old
+unfolding KeepsOthers
+of_another eq test old new kept = kept
+
+-- a text that equals one of two unequal ones differs from the other
+unequal_to : (asked removed text : List ℕ) → bytes_eq asked removed ≡ false → bytes_eq removed text ≡ true
+    → bytes_eq asked text ≡ false
+unequal_to asked removed text differ same =
+    let laws = nat_list_eq_equiv in
+    laws.symm asked text ∙ sym (laws.congr removed text asked same) ∙ laws.symm removed asked ∙ differ
+
+-- goal: a text is found as before, after a call for another one
+pub another_text : {A : Type 0} (removed asked : List ℕ) (old new : List (String A))
+    → KeepsOthers string_eq (λ text. bytes_eq removed (string_bytes text)) old new → removed ≢ asked
+    → list_any (λ text. bytes_eq asked (string_bytes text)) new
+    ≡ list_any (λ text. bytes_eq asked (string_bytes text)) old
+another_text removed asked old new kept apart =
+    ⊎_elim (λ same. absurd (apart (sym ((bytes_decides asked removed).0 same))))
+    (λ differ. of_another string_eq (λ text. bytes_eq removed (string_bytes text)) old new kept
+    (λ text. bytes_eq asked (string_bytes text))
+    (λ x y. nat_list_eq_equiv.congr asked (string_bytes x) (string_bytes y))
+    (λ text. unequal_to asked removed (string_bytes text) differ))
+    (cases_Bool (bytes_eq asked removed))

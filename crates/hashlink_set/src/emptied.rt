@@ -1,0 +1,27 @@
+//! Empty sets in place of others: for `mem::try_take`, and for `or_default` of an entry whose value is a set.
+ghost use Rattle.std.specs.Prelude.{◌≡◌, []};
+ghost use Rattle.hashlink_model.specs.Sets.{elements_of};
+
+use crate::set::LinkedHashSet;
+use std::alloc::{AllocError, Global};
+use std::default::{Emptied, MadeWith};
+use std::hash::{BuildHasher, Hash};
+
+/// Makes an empty set with the allocator of another and a clone of its hasher. It does not allocate but for
+/// that clone.
+impl<T: Eq + Hash, S: BuildHasher + Clone> Emptied for LinkedHashSet<T, S> {
+    ghost is_emptied = { λ s. (elements_of s ≡ []) × (s.spare ≡ 0) × (s.room ≡ 0) };
+
+    fn emptied(like: &LinkedHashSet<T, S>) -> Result<LinkedHashSet<T, S>, AllocError> {
+        Ok(LinkedHashSet::with_hasher(like.alloc, like.hasher().clone()?))
+    }
+}
+
+/// Makes an empty set with the default hasher of its type. It does not allocate.
+impl<T: Eq + Hash, S: BuildHasher + Default> MadeWith<Global> for LinkedHashSet<T, S> {
+    ghost is_made_with = { λ s. (elements_of s ≡ []) × (s.spare ≡ 0) × (s.room ≡ 0) };
+
+    fn made_with(alloc: Global) -> LinkedHashSet<T, S> {
+        LinkedHashSet::with_hasher(alloc, S::default())
+    }
+}

@@ -1,5 +1,0 @@
-use Rattle.hashlink.proofs.Walking.{on-some}
-use Rattle.hashlink_uses.proofs.maps.lent_values.write.Goals as goal
-
-pub returns-in-Some-clause-there : goal.returns-in-Some-clause-there
-returns-in-Some-clause-there g c = λ _. on-some c.in-Some.is (c.get_mut.follows.holds c.args.value)
