@@ -1,9 +1,9 @@
-"""Lines that need no memory, so that as many of them as are wanted ask for none."""
+"""Lines that need no memory, so repeating them makes no request for memory."""
 
 FULL_MAP = ("map", "insert 1 10", "insert 2 20", "insert 3 30", "remove 3")
 FULL_CACHE = ("cache 2", "insert 1 10", "insert 2 20", "insert 3 30")
 FULL_WEIGHTED = ("weighted 2", "insert 1 10 1", "insert 2 20 1")
-#: of a text: the lines that come first, and those that come again and again
+#: for a text: the lines that are run first, and the lines that are repeated
 OF_TEXTS = (
     (FULL_MAP, ("insert 1 10", "insert_front 1 10", "replace 1 10", "remove 9", "len", "keep")),
     (FULL_MAP, ("entry 1 or_insert 10", "entry 1 insert 10", "entry 1 insert_entry 10")),
@@ -14,8 +14,8 @@ OF_TEXTS = (
     (FULL_CACHE, ("insert 4 40", "use 5 50", "insert 6 60", "remove_lru", "insert 7 70")),
     (FULL_WEIGHTED, ("insert 1 10 1", "get 1", "insert 3 30 1", "insert 2 20 1")),
 )
-#: of a row: its second line and the calls that come first, and by how many items a call names, each of which
-#: is a block of its own, those calls that ask for no other
+#: for a row: its second line and the calls that are made first, and for each number of items that a call
+#: names, each of which is a separate block, the calls that make no other request
 OF_ROWS = (
     (
         "map\nextend 1 10 2 20 3 30\nremove 3",

@@ -1,30 +1,30 @@
-/* Loaded before a program (LD_PRELOAD). It is compiled for one of four uses: with -DFAULTS the program's
-   requests for memory, reads and writes fail (tools/oom); with -DSLICES it runs in turn with others, with
-   -DCOUNTS callgrind counts each of its rows apart, and with -DBYTES it says how much memory a row took
-   (tools/bench). FAULTS needs no header, COUNTS valgrind's. */
+/* Loaded before a program (LD_PRELOAD). It is compiled for one of four uses. With -DFAULTS the program's
+   requests for memory, reads and writes fail (tools/oom). The others are for tools/bench: with -DSLICES the
+   program runs by turns with others, with -DCOUNTS callgrind counts each of its rows separately, and with
+   -DBYTES it reports how much memory a row took. FAULTS needs no header, COUNTS valgrind's. */
 
 #if defined FAULTS
 
-/* Refuses requests for memory, fails reads and writes, or has them move one byte. Variables of the environment
-   name the first and the last request that is met, counted from 1:
+/* Refuses requests for memory, fails reads and writes, or has them move one byte. Variables of the
+   environment name the first and the last request that is met, counted from 1:
 
      REFUSE_FROM, REFUSE_TO   requests for memory, which are refused
      FAIL_FROM, FAIL_TO       reads and writes of standard input and output, which fail
      SHORT_FROM, SHORT_TO     reads and writes of several bytes there, which move one
 
-   For each that it met it writes a byte to the file descriptor that MET_FILE numbers, and as the program ends
-   one to that of LEFT_FILE for each block of memory that was not given back. To that of HELD_FILE, where it
-   is there, it writes a line at each request for memory: how many bytes the program has then.
+   For each request that it met it writes a byte to the file descriptor MET_FILE. When the program ends it
+   writes a byte to LEFT_FILE for each block of memory that was not freed. If HELD_FILE is set, it writes a
+   line to it at each request for memory: how many bytes the program then has.
 
-   Where EACH_FILE is there instead, the program runs once and is copied at each request for memory: one copy
-   goes on with this request refused, one with this and all that follow, and then the program itself, with
-   none. What a copy writes to standard output goes, once it ends, to the file descriptor that EACH_FILE
-   numbers, with what it wrote before it was copied:
+   If EACH_FILE is set instead, the program runs once and is copied at each request for memory: one copy
+   continues with this request refused, one with this and all that follow refused, and then the program itself
+   continues with none refused. When a copy ends, its standard output is written to the file descriptor
+   EACH_FILE, including the part from before it was copied:
 
-     said LEFT LENGTH         and then as many bytes; LEFT blocks of memory were not given back
-     ended NUMBER ALL STATUS  the copy that was made at that request, and whether all that follow were refused
+     said LEFT LENGTH         then LENGTH bytes follow; LEFT blocks of memory were not freed
+     ended NUMBER ALL STATUS  the copy made at request NUMBER; ALL is whether all that follow were refused
 
-   The last `said` is of the program itself. */
+   The last `said` belongs to the program itself. */
 
 typedef unsigned long size_t;
 typedef long ssize_t;
@@ -72,7 +72,7 @@ static unsigned long number_in(const char *name) {
     return number;
 }
 
-/* Counts one request, and says whether it is met. */
+/* Counts one request, and returns whether it is met. */
 static int is_met(struct range *range) {
     if (!range->is_read) {
         range->is_read = 1;
@@ -88,7 +88,7 @@ static int is_met(struct range *range) {
 /* How many blocks the program has, and how many bytes. */
 static unsigned long blocks, held;
 
-/* Whether the program is copied at each request, whether this is a copy, and what was written so far. */
+/* Whether the program is copied at each request, whether this is a copy, and the output so far. */
 static int is_each, is_copy;
 static char said[MOST_SAID];
 static size_t said_count;
@@ -106,7 +106,7 @@ static void tell(const char *bytes, size_t count) {
     }
 }
 
-/* Keeps what is written to standard output until the end. */
+/* Keeps the standard output until the end. */
 static ssize_t say(const void *bytes, size_t count) {
     if (count > MOST_SAID - said_count) abort();
     memcpy(said + said_count, bytes, count);
@@ -121,7 +121,7 @@ static void tell_said(void) {
 }
 
 /* Runs a copy to its end, in which this request, or this and all that follow, are refused. Returns whether
-   this is the copy. A copy reads on in the files that are open, so they are put back to where they were. */
+   this is the copy. A copy moves the positions of the open files, so they are restored. */
 static int run_copy(int is_all) {
     long places[FILES];
     char line[64];
@@ -213,7 +213,7 @@ __attribute__((destructor)) static void end(void) {
         for (; blocks; blocks--) syscall(SYSTEM_WRITE, number_in("LEFT_FILE"), "x", 1L);
 }
 
-/* Reads or writes, where it is not failed. */
+/* Reads or writes, unless the call has to fail. */
 static ssize_t move(long call, int file, const void *bytes, size_t count) {
     if (is_each && call == SYSTEM_WRITE && file == 1) return say(bytes, count);
     if (file == 0 || file == 1) {
@@ -244,14 +244,13 @@ IS_SEEN ssize_t __write(int file, const void *bytes, size_t count) {
 
 #elif defined SLICES
 
-/* Of the programs of a turn, which run side by side, lets one run at a time, all on one processor, so that what
-   else the machine does slows all of them alike. SLICES names a file of zeros that they share, SLICES_OF says
-   how many they are, SLICES_ME which of them this one is, from 0, and SLICES_ROWS how many rows of the others
-   come before its first.
+/* Lets one of the programs of a turn run at a time, all on one processor, so that whatever else the machine
+   does slows all of them alike. SLICES names a file of zeros that they share. SLICES_OF is their number,
+   SLICES_ME the index of this one, and SLICES_ROWS the number of rows of the others that precede its first.
 
-   Each program reads CLOCK_MONOTONIC before what it times and after it, and at no other time, and writes a
-   line for each row. Before what it times it lets another program run, if it has run for long enough or is a
-   row ahead of another. */
+   Each program reads CLOCK_MONOTONIC only directly before and after what it times, and writes a line for each
+   row. Before what it times it lets another program run, if it has run for long enough or is a row ahead of
+   another. */
 
 #define _GNU_SOURCE
 #include <dlfcn.h>
@@ -305,7 +304,7 @@ static void let_run(int program) {
     syscall(SYS_futex, &shared->running, FUTEX_WAKE, MOST_PROGRAMS, NULL, NULL, 0);
 }
 
-/* The next program that has not ended, of those that are no row ahead of this one; or this one. */
+/* The next program that has not ended and is not a row ahead of this one; or this one. */
 static int next_program(void) {
     for (int step = 1; step < of; step++) {
         int program = (me + step) % of;
@@ -385,8 +384,8 @@ ssize_t write(int file, const void *bytes, size_t count) {
 
 #elif defined COUNTS
 
-/* At each write to standard output, which the bench makes once for each row, callgrind writes out what it has
-   counted since the last. */
+/* At each write to standard output, which the bench makes once for each row, callgrind writes out its counts
+   since the last one. */
 
 #define _GNU_SOURCE
 #include <dlfcn.h>
@@ -407,8 +406,8 @@ ssize_t write(int file, const void *bytes, size_t count) {
 
 #elif defined BYTES
 
-/* The program reads CLOCK_MONOTONIC before what it times and after it. As it ends this writes to the file
-   descriptor that BYTES_FILE numbers by how many bytes its blocks of memory had grown, the last time. */
+/* The program reads CLOCK_MONOTONIC before and after what it times. When it ends, this writes to the file
+   descriptor BYTES_FILE by how many bytes its blocks of memory grew in between, the last time. */
 
 #define _GNU_SOURCE
 #include <dlfcn.h>
@@ -427,7 +426,7 @@ void __libc_free(void *);
 
 static long held, grown;
 
-/* With what comes before each block. */
+/* The size of a block with the word before it. */
 static long size_of(void *block) {
     return block ? (long)(malloc_usable_size(block) + sizeof(size_t)) : 0;
 }

@@ -23,13 +23,13 @@ def below(name, lines):
 
 
 def stands_on_of(file):
-    """Each crate of a crates.txt, lowest first, with those of them that it stands on."""
+    """Each crate of a crates.txt, lowest first, with the crates of it on which it depends."""
     lines = lines_of(file)
     return {name: [it for it in below(name, lines) if it in lines] for name in lines}
 
 
 def all_below(name, stands_on):
-    """The crate after those that it stands on, directly or not, each once."""
+    """The crate after all crates on which it depends, directly or not, each once."""
     order = []
     for other in [it for each in stands_on[name] for it in all_below(each, stands_on)] + [name]:
         if other not in order:

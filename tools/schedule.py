@@ -1,9 +1,10 @@
-"""Proves crates side by side, each after those that it stands on.
+"""Proves crates in parallel, each after the crates on which it depends.
 
-A crate's chain is the crate and those above it that have to follow one after the other, by their lines of
-code: those that end in a brace or a semicolon, since a law without a body is quickly proved. The crates with
-the longest chains begin first, and the first of them gets the processors that are left over. A check that is
-split between processors takes half as much processor time again.
+A crate's chain is the crate and the longest sequence of crates above it that have to follow one after
+another, measured in lines of code. These are the lines that end in a brace or a semicolon, because a law
+without a body is quickly proved. The crates with the longest chains begin first, and the first of them gets
+the processors that are left over. A check that is split between processors takes half as much processor time
+again.
 """
 
 import os
@@ -11,6 +12,7 @@ import re
 import sys
 import tempfile
 import time
+from graphlib import TopologicalSorter
 from pathlib import Path
 
 from repository import all_below
@@ -23,10 +25,12 @@ class Schedule:
     """Which crates to begin next, and with how many processors."""
 
     def __init__(self, crates, folder, stands_on, processors=None):
-        """The crates lie in the folder. What they stand on is among them, or done."""
+        """The crates are in the folder. The crates on which they depend are among them, or done."""
         self.stands_on = stands_on
         self.waiting = [name for name in stands_on if name in crates]
-        self.total, self.done, self.running = len(self.waiting), 0, {}
+        self.total, self.done, self.running, self.ready = len(self.waiting), 0, {}, []
+        self.order = TopologicalSorter({name: self.below(name) for name in self.waiting})
+        self.order.prepare()
         self.processors = processors or len(os.sched_getaffinity(0))
         self.lines = {name: lines_in(folder / name / "src") for name in self.waiting}
         self.chains = {name: self.chain(name) for name in reversed(self.waiting)}
@@ -35,19 +39,18 @@ class Schedule:
         above = [self.chain(it) for it in self.waiting if name in self.stands_on[it]]
         return self.lines[name] + max(above, default=0)
 
-    def is_ready(self, name):
-        left = {*self.waiting, *self.running} - {name}
-        return left.isdisjoint(all_below(name, self.stands_on))
+    def below(self, name):
+        return [it for it in all_below(name, self.stands_on)[:-1] if it in self.waiting]
 
     def begin(self):
-        """Begins crates while processors are idle, and returns them with how many each gets: one, and the
-        first what is left over, or all, where every other crate that is left stands on it: what still runs
-        ends soon. What is left over goes to none but the longest chain."""
-        ready = sorted(filter(self.is_ready, self.waiting), key=lambda it: -self.chains[it])
+        """Begins crates as long as processors are idle, and returns each with its number of processors. It is
+        one, but the first crate also gets what is left over, and it gets all if every other crate left
+        depends on it, because what still runs ends soon. Only the longest chain gets what is left over."""
+        self.ready = sorted([*self.ready, *self.order.get_ready()], key=lambda it: -self.chains[it])
         idle = self.processors - sum(self.running.values())
-        if not ready or (self.running and idle <= 0):
+        if not self.ready or (self.running and idle <= 0):
             return {}
-        first, begun = ready[0], ready[: max(idle - 1, 1)]
+        first, begun = self.ready[0], self.ready[: max(idle - 1, 1)]
         jobs = dict.fromkeys(begun, 1)
         if all(first in all_below(it, self.stands_on) for it in self.waiting):
             jobs = {first: self.processors}
@@ -55,9 +58,11 @@ class Schedule:
             jobs[first] = max(idle + 1 - len(begun), 1)
         self.running |= jobs
         self.waiting = [it for it in self.waiting if it not in jobs]
+        self.ready = [it for it in self.ready if it not in jobs]
         return jobs
 
     def end(self, name):
+        self.order.done(name)
         del self.running[name]
         self.done += 1
 
@@ -80,7 +85,7 @@ def planned(schedule):
 
 
 class Log:
-    """What a command wrote."""
+    """The output of a command."""
 
     def __init__(self):
         self.file = tempfile.NamedTemporaryFile()
@@ -90,8 +95,8 @@ class Log:
 
 
 class Progress:
-    """What standard error shows: at a terminal one line that is kept up to date, else a line as each crate
-    begins and ends."""
+    """The progress on standard error: at a terminal in one line that is kept up to date, else in a line as
+    each crate begins and ends."""
 
     def __init__(self, who, schedule):
         self.who, self.schedule = who, schedule
@@ -104,7 +109,7 @@ class Progress:
         return f"{self.who}: {seconds // 60}:{seconds % 60:02}, {done}; {text}"
 
     def show(self, text):
-        """A line that stays, but at a terminal."""
+        """A line that stays, except at a terminal."""
         if not self.is_terminal:
             print(self.line(text), file=sys.stderr, flush=True)
 
@@ -119,9 +124,9 @@ class Progress:
 
 
 def prove_all(who, schedule, begin):
-    """Proves the crates of the schedule, and returns whether all are proved. `begin` begins a crate with its
-    name and its processors. What it returns has a process, and once that has ended says by `ends_well`
-    whether the crate is proved, and by its log what was said."""
+    """Proves the crates of the schedule, and returns whether all are proved. `begin` begins a crate, by its
+    name and its number of processors. It returns an object with a process; after that has ended, `ends_well`
+    returns whether the crate is proved, and the log has the output."""
     progress, runs = Progress(who, schedule), {}
     try:
         while schedule.waiting or runs:

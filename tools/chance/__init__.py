@@ -1,1 +1,1 @@
-"""Texts and rows that are drawn at random, and how one that shows a difference is made short."""
+"""Random texts and rows, and how a text or a row that shows a difference is shortened."""

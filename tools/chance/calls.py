@@ -1,8 +1,8 @@
-"""The calls of random rows: what the lines of each kind of row are made of.
+"""The calls of random rows: the lines of each kind of row.
 
 A word in capitals is a symbol. It stands for a number or an item, which rows.py draws, or for one of the
-lines of SYMBOLS. With `?` it may be left out, and with `*` any number of it come. A number in front of a line
-is how often it is drawn beside the others.
+lines of SYMBOLS. A symbol with `?` may be left out, and one with `*` may occur any number of times. A number
+in front of a line is its weight among the lines.
 """
 
 from plain_list.commands import ENTRY_NUMBERS, NUMBERS, STEP_NUMBERS
@@ -12,7 +12,7 @@ from .texts import OFTEN, SELDOM
 
 
 def spelled(numbers):
-    """Each word with as many numbers as it takes."""
+    """Each word with the number of numbers that it takes."""
     often = {**dict.fromkeys(OFTEN, 30), **dict.fromkeys(SELDOM, 1)}
     return tuple(f"{often.get(word, 10)} {word}{' NUMBER' * count}" for word, count in numbers.items())
 
@@ -64,11 +64,11 @@ SYMBOLS = {
     ),
 }
 
-# those of commands
+# the steps of commands
 SYMBOLS["COMMAND_MOVE"] = spelled(STEP_NUMBERS)
 SYMBOLS["COMMAND_ENTRY"] = (*spelled(ENTRY_NUMBERS), "5 replace_key", "5 remove_entry")
 
-#: calls of many pairs, of a map and of a cache
+#: calls of a map and of a cache about many pairs
 MANY = ("extend PAIR*", "extend_from PAIR*", "extend_kept PAIR*", "extend_by_trait PAIR*")
 WALKS = (
     *("2 iter STEP* CLONED?", "keys STEP* CLONED?", "values STEP* CLONED?"),
@@ -141,7 +141,7 @@ CACHE = {
     "entry": ("entry KEY ENTRY",),
     "raw": ("2 raw WAY KEY FOUND", "raw WAY KEY OR_INSERT"),
     "walk": WALKS,
-    "drain": ("drain STEP*", "into_iter STEP*"),
+    "drain": ("2 drain STEP*", "forgotten_drain STEP*", "into_iter STEP*"),
     "retain": ("retain CACHE_KEEP", "retain_from CACHE_KEEP"),
     "room": ("3 set_capacity CAPACITY", "clone"),
     "many": MANY,
@@ -164,7 +164,7 @@ COMMANDS = {
         "5 remove_entry NUMBER",
     )
 }
-# A cache's length is asked for by texts alone.
+# Only texts ask for the length of a cache.
 CACHE_WORDS = {word: count for word, count in NUMBERS["cache"].items() if word != "len"}
 CACHE_COMMANDS = {"command": (*spelled(CACHE_WORDS), ENTRY_COMMAND)}
 PAIR_COMMANDS = {"command": spelled({word: NUMBERS["cache"][word] for word in PAIR_WORDS})}
@@ -173,7 +173,7 @@ USES = {"command": ("use NUMBER NUMBER",)}
 COPIED_MAP = {"many": ("extend_ref PAIR*", "extend_by_trait PAIR*")}
 COPIED_SET = {"many": ("extend_ref KEY*", "extend_by_trait KEY*")}
 
-#: the second lines of rows, how often they are drawn, and the calls of their lines
+#: the second lines of rows, their weights, and the calls of their lines
 KINDS = {
     "map": (8, MAP),
     "set": (6, SET),
@@ -187,22 +187,22 @@ KINDS = {
     "copied_set": (0.2, COPIED_SET),
 }
 
-#: how often each group of calls is drawn
+#: the weight of each group of calls
 GROUPS = {
     **dict(read=4, put=9, take=4, lend=4, entry=8, raw=8, cursor=9, walk=8, drain=1.5, retain=1.5),
     **dict(room=4, many=2, make=1, both=9, inside=12, command=1),
 }
-#: in half of the rows: how often each group is drawn at times, and after a call of these groups. So what one
-#: of them leaves, as a table without room, is soon met by an insert of each form
+#: in half of the rows: the weight of each group at times, and after a call of these groups. So the state that
+#: one of them leaves, such as a table without room, soon meets an insert of each form
 LEAVING = dict(room=6, retain=0.5, drain=0.3, make=0.1)
 AFTER = {**GROUPS, **dict(put=12, entry=30, raw=60, cursor=15, retain=4, drain=2, room=4, many=4, both=15)}
-#: how much more or less often a group is drawn while a container is to grow, or to shrink
+#: the factor of a group's weight while a container has to grow, or to shrink
 MOODS = {
     "as it comes": {},
     "grow": dict(put=3, many=3, take=0.3, drain=0.3, retain=0.5, make=0.3),
     "shrink": dict(put=0.4, many=0.3, take=3, retain=2),
 }
-#: after a call of these groups a container may be empty, and half of the time is to grow
+#: after a call of these groups a container may be empty, and in half of the cases it has to grow
 EMPTYING = ("drain", "make")
-#: the groups of the calls that change a container most simply
+#: the groups of the calls that change a container in the simplest way
 SIMPLE = ("put", "take", "lend", "command")

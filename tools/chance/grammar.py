@@ -10,7 +10,7 @@ from plain_list.rows import Row, rows_of
 from .calls import KINDS, SIMPLE, SYMBOLS
 
 NAME = "random calls"
-#: the symbols that are drawn in rows.py, and what reads them
+#: the symbols that rows.py draws, and the patterns that match them
 DIGITS = r"(?:0|[1-9]\d{0,18}|1844674407370955161[0-5])"  # less than GREATEST
 WRITTEN = {
     **dict.fromkeys(("KEY", "VALUE", "NEW", "WEIGHED"), rf"{DIGITS}(?:\.{DIGITS})?"),
@@ -18,13 +18,14 @@ WRITTEN = {
     **dict.fromkeys(("COUNT", "NUMBER"), DIGITS),
     "RANGE": f"{DIGITS} {DIGITS}",
 }
-#: the words before a call: for which numbers it is made, which container it calls, and whether a cache's map
+#: the words before a call: the numbers for which it is made, which container it calls, and whether it calls a
+#: cache's map
 BEFORE = re.compile(rf"(each {WRITTEN['RANGE']} )?(other )?(inside )?(both )?")
 
 
 @cache
 def weights_of(lines):
-    """The lines, and how often each is drawn beside the others."""
+    """The lines, and the weight of each."""
     return dict(map(parted, lines))
 
 
@@ -34,19 +35,19 @@ def parted(line):
 
 
 def are_two(calls):
-    """Whether a row of these calls has two containers. A list of commands is run by one."""
+    """Whether a row of these calls has two containers. A list of commands has one."""
     return "command" not in calls
 
 
 def with_words(words, call):
-    """The call with words before it, but behind `each` and its numbers."""
+    """The call with words before it, but after `each` and its numbers."""
     before = BEFORE.match(call)[1] or ""
     return f"{before}{words} {call.removeprefix(before)}"
 
 
 @cache
 def reader_of(symbol):
-    """What reads the symbol, with a space before each word."""
+    """The pattern for the symbol, with a space before each word."""
     if symbol.endswith(("?", "*")):
         return f"(?:{reader_of(symbol[:-1])}){symbol[-1]}"
     if symbol in SYMBOLS:
@@ -78,12 +79,12 @@ def is_line(calls, line):
 
 
 def calls_of(kind):
-    """The calls of rows whose second line it is, if there are such."""
+    """The calls of rows with this second line, if there are any."""
     return next((calls for line, (_, calls) in KINDS.items() if is_one_of((line,), kind)), None)
 
 
 def is_row(text):
-    """Whether the text is such a row."""
+    """Whether the text is a row."""
     lines = text.split("\n")
     if len(lines) < 4 or lines[0] != NAME or lines[-1]:
         return False
@@ -92,13 +93,13 @@ def is_row(text):
 
 
 def row_of(text):
-    """The row that the text is."""
+    """The row with this text."""
     name, kind, lines = text.removesuffix("\n").split("\n", 2)
     return Row(NAME, 1, name, kind, lines, 3)
 
 
 def short_lines(lines, at):
-    """Those that may stand in place of one of a row: the shortest first, then the least."""
+    """The lines that may replace one of a row, the shortest first, then the least."""
     calls = calls_of(lines[1]) or {}
     if at == 1:
         short = [it for kind in KINDS for it in with_small_numbers(kind)]
@@ -112,7 +113,7 @@ def short_lines(lines, at):
 
 
 def with_small_numbers(line):
-    """The line with each choice of small numbers, if all its symbols are such."""
+    """The line with each choice of small numbers, if all its symbols are numbers or items."""
     words = line.split(" ")
     if any(word.upper() == word and word not in WRITTEN for word in words) or "RANGE" in words:
         return []
@@ -121,12 +122,12 @@ def with_small_numbers(line):
 
 
 def bound(text, hasher):
-    """The row under this hasher alone."""
+    """The row under this hasher only."""
     return text.replace("\n", f"\n{hasher} ", 1)
 
 
 def forgotten(folder):
-    """The lines of worked rows that no random row could have, with their place."""
+    """The lines of worked rows that no random row can have, with their places."""
     hashers = "|".join(HASHERS)
     for file in sorted(folder.glob("*.rows")):
         for row in rows_of(file, file.name):
@@ -137,10 +138,10 @@ def forgotten(folder):
 
 
 def is_comment_or_count(line):
-    """What says how much was counted is not drawn, since a list does not know it."""
+    """Whether the line is a comment, or asks for a count, which the reference model does not know."""
     return line.startswith("#") or line.split(" ")[-1] in COUNTED
 
 
 def of_one(line):
-    """A line of `each`, made for the number 1 alone."""
+    """A line of `each`, made for the number 1 only."""
     return re.sub(r"\bn\b", "1", re.sub(r"^each \d+ \d+ ", "", line))

@@ -11,30 +11,30 @@ from plain_list.words import DONE, GREATEST, Answers, Words
 from .calls import AFTER, EMPTYING, GROUPS, KINDS, LEAVING, MOODS, SYMBOLS
 from .grammar import NAME, WRITTEN, are_two, weights_of, with_words
 
-#: how many there are at most of what may come any number of times
+#: the greatest number of repetitions of a symbol that may be repeated
 MANY = (0, 2, 3, 5, 12)
-#: how often a call is one of the second container, and how often one of each: where nothing or little is
-#: called of both, and where both are alike, or are so but for few calls
+#: how often a call is made on the second container, and how often on each: in rows with few or no calls on
+#: both, and in rows whose two containers stay alike, up to a few calls
 APART, ALIKE = ((0, 0), (0.3, 0)), ((0.1, 0.7), (0.02, 0.95))
 
 
 class RandomRow:
-    """Random lines out of a number of keys that is random as well. A plain list follows them, so that some
-    calls are of keys that are there, and some steps go up to an end."""
+    """Random lines over a random number of keys. The reference model follows them, so that some calls are
+    about present keys, and some steps go up to an end."""
 
     def __init__(self, seed):
         self.random = random.Random(seed)
-        # The reader of rows lets an iterator over two sets take no more than 64 steps.
+        # The reader of rows makes at most 64 steps of an iterator over two sets.
         self.keys = self.random.choice((3, 8, 20, 40, 60))
         self.mood = "grow"
-        #: the group of the last call, and whether what it leaves is soon met by others
+        #: the group of the last call, and whether the other groups soon meet the state that it leaves
         self.last, self.is_followed = None, self.below(2) == 0
-        #: how often a call is one of the second container, and how often one of each
+        #: how often a call is made on the second container, and how often on each
         self.other, self.alike = 0, 0
         self.lists = ()
 
     def chosen(self, weights):
-        """One of the keys of a dictionary, as often as it says."""
+        """One of the keys of a dictionary, by its weights."""
         return self.random.choices(list(weights), weights.values())[0]
 
     def below(self, number):
@@ -57,7 +57,7 @@ class RandomRow:
         return "\n".join(lines) + "\n"
 
     def follow(self, kind, lines):
-        """Has the lists answer the lines. What is wrong with a line is for the judge to tell."""
+        """Lets the models answer the lines. The judge finds what is wrong with a line."""
         with contextlib.suppress(Exception):
             for _, _, words in Row(NAME, 1, NAME, kind, lines, 3).calls() if self.lists else ():
                 say(self.lists, words, Answers([DONE]))
@@ -67,8 +67,8 @@ class RandomRow:
         return self.lists[0].list.pairs if self.lists else []
 
     def lines(self, calls):
-        """A call of one of two containers, of the two, or of each. Where both are alike, a call of one is at
-        times followed by one of the two."""
+        """A call of one of two containers, of both together, or of each. If both are alike, a call of one is
+        at times followed by a call of both."""
         call = self.call(calls)
         draw = self.random.random()
         if call.startswith("both "):
@@ -79,7 +79,7 @@ class RandomRow:
         return [with_words("other", call) if draw < self.alike + self.other else call, *last]
 
     def call(self, calls):
-        """A call of one container, or of the two."""
+        """A call of one container, or of both together."""
         if self.below(8) == 0:
             self.mood = self.random.choice(list(MOODS))
         left_out = () if self.other else ("both",)
@@ -94,7 +94,7 @@ class RandomRow:
         return self.both(calls) if group == "both" else self.line_of(calls[group])
 
     def often(self):
-        """How often each group is drawn now."""
+        """The weight of each group now."""
         if self.is_followed and self.last in LEAVING:
             return AFTER
         return LEAVING if self.is_followed and self.below(3) == 0 else GROUPS
@@ -106,7 +106,7 @@ class RandomRow:
         return self.words(self.chosen(weights_of(lines)))
 
     def words(self, line):
-        """The line with something in place of each symbol."""
+        """The line with each symbol replaced."""
         return " ".join(words for symbol in line.split(" ") if (words := self.symbol(symbol)))
 
     def symbol(self, symbol):
@@ -120,7 +120,7 @@ class RandomRow:
         return getattr(self, symbol.lower())() if symbol in WRITTEN else symbol
 
     def group(self):
-        """A key's group, which at times is there, at times is not, and at times is the greatest."""
+        """A key's group, which at times is present, at times absent, and at times the greatest."""
         there = [key[0] for key, _ in self.there()]
         if there and self.below(3) == 0:
             return self.random.choice(there)
@@ -130,7 +130,7 @@ class RandomRow:
         return self.below(self.keys) if self.below(50) else GREATEST - 1
 
     def item(self, group):
-        """An item of the group, whose number tells which of equal ones it is."""
+        """An item of the group, whose number shows which of several equal items it is."""
         return f"{group}.{1 + self.below(9)}" if self.below(3) == 0 else str(group)
 
     def key(self):
@@ -146,26 +146,26 @@ class RandomRow:
         return str(self.group())
 
     def weighed(self):
-        """A value whose number is its weight, which at times is more than any budget but the greatest."""
+        """A value whose number is its weight, which at times is more than any budget except the greatest."""
         return f"{self.below(10)}.{self.random.choice((0, 1, 1, 2, 3, self.below(10), self.below(200)))}"
 
     def size(self):
         return str(self.below(self.random.choice((4, 12, 2 * self.keys)))) if self.below(12) else "max"
 
     def capacity(self):
-        """A capacity, half of the time such that few pairs have no place."""
+        """A capacity, in half of the cases one for which few pairs are too many."""
         if self.there() and self.below(2):
             return str(max(len(self.there()) - self.below(4), 0))
         return str(self.random.choice((0, 1, 2, 3, 5, 12, 25, 50, "max")))
 
     def count(self):
-        """A number of steps, half of the time so many that few are left."""
+        """A number of steps, in half of the cases one after which few are left."""
         if self.below(2):
             return str(max(len(self.there()) - self.below(4), 0))
         return str(self.below(self.keys + 2))
 
     def range(self):
-        """The first and the last of some numbers, all of them keys, and at times the whole of them."""
+        """The first and the last of some consecutive numbers, all of them keys, and at times all keys."""
         if self.below(6) == 0:
             return f"0 {self.keys - 1}"
         first = self.below(self.keys)

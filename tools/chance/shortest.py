@@ -1,21 +1,21 @@
-"""What is as short as can be and shows the same."""
+"""Shortens a text that shows a difference."""
 
 import itertools
 import re
 import time
 
-#: for so many seconds shorter texts are tried
+#: shorter texts are tried for this many seconds
 PATIENCE = 120
-#: so many pieces in a row, or fewer, are left out wherever they stand
+#: at most this many consecutive pieces are left out wherever they occur
 FEW = 4
-#: less numbers than this stand in place of others
+#: numbers less than this replace others
 SMALL = 64
 
 
 def shortest(text, short_lines, is_kept):
-    """The text without the lines, words and bytes that can be left out while the rest is kept, and with the
-    shortest lines, words and numbers that can stand in place of the others. `short_lines` has those that may
-    stand in place of one of the lines, in the order in which they are tried."""
+    """The text without the lines, words and bytes that can be left out, and with the shortest lines, words
+    and numbers that can replace the others, as long as `is_kept` holds. `short_lines` has the lines that may
+    replace one of the lines, in the order in which they are tried."""
     end = time.monotonic() + PATIENCE
 
     def is_kept_in_time(text):
@@ -34,7 +34,7 @@ def shortest(text, short_lines, is_kept):
 
 
 def less(pieces, is_kept):
-    """Leaves out many of the pieces at a time first, and one at a time last."""
+    """Leaves out many pieces at a time first, and one at a time last."""
     for size in sizes(len(pieces)):
         at = 0
         while at < len(pieces):
@@ -47,7 +47,7 @@ def less(pieces, is_kept):
 
 
 def sizes(count):
-    """How many are left out at a time."""
+    """How many pieces are left out at a time."""
     size = count // 2
     while size > FEW:
         yield size
@@ -56,7 +56,7 @@ def sizes(count):
 
 
 def with_short_lines(lines, short_lines, is_kept):
-    """Puts the first line that can stand there in place of each line."""
+    """Replaces each line by the first line that can replace it."""
     for at, line in enumerate(lines):
         for other in short_lines(lines, at):
             if (len(other), other) >= (len(line), line):
@@ -68,7 +68,7 @@ def with_short_lines(lines, short_lines, is_kept):
 
 
 def without_words(text, is_kept):
-    """Leaves out words, each wherever it stands."""
+    """Leaves out words, each wherever it occurs."""
     for word in sorted(set(text.split())):
         shorter = re.sub(rf"(?<!\S){re.escape(word)} ", "", text)
         if is_kept(shorter):
@@ -77,8 +77,8 @@ def without_words(text, is_kept):
 
 
 def with_less_words(text, is_kept):
-    """Puts a shorter word of the text, or a less one, in place of each, wherever it stands, and less numbers
-    in place of numbers."""
+    """Replaces each word by a shorter word of the text, or a lesser one, wherever it occurs, and numbers by
+    lesser numbers."""
     for word in words_of(text):
         if word.isdigit():
             others = [str(number) for number in range(min(int(word), SMALL))]
@@ -93,7 +93,7 @@ def with_less_words(text, is_kept):
 
 
 def with_two_less(text, is_kept):
-    """Makes two numbers less by as much, wherever they stand."""
+    """Lowers two numbers by the same amount, wherever they occur."""
     numbers = [word for word in words_of(text) if word.isdigit()]
     for two in itertools.combinations(numbers, 2):
         by = min(map(int, two))

@@ -7,17 +7,17 @@ from plain_list.commands import ENTRY_NUMBERS, NUMBERS, STEP_NUMBERS
 from plain_list.texts import MODE_NUMBERS, PAIR_WORDS
 from plain_list.words import GREATEST
 
-#: texts of any first line: so many for each of the others, of so many lines at most, since after a bad first
-#: line nothing is answered
+#: texts with any first line: this many for each of the others, of at most this many lines, because nothing is
+#: answered after a bad first line
 FIRST_LINE, FIRST_TEXTS, FIRST_LINES = "first", 10, 5
 OFTEN = ("insert", "use", "cursor", "entry")
 SELDOM = ("clear", "keep", "set_capacity")
-#: in place of a word, or as a word more
+#: words that replace a word, or are added
 BAD_WORDS = ("", "01", "-1", "+1", "1.0", "0x1", str(GREATEST), "1_0", "up", "GET", "1\r", "\t", "\0", "\xff")
 
 
 class RandomText:
-    """Random lines out of a number of keys that is random as well."""
+    """Random lines over a random number of keys."""
 
     def __init__(self, seed, modes):
         self.random = random.Random(seed)
@@ -31,7 +31,7 @@ class RandomText:
         return self.below(self.keys) if self.below(50) else GREATEST - 1
 
     def with_numbers(self, word, count):
-        """A word with so many numbers after it."""
+        """A word with the given number of numbers after it."""
         return " ".join([word, *(str(self.number()) for _ in range(count))])
 
     def word_of(self, words):
@@ -59,8 +59,8 @@ class RandomText:
         return " ".join([mode, *map(str, numbers)])
 
     def damaged(self, line):
-        """A line that most often is bad: a word is another one, left out, or there twice, there is one more,
-        they stand in another order, or it is a line of any mode."""
+        """A line that is bad in most cases: a word is replaced, left out, repeated or added, words are
+        swapped, or it is a line of any mode."""
         words = line.split(" ")
         at = self.below(len(words))
         damage = self.below(6)
@@ -80,12 +80,12 @@ class RandomText:
         return " ".join(words)
 
     def line(self, line, among):
-        """The line, or one time in so many one that is damaged."""
+        """The line or, one time in `among`, a damaged one."""
         return line if self.below(among) else self.damaged(line)
 
     def text(self, mode, count):
-        """A text of the mode with so many lines after the first, which is good; or one of any mode, with few
-        lines and a first one that is damaged half of the time."""
+        """A text of the mode with this many lines after the first, which is good; or a text of any mode with
+        few lines, whose first line is damaged in half of the cases."""
         if mode == FIRST_LINE:
             mode, count, among = self.random.choice(self.modes), self.below(FIRST_LINES + 1), 2
             lines = [self.line(self.first_line(mode), among)]
@@ -96,7 +96,7 @@ class RandomText:
 
 
 def short_lines(modes, lines, at):
-    """Those that may stand in place of one of a text: the shortest first, then the least."""
+    """The lines that may replace one of a text, the shortest first, then the least."""
     first = lines[0].split(" ")[0]
     if at == 0:
         return with_small_numbers({mode: MODE_NUMBERS[mode] for mode in modes})
@@ -104,7 +104,7 @@ def short_lines(modes, lines, at):
 
 
 def with_small_numbers(numbers):
-    """Each word with small numbers, as many as it takes, and `iter`: the shortest first, then the least."""
+    """Each word with small numbers, as many as it takes, and `iter`, the shortest first, then the least."""
     lines = ["iter"]
     for word, count in numbers.items():
         lines += [" ".join([word, *these]) for these in itertools.product("012", repeat=count)]

@@ -1,29 +1,29 @@
-"""Wrong answers to rows of random calls, each of which the judge has to tell."""
+"""Wrong answers to rows of random calls, each of which the judge has to find."""
 
 import re
 
 from plain_list.judge import KINDS, Judge, WrongRow
 
 OTHER_WORDS = {"yes": "no", "no": "yes", "ok": "no", "-": "0", "overflow": "no", "heavy": "memory"}
-#: what a list does not know of maps and sets, and the rows where they stand
+#: the words of maps and sets that the reference model does not know, and the rows in which they occur
 ASKED = ("room", "capacity", "under")
 SHOW_ROOM = ("map", "set", "copied_map", "copied_set", "commands")
 
 
 def judged(row, said):
-    """What is wrong with what was said of the row, or nothing."""
+    """What is wrong with the output for the row, or nothing."""
     try:
         counts = Judge().judge([row], said)
     except WrongRow as wrong:
         return str(wrong)
-    except Exception as error:  # the row is to be shown, whatever it is
+    except Exception as error:  # the row has to be shown, whatever it is
         return f"{type(error).__name__}: {error}"
-    return None if counts == (0, 0) else f"refusals with nothing refused, or nothing said: {said}"
+    return None if counts == (0, 0) else f"refusals although no request failed, or no output: {said}"
 
 
 def damaged(row, said, random):
-    """What was said with something wrong in one line: a word is another one, left out, there twice, or there
-    where none was, or two stand in another order."""
+    """The output with an error in one line: a word is replaced, left out, repeated or added, or two are
+    swapped."""
     lines = said.split("\n")
     at, is_capacity_known = random.choice(known_lines(row, lines))
     words = lines[at].split(" ")
@@ -33,7 +33,7 @@ def damaged(row, said, random):
 
 
 def known_lines(row, lines):
-    """The numbers of the lines that a list knows, and whether it knows the second word of each."""
+    """The numbers of the lines that the model knows, and whether it knows the second word of each."""
     calls = [words.words for _, _, words in row.calls()]
     kind = row.mode.split(" ")[0]
     known, count = [], 0
@@ -42,7 +42,7 @@ def known_lines(row, lines):
             count = 0
         elif line.startswith(("=", "+")):
             is_answer = line.startswith("=")
-            # Of each call there are three lines, if the row is no list of commands.
+            # There are three lines for each call, if the row is not a list of commands.
             is_asked = is_answer and kind in KINDS and set(ASKED) & set(calls[count // 3])
             if not is_asked:
                 known.append((at, is_answer or kind not in SHOW_ROOM))
@@ -51,7 +51,7 @@ def known_lines(row, lines):
 
 
 def with_damage(words, places, random):
-    """The words of a line, of which those at these places are known to a list, with something wrong."""
+    """The words of a line with an error. The model knows the words at these places."""
     damage = random.randrange(5)
     if damage == 0 or not places:
         return [*words, "-"]

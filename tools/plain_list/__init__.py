@@ -1,1 +1,2 @@
-"""What a plain list answers to the rows of `crates/test_rows`, and what then stands (`docs/dev/rows.md`)."""
+"""The reference model: its answers to the rows of `crates/test_rows`, and its contents
+(`docs/dev/rows.md`)."""

@@ -1,10 +1,10 @@
-"""What a plain list answers to the lines of caches."""
+"""The model's answers to the lines of caches."""
 
 from .model import NO_CAPACITY, Model
 
 
 class CacheModel(Model):
-    """The list beside a cache of a capacity."""
+    """The model of a cache with a capacity."""
 
     kind = "cache"
 
@@ -49,12 +49,14 @@ class CacheModel(Model):
             self.call(words, answers)
 
     def evicted_by(self, key):
-        """The first pair that an insert of the key drops: of those of other keys, where they leave no place."""
+        """The first pair that an insert of the key drops: the first with another key, if the others leave no
+        room."""
         others = [pair for pair in self.list.pairs if pair[0][0] != key[0]]
         return others[0] if others and len(others) >= self.capacity else None
 
     def push(self, pair, answers):
-        """Puts a pair, which says the given key with the old value, or else the first pair that is dropped."""
+        """Puts a pair, and answers the given key with the old value, or else the first pair that is
+        dropped."""
         if self.is_refused(pair, answers):
             return
         old = self.put("back", pair)
@@ -63,7 +65,7 @@ class CacheModel(Model):
         answers.pair((pair[0], old) if old else (surplus[0] if surplus else None))
 
     def get_or_insert(self, words, answers):
-        """Uses what is there, or puts what is made, which stays even where there is no room. After `fail`
+        """Uses a present pair, or puts the made one, which stays even if there is no room. After `fail`
         nothing is made."""
         key = words.name()
         is_absent = self.list.find(key) is None
@@ -74,7 +76,7 @@ class CacheModel(Model):
 
 
 class WeightedModel(Model):
-    """The list beside a cache with a budget, its capacity. The number of a value is its weight."""
+    """The model of a cache with a budget, which is its capacity. The number of a value is its weight."""
 
     kind = "weighted"
 
@@ -106,7 +108,7 @@ class WeightedModel(Model):
         words.read = rest.read
 
     def insert_weighted(self, name, pair, answers):
-        """Puts a pair, unless it is handed back. `insert_evicting` says each pair that is dropped, in turn."""
+        """Puts a pair, unless it is refused. `insert_evicting` answers each dropped pair, in order."""
         if pair[1][1] > self.capacity:
             answers.back("heavy", pair)
             return

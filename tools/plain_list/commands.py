@@ -1,4 +1,4 @@
-"""What a plain list answers to lists of commands and to the lines of texts."""
+"""The model's answers to lists of commands and to the lines of texts."""
 
 from .words import Words, number
 
@@ -26,12 +26,12 @@ STEP_NUMBERS = {
 
 
 def are_numbers(words, count):
-    """Whether so many numbers come, and nothing after them."""
+    """Whether exactly this many numbers follow."""
     return len(words) == count and all(number(word) is not None for word in words)
 
 
 def are_steps(words):
-    """Whether these are steps of a cursor, one at least."""
+    """Whether these are steps of a cursor, at least one."""
     place = 0
     while place < len(words):
         count = STEP_NUMBERS.get(words[place])
@@ -42,7 +42,7 @@ def are_steps(words):
 
 
 def is_line(kind, line):
-    """Whether a text has such a line: its words with their numbers, and no more."""
+    """Whether a text may have the line: its words with their numbers, and no more."""
     name, *words = line.split(" ")
     if kind == "map" and name == "cursor":
         return are_steps(words)
@@ -123,7 +123,7 @@ def use(model, pair, answers):
 
 
 def entry(model, key, words, answers):
-    """A step of the entry of the key."""
+    """Makes a step of the entry of the key."""
     step = words.word()
     value = words.optional() or key
     if step == "get":

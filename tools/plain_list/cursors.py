@@ -1,11 +1,11 @@
-"""What a plain list answers to steps of a cursor: a place in the list, of which the one after the last is the
+"""The model's answers to steps of a cursor, which is at a place in the list. The place after the last is the
 guard's."""
 
 from .words import NOTHING, Unread
 
 
 class Cursors:
-    """The calls of cursors, of a model."""
+    """The calls of cursors, for a model."""
 
     def cursor(self, words, answers):
         """Steps of a cursor that starts at an end."""
@@ -50,8 +50,8 @@ class Cursors:
             answers.pair(self.list.at(place))
 
     def cursor_step(self, at, name, words, answers):
-        """Takes a step, and returns where the cursor then is. A list of commands and a text say where they
-        go."""
+        """Makes a step, and returns the cursor's place afterwards. A list of commands and a text show where
+        they go."""
         if name in ("next", "prev"):
             at = self.after(at) if name == "next" else self.before(at)
             if answers.form != "calls":
@@ -68,8 +68,8 @@ class Cursors:
         return at
 
     def put_at(self, at, place, pair, answers):
-        """Puts the pair before the one at the place. The cursor stays on its pair, or on the guard, and a key
-        on which it stands stays where it is."""
+        """Puts the pair before the one at the place. The cursor stays on its pair, or on the guard. If it is
+        on the pair of the key, the pair stays at its place."""
         if self.is_refused(pair, answers):
             return at
         stands = self.list.at(at)

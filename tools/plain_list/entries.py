@@ -1,4 +1,4 @@
-"""What a plain list answers to calls of entries and of raw entries."""
+"""The model's answers to calls of entries and of raw entries."""
 
 from .words import NOTHING, Unread
 
@@ -13,10 +13,10 @@ RAW_INSERTS = (
 
 
 class Entries:
-    """The calls of entries, of a model."""
+    """The calls of entries, for a model."""
 
     def entry(self, words, answers):
-        """Calls of the entry of a key in hand."""
+        """Calls of the entry of a given key."""
         self.drop_first(1)
         key, name = words.name(), words.word()
         old = self.list.find(key)
@@ -37,8 +37,8 @@ class Entries:
             answers.say(NOTHING)
 
     def or_insert(self, pair, value, answers):
-        """Moves what is there last or puts the pair there, and writes the value. Returns what stood there or
-        was put, unless it was refused."""
+        """Moves a present pair last, or puts the pair there, and writes the value. Returns the pair before
+        the write, unless it was refused."""
         if self.is_refused(pair, answers):
             return None
         stands = self.list.find(pair[0]) or pair
@@ -47,8 +47,8 @@ class Entries:
         return stands
 
     def try_insert(self, key, words, answers):
-        """As `or_insert`, but after `fail` nothing is made, and where the key is absent, that is handed back
-        with why. Returns what stands there then."""
+        """Like `or_insert`; but after `fail` nothing is made, and if the key is absent, it is returned with
+        the reason. Returns the pair that is then present."""
         rest = words.copy()
         if rest.word() != "fail":
             stands = self.or_insert((key, words.name()), words.optional(), answers)
@@ -104,7 +104,7 @@ class Entries:
             self.leave(key, name, words, answers)
 
     def leave(self, key, name, words, answers):
-        """Calls after which the entry of the key that is there is gone, and steps of its cursor."""
+        """Calls that remove the entry of a present key, and steps of its cursor."""
         if name == "cursor":
             self.steps_at(self.list.place_of(key), words, answers)
         elif name == "remove":
@@ -167,7 +167,8 @@ class Entries:
             answers.say(NOTHING)
 
     def raw_insert(self, name, pair, written, answers):
-        """Puts a pair whose key is absent, and writes its value. A new entry then says it, a loan before."""
+        """Puts a pair whose key is absent, and writes its value. A new entry answers the pair after the
+        write, a loan the pair before it."""
         if self.list.find(pair[0]):
             answers.say(NOTHING)
         elif not self.is_refused(pair, answers):

@@ -1,5 +1,5 @@
-"""Whether what `test_rows --say` says of a row is what a plain list answers, and what then stands is what it
-has."""
+"""Compares the output of `test_rows --say` for a row with the answers and the contents of the reference
+model."""
 
 import re
 
@@ -11,14 +11,14 @@ from .texts import cut_row, is_answer
 from .words import MEMORY, Answers, Unread, Words, is_word
 
 HASHERS = ("default", "same_hash", "two_hashes")
-#: those to which a row may be bound
+#: the hashers to which a row may be restricted
 KINDS = {
     **dict.fromkeys(("map", "copied_map"), Model),
     **dict.fromkeys(("set", "copied_set"), SetModel),
     "cache": CacheModel,
     "weighted": WeightedModel,
 }
-#: how many numbers each says of what was counted
+#: how many numbers each word for counts answers
 COUNTED = {"cost": 2, "clones": 1, "count_anew": 0}
 SAID = re.compile(r"row |=|\+ |\| |(left out|refused)$")
 SUMMARY = re.compile(
@@ -27,15 +27,15 @@ SUMMARY = re.compile(
 
 
 class WrongRow(Exception):
-    """What is wrong with a row, where, what came and what was wanted."""
+    """What is wrong with a row: the place, the answer and the expected answer."""
 
 
 class LeftOut(Exception):
-    """The row had no memory of its own, and says no more."""
+    """There was no memory for the row, and it has no more output."""
 
 
 class Section:
-    """The lines that are said of a row under a hasher, and how many refusals they have."""
+    """The lines of output for a row under a hasher, and how many refusals they have."""
 
     def __init__(self, row, lines):
         self.row = row
@@ -49,7 +49,7 @@ class Section:
         return line
 
     def hear(self, where):
-        """The words that came, or nothing where a whole run was refused."""
+        """The words of the answer, or nothing if a whole run was refused."""
         line = self.next()
         if line == "refused":
             self.refused += 1
@@ -65,7 +65,7 @@ class Section:
             raise self.wrong(where, " ".join(answers.heard), " ".join(answers.words))
 
     def stand(self, where, model):
-        """What then stands has to be what the list has."""
+        """Compares the contents of a container with the model's."""
         line = self.next()
         if line is None or not line.startswith("+ ") or not model.is_like(line[2:].split(" ")):
             raise self.wrong(where, line, f"+ {model.state()}")
@@ -83,8 +83,7 @@ class Section:
 
 
 def judge_section(row, lines):
-    """How many refusals the lines have that are said of the row under one hasher, and whether it was left
-    out."""
+    """How many refusals the output for the row under one hasher has, and whether the row was left out."""
     section, words = Section(row, lines), Words(row.mode)
     try:
         kind = words.word()
@@ -115,7 +114,7 @@ def judge_section(row, lines):
 
 
 def judge_calls(section, row, make):
-    """Each call beside two lists."""
+    """Compares each call with two models."""
     models = (make(), make())
     for number, line, words in row.calls():
         where = (number, line)
@@ -130,7 +129,7 @@ def judge_calls(section, row, make):
 
 
 def say(models, words, answers):
-    """Has the first list answer, after `other` the second, and after `both` the two."""
+    """Lets the first model answer; after `other` the second, and after `both` the two."""
     rest = words.copy()
     name = rest.word()
     if name == "other":
@@ -166,8 +165,8 @@ def call_both(models, words, answers):
 
 
 def judge_runs(section, row, model, whole):
-    """Two runs, each of a list of commands, which changes nothing where it is refused, or after `whole` one,
-    in which every pair is kept and seen to be so."""
+    """Two runs, each of a list of commands, which changes nothing if it is refused; or after `whole` one run,
+    whose closure returns true for every pair."""
     commands = row.commands()
     half = len(commands) // 2
     for run in (commands,) if whole else (commands[:half], commands[half:]):
@@ -182,8 +181,8 @@ def judge_runs(section, row, model, whole):
 
 
 def judge_found(section, row, capacities):
-    """What caches of these capacities find by the lines, none refused. The number of a key is that of its
-    line."""
+    """What caches of these capacities find by the lines, if none is refused. The number of a key is that of
+    its line."""
     for capacity in capacities:
         where = (row.first, row.mode)
         heard = section.hear(where)
@@ -214,14 +213,14 @@ def judge_text(section, row):
 
 
 class Judge:
-    """Judges what is said of rows, the same of a row under a hasher once."""
+    """Judges the output for rows. The same output for a row under a hasher is judged once."""
 
     def __init__(self):
         self.judged = {}
 
     def judge(self, rows, said):
-        """How many refusals were said of the rows, and how many rows were left out, from the output of the
-        program. Where it had no memory to begin with, it says nothing, or that the rows are left out."""
+        """How many refusals the output has, and how many rows were left out. If the program had no memory to
+        begin with, it prints nothing, or that the rows are left out."""
         lines = said.split("\n")
         found = next((place for place, line in enumerate(lines) if SUMMARY.fullmatch(line)), None)
         if found is None:

@@ -1,4 +1,4 @@
-"""What a plain list answers to the lines of a map, and to those of a cache that are calls of maps."""
+"""The model's answers to the lines of a map, and to the lines of a cache that are calls of maps."""
 
 from .cursors import Cursors
 from .entries import Entries
@@ -7,24 +7,24 @@ from .words import DONE, GREATEST, MEMORY, NOTHING, OVERFLOW, WRONG
 from .words import Unread, is_word, item_word, number, pair_word
 
 NO_CAPACITY = GREATEST - 1
-#: those after which the row says how many items were not read
+#: the calls after which the row answers how many items were not read
 KEPT = ("extend_from", "extend_kept", "extend_ref", "extend_by_trait")
 WALKS = ("iter", "keys", "values", "iter_mut", "values_mut", "drain", "forgotten_drain", "into_iter")
 
 
 class Model(Entries, Cursors):
-    """The list beside a map. One that has no capacity has the greatest, and a budget is a capacity."""
+    """The model of a map. Without a capacity it has the greatest one, and a budget is a capacity."""
 
     kind = "map"
 
     def __init__(self, capacity=NO_CAPACITY):
         self.list = PlainList()
         self.capacity = capacity
-        #: how many pairs at least have room, by what was reserved
+        #: at least this many pairs have room, by what was reserved
         self.room = 0
 
     def is_like(self, words):
-        """Whether these are its length, its capacity and its pairs, with room for them and for the spare
+        """Whether the words are its length, its capacity and its pairs, with room for them and for the free
         nodes."""
         length = len(self.list.pairs)
         room = number(words[1]) if len(words) > 1 else None
@@ -35,22 +35,22 @@ class Model(Entries, Cursors):
         return [pair_word(pair) for pair in self.list.pairs]
 
     def state(self):
-        """What has to stand, as a report shows it."""
+        """The contents, as a report shows them."""
         length = len(self.list.pairs)
         return " ".join([str(length), f"{length + self.list.spare}..", *self.shown()])
 
     def answer(self, words, answers):
-        """Answers the call that a line says."""
+        """Answers the call of a line."""
         self.call(words, answers)
 
     def drop_first(self, most=NO_CAPACITY):
-        """Drops the first pairs that are too many, and of those so many at most."""
+        """Drops the first pairs that are too many, at most `most` of them."""
         surplus = max(len(self.list.pairs) - self.capacity, 0)
         for _ in range(min(surplus, most)):
             self.list.take_first()
 
     def call(self, words, answers):
-        """Answers a call of a map, or one that a cache answers as a map does."""
+        """Answers a call of a map, or a call that a cache answers as a map does."""
         name = words.word()
         if name in ("front", "peek_lru", "back", "len", "is_empty"):
             self.read_end(name, answers)
@@ -137,7 +137,7 @@ class Model(Entries, Cursors):
             raise Unread
 
     def make(self, size, answers):
-        """The list goes on empty, with room."""
+        """The model continues empty, with room."""
         if answers.hears() == DONE:
             self.list.clear()
             self.forget_room(size)
@@ -151,13 +151,13 @@ class Model(Entries, Cursors):
             answers.done()
 
     def forget_room(self, room):
-        """No node is spare, and so many pairs at least have room."""
+        """No node is free, and at least this many pairs have room."""
         self.list.spare = 0
         self.room = room
 
     def reserve(self, size, answers):
-        """There is room for so many more, unless that is too much or was refused. It is not refused where it
-        is there."""
+        """Makes room for this many more, unless that is too much or was refused. It is not refused if there
+        is room already."""
         wanted = min(len(self.list.pairs) + size, NO_CAPACITY)
         if answers.hears() == DONE or wanted <= self.room:
             self.room = max(self.room, wanted)
@@ -184,7 +184,7 @@ class Model(Entries, Cursors):
             answers.value(self.list.find(key))
 
     def insert(self, name, pair, answers):
-        """Puts a pair, which says the old value, unless it is handed back for want of memory."""
+        """Puts a pair, and answers the old value, unless the pair is refused."""
         if self.is_refused(pair, answers):
             return
         goal = {"insert_front": "front", "replace": "place"}.get(name, "back")
@@ -193,19 +193,19 @@ class Model(Entries, Cursors):
         answers.item(old)
 
     def is_refused(self, pair, answers):
-        """Whether the container had no memory for the pair, as it may, and so handed it back."""
+        """Whether the container failed to allocate for the pair, as it may, and so returned it."""
         if answers.is_refused() and self.list.may_refuse(pair[0]):
             answers.back(MEMORY, pair)
             return True
         return False
 
     def put(self, goal, pair):
-        """Puts a pair in front, last, or where its key stands, and last where there is none."""
+        """Puts a pair first, last, or at the place of its key; there, an absent key is put last."""
         place = {"front": 0, "place": self.list.place_of(pair[0])}.get(goal)
         return self.list.put(len(self.list.pairs) if place is None else place, pair)
 
     def write(self, key, value):
-        """Writes the value of a key, if one is to be written, and returns the old pair."""
+        """Writes the value of a key, if one is given, and returns the old pair."""
         old = self.list.find(key)
         if old and value is not None:
             self.list.write((old[0], (value[0], old[1][1])))
@@ -227,7 +227,7 @@ class Model(Entries, Cursors):
         answers.value(last)
 
     def retain(self, keep, answers):
-        """Keeps by the test, and says which keys were met, where it asks for them."""
+        """Keeps by the test, and answers on which keys it was called, if the line asks for them."""
         if keep == "odd":
             raised = [(key, (value[0] * 10 % GREATEST, value[1])) for key, value in self.list.pairs]
             self.list.pairs = raised
@@ -240,8 +240,8 @@ class Model(Entries, Cursors):
         answers.done()
 
     def walk(self, name, words, answers):
-        """Steps of an iterator over what stands between two places. From a word `clone` on a clone takes the
-        steps."""
+        """Makes steps of an iterator over the pairs between two places. After a word `clone` a clone makes
+        the steps."""
         ends = [0, len(self.list.pairs)]
         self.steps(name, ends, words, answers)
         if words.are_left():
@@ -257,7 +257,7 @@ class Model(Entries, Cursors):
             self.list.clear()
 
     def walk_from(self, key, answers):
-        """The pairs from that of the key on, and then that no more comes."""
+        """Answers the pairs from that of the key on, and then that no more follow."""
         place = self.list.place_of(key)
         for pair in self.list.pairs[place:] if place is not None else []:
             answers.pair(pair)
@@ -281,7 +281,7 @@ class Model(Entries, Cursors):
                 raise Unread
 
     def step(self, name, ends, word, written):
-        """The word of what comes by a step from either end, whose value is written if it is lent for that."""
+        """The word for a step from either end. If its value is lent for writing, it is written."""
         if ends[0] >= ends[1]:
             return NOTHING
         if word == "peek":
@@ -302,15 +302,16 @@ class Model(Entries, Cursors):
         return pair_word((key, value))
 
     def next_of_many(self, words):
-        """The next pair of those that a line lists."""
+        """The next pair that a line lists."""
         return words.pair()
 
     def back_of_many(self, pair, answers):
-        """A pair of many is handed back, as it may be."""
+        """Returns one pair of many, which may be refused."""
         return self.is_refused(pair, answers)
 
     def extend(self, name, words, answers):
-        """Puts each pair that the line lists, up to one that is handed back, before which so many went in."""
+        """Puts each pair that the line lists, up to one that is refused, and answers how many were put before
+        it."""
         if name == "from_iter":
             if answers.is_refused():
                 words.drop()
@@ -339,8 +340,8 @@ class Model(Entries, Cursors):
             answers.count(left)
 
     def make_of_kept(self, words, answers):
-        """The list goes on with what is made of the pairs that the line lists, if it is made. Of a pair that
-        was refused nothing is said but how many come after it."""
+        """The model continues with the list that is made from the pairs of the line, if it is made. If a pair
+        was refused, only the number of items after it is answered."""
         made = type(self)()
         made.extend("extend_by_trait", words, answers)
         words.drop()
@@ -349,8 +350,8 @@ class Model(Entries, Cursors):
             self.forget_room(0)
 
     def stops(self, name, pair, went, answers):
-        """Says that a pair of many was not put in after so many, if that may be. std's `Extend` says neither
-        which nor after how many."""
+        """Answers that one pair of many was refused after this many, if that may be. std's `Extend` answers
+        neither the pair nor the number."""
         if name != "extend_by_trait":
             is_back = self.back_of_many(pair, answers)
             if is_back:
@@ -362,7 +363,7 @@ class Model(Entries, Cursors):
         return is_refused
 
     def count_many(self, words):
-        """How many items a line lists that are not read."""
+        """How many items of a line are not read."""
         words, count = words.copy(), 0
         while words.are_left():
             self.next_of_many(words)

@@ -1,4 +1,4 @@
-"""Wrong answers, each of which has to be told."""
+"""Wrong answers, each of which the judge has to find."""
 
 from .judge import Judge, WrongRow
 from .rows import Row
@@ -58,7 +58,7 @@ SUMMARY = (
     "1 rows: each answer is right, and {refused} of them refused; "
     "{left_out} rows had no memory of their own\n"
 )
-#: what is wrong, what of the right words is other, and what stands in its place
+#: what is wrong, what to replace in the right words, and its replacement
 WRONG_WORDS = (
     ("another value", "= 10\n", "= 11\n"),
     ("another pair of equal keys", "= 1.2:10 0", "= 1:10 0"),
@@ -67,11 +67,11 @@ WRONG_WORDS = (
     ("a pair too many", "+ 1 4 2:20", "+ 2 4 1:10 2:20"),
     ("another length of the map", "+ 1 4 2:20", "+ 2 4 2:20"),
     ("another stored key", "+ 1 4 1.2:10\n+ 0 0", "+ 1 4 1:10\n+ 0 0"),
-    ("no room for a spare node", "+ 0 4", "+ 0 0"),
+    ("no room for a free node", "+ 0 4", "+ 0 0"),
     ("the other map is changed", "= 10\n+ 0 4\n+ 1 4 5:50", "= 10\n+ 0 4\n+ 0 4"),
-    ("a refusal where a node is spare", "= -\n+ 1 4 2:20", "= memory 2:20\n+ 0 4"),
+    ("a refusal although a node is free", "= -\n+ 1 4 2:20", "= memory 2:20\n+ 0 4"),
     (
-        "a refusal that changes what stands",
+        "a refusal that changes the entries",
         "= -\n+ 1 4 1.2:10\n+ 0 0",
         "= memory 1.2:10\n+ 1 4 1.2:10\n+ 0 0",
     ),
@@ -88,14 +88,14 @@ WRONG_WORDS = (
     ("an item read after the one for which a map was not made", "= memory 3\n", "= memory 2\n"),
     ("all items read though a map was not made", "= memory 3\n", "= memory 0\n"),
     ("a count of clones that is no number", "= 3\n", "= -\n"),
-    ("a step too few", "= 2:20 3:30", "= 2:20"),
+    ("one step is missing", "= 2:20 3:30", "= 2:20"),
     ("no answer to the last line", "= 3\n+ 3 16 2:20 3:30 6:60\n+ 1 4 5:50\n", ""),
     ("an answer too many", "= ok\n", "= ok\n= ok\n"),
 )
 
 
 def whole(said, more=0, left_out=0):
-    """What is said of the row under each hasher, and at the end how many answers are refusals, and more."""
+    """The output for the row under each hasher, and at the end how many answers are refusals, and more."""
     heads = (f"row 3 {hasher}\n" for hasher in ("default", "same_hash", "two_hashes"))
     refused = 3 * said.count("memory") + more
     return "".join(head + said for head in heads) + SUMMARY.format(refused=refused, left_out=left_out)
@@ -110,7 +110,7 @@ def is_told(said):
 
 
 def untold():
-    """The wrong answers that are not told, and what is told though it is right."""
+    """The wrong answers that the judge does not find, and right answers that it rejects."""
     for text in WRONG_TEXTS:
         if is_answer(*cut_row(text)):
             yield text

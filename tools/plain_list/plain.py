@@ -1,8 +1,8 @@
-"""What a container has to be like."""
+"""What every container has in common."""
 
 
 class PlainList:
-    """A list of pairs, front first, and how many nodes are spare. Keys are equal by their groups."""
+    """A list of pairs, front first, and the number of free nodes. Keys are equal if their groups are."""
 
     def __init__(self):
         self.pairs = []
@@ -28,11 +28,11 @@ class PlainList:
         return self.at(len(self.pairs) - 1)
 
     def may_refuse(self, key):
-        """Whether an insert of the key may be refused: it is absent, and no node is spare."""
+        """Whether an insert of the key may be refused: it is absent, and no node is free."""
         return self.spare == 0 and self.place_of(key) is None
 
     def take(self, key):
-        """Takes the key's pair out, which leaves a node to spare."""
+        """Removes the key's pair, whose node is then free."""
         place = self.place_of(key)
         if place is None:
             return None
@@ -46,22 +46,22 @@ class PlainList:
         return self.take(self.pairs[-1][0]) if self.pairs else None
 
     def clear(self):
-        """Drops every pair, and no node becomes spare."""
+        """Drops every pair. No node becomes free."""
         self.pairs = []
 
     def lose(self):
-        """Loses every pair and every spare node."""
+        """Loses every pair and every free node."""
         self.pairs, self.spare = [], 0
 
     def keep(self, test):
-        """Keeps the pairs that pass, and the nodes of the others become spare."""
+        """Keeps the pairs that pass. The nodes of the others become free."""
         before = len(self.pairs)
         self.pairs = [pair for pair in self.pairs if test(pair)]
         self.spare += before - len(self.pairs)
 
     def put(self, place, pair):
-        """Puts the pair before the one that stands at the place now, or last where there is none. A key that
-        is there stays. Returns the old value."""
+        """Puts the pair before the one that is at the place now, or last if there is none. A present key
+        stays the stored one. Returns the old value."""
         there = self.place_of(pair[0])
         if there is not None and there < place:
             place -= 1
@@ -72,7 +72,7 @@ class PlainList:
         return old and old[1]
 
     def write(self, pair):
-        """Puts the pair in the place of its key's, and returns the one that was there."""
+        """Replaces the pair of the key by the given pair, and returns the old one."""
         place = self.place_of(pair[0])
         if place is None:
             return None

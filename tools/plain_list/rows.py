@@ -7,7 +7,7 @@ from .words import Unread, Words
 
 @dataclass
 class Row:
-    """A row of a file, in which its number is counted from 1."""
+    """A row of a file. Rows are numbered from 1."""
 
     file: str
     number: int
@@ -33,12 +33,12 @@ class Row:
                     yield number, line, of_n
 
     def commands(self):
-        """The lines without what is written behind them."""
+        """The lines without the written answers."""
         return [line.partition(" -> ")[0] for line in self.lines.split("\n")]
 
 
 def rows_of(path, file):
-    """The rows of the file at the path. Lines between rows that begin with `#` are no part of any."""
+    """The rows of the file at the path. Lines between rows that begin with `#` belong to no row."""
     rows, lines, place = [], path.read_text().split("\n"), 0
     while place < len(lines):
         if not lines[place] or lines[place].startswith("#"):

@@ -1,11 +1,11 @@
-"""What plain lists answer to the lines of sets. An element is a key whose value is its own name."""
+"""The models' answers to the lines of sets. An element is a key whose value is its own name."""
 
 from .model import Model
 from .words import MEMORY, NOTHING, item_word
 
 
 class SetModel(Model):
-    """The list beside a set."""
+    """The model of a set."""
 
     kind = "set"
 
@@ -33,7 +33,7 @@ class SetModel(Model):
         return ends.get(name, self.list.take_first if name == "pop_front" else self.list.take_last)()
 
     def is_element_refused(self, element, answers):
-        """Whether the container had no memory for the element, as it may, and so handed it back."""
+        """Whether the container failed to allocate for the element, as it may, and so returned it."""
         if answers.is_refused() and self.list.may_refuse(element):
             answers.element_back(element)
             return True
@@ -71,7 +71,7 @@ class SetModel(Model):
             answers.tell(old is not None)
 
     def step(self, name, ends, word, written):
-        """An iterator over the elements says them as one over keys does."""
+        """An iterator over the elements answers them as one over keys does."""
         return super().step("keys", ends, word, None)
 
     def next_of_many(self, words):
@@ -83,7 +83,7 @@ class SetModel(Model):
 
 
 def call_sets(model, other, words, answers):
-    """Answers the call of two sets that has the name."""
+    """Answers the call of two sets with this name."""
     name = words.word()
     keys, others = ([pair[0] for pair in each.list.pairs] for each in (model, other))
     inside = sum(other.list.find(key) is not None for key in keys)
@@ -102,7 +102,7 @@ def call_sets(model, other, words, answers):
 
 
 def comes(model, other, name, element, is_first):
-    """Whether an element comes that stands in the first set, or in the second."""
+    """Whether the iterator returns an element of the first set, or of the second."""
     is_in_both = model.list.find(element) is not None and other.list.find(element) is not None
     if name in ("union", "|"):
         return is_first or not is_in_both
@@ -114,9 +114,9 @@ def comes(model, other, name, element, is_first):
 
 
 def iterate(model, other, name, steps, answers):
-    """Says the bounds of how many are left and what comes, in turn, for so many steps if their number is
-    given, also after the end. Of those left in each set a union has all of the first at least, and one of the
-    first alone, as an intersection or a difference, none of the second at most."""
+    """Answers the bounds of how many are left and the next element, for the given number of steps, even after
+    the end. A union has at least the elements left in the first set; an intersection or a difference has at
+    most these."""
     begin = len(answers.words)
     left = [len(model.list.pairs), len(other.list.pairs)]
     bounds(name, left, answers)
@@ -140,7 +140,7 @@ def bounds(name, left, answers):
 
 
 def operate(model, other, name, answers):
-    """The first list goes on with what an operator makes."""
+    """The first model continues with the result of an operator."""
     if answers.is_refused():
         answers.say(MEMORY)
         return

@@ -15,19 +15,18 @@ PAIR_WORDS = ("insert", "use", "remove", "peek")
 
 
 def meant(text):
-    """The text that a row says: `\\r` stands for byte 13, `\\x` for byte 255, and another `\\` for
-    nothing."""
+    """The text of a row: `\\r` is byte 13, `\\x` byte 255, and another `\\` nothing."""
     return re.sub(r"\\[rx]?", lambda found: SHOWN_BYTES[found[0]], text)
 
 
 def cut_row(lines):
-    """The text of a row, and the answer after a line `=`, if one is written."""
+    """The text of a row, and the answer after a line `=`, if there is one."""
     text, mark, written = (lines + "\n").partition("\n=\n")
     return meant(text if mark else lines), written.removesuffix("\n") if mark else None
 
 
 def mode_of(line):
-    """What the first line of a text names, or nothing where it is bad."""
+    """What the first line of a text names, or nothing if it is bad."""
     name, *words = line.split(" ")
     numbers = [number(word) for word in words]
     if None in numbers or len(numbers) != MODE_NUMBERS.get(name):
@@ -38,7 +37,7 @@ def mode_of(line):
 
 
 def answers_to(text):
-    """What answers each line of the answer to a text, one after the other."""
+    """The answers to the lines of a text, each compared with a line of the given answer."""
     if not text:
         return []
     first, *lines = text.removesuffix("\n").split("\n")
@@ -58,7 +57,7 @@ def say_bad(answers):
 
 
 def answer_pair(caches, line, answers):
-    """Has both caches answer a line."""
+    """Lets both caches answer a line."""
     if line.split(" ")[0] in PAIR_WORDS and is_line("cache", line):
         for cache in caches:
             answer_text(cache, line, answers)
@@ -67,8 +66,7 @@ def answer_pair(caches, line, answers):
 
 
 def is_answer(text, answer):
-    """Whether a text may be answered so. A refusal is no answer where it is the only one: that is an error.
-    No insert into two caches is refused."""
+    """Whether a text may have this answer. No insert into two caches is refused."""
     lines = answers_to(text)
     if not lines:
         return not answer
@@ -79,14 +77,14 @@ def is_answer(text, answer):
 
 
 def is_said(heard, line):
-    """Whether the line that is heard is what the list answers."""
+    """Whether the given line is what the model answers."""
     answers = Answers(heard.split(" "), "text")
     line(answers)
     return answers.words == answers.heard
 
 
 def answer_of(text):
-    """What the list answers to a text where nothing is refused."""
+    """The model's answer to a text, if nothing is refused."""
     said = []
     for line in answers_to(text):
         answers = Answers([], "text")

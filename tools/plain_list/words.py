@@ -11,12 +11,11 @@ WRONG = "wrong"
 
 
 class Unread(Exception):
-    """It is no line of such a row."""
+    """It is not a line of such a row."""
 
 
 def number(word):
-    """A number as texts have it: digits alone, with no zero in front of others. Nothing where the word is
-    none."""
+    """A number as texts have it: only digits, without leading zeros. Nothing if the word is none."""
     if word is None or not re.fullmatch("0|[1-9][0-9]*", word, re.ASCII):
         return None
     read = int(word)
@@ -49,7 +48,7 @@ def is_word(is_so):
 
 
 class Words:
-    """The words of a line, and how many of them are read."""
+    """The words of a line, and how many of them have been read."""
 
     def __init__(self, line, n=0):
         self.words = line.split(" ")
@@ -67,7 +66,7 @@ class Words:
         return self.read < len(self.words)
 
     def drop(self):
-        """The rest is not to be read."""
+        """Skips the rest."""
         self.read = len(self.words)
 
     def next(self):
@@ -115,13 +114,14 @@ class Words:
 
 
 class Answers:
-    """What the list answers, beside what was heard of the container, which is called first."""
+    """The model's answers, beside the answers of the container, which is called first."""
 
     def __init__(self, heard, form="calls"):
         self.heard = heard
         self.words = []
-        #: `calls`; `replies`, which say of a pair that is read whether its value is even; `whole replies`,
-        #: which say that it is so of every pair; or `text`, which shows no numbers and hands nothing back
+        #: `calls`; `replies`, which answer for a pair that is read whether its value is even; `whole
+        #: replies`, which answer true for every pair; or `text`, which shows no numbers and returns nothing
+        #: that was refused
         self.form = form
 
     def say(self, word):
@@ -152,7 +152,7 @@ class Answers:
         return (name[0], 0) if name and self.form == "text" else name
 
     def seen(self, pair, is_whole):
-        """A pair that was read, by its value alone where it is not to be shown whole."""
+        """A pair that was read; only its value, unless it is shown whole."""
         if pair and self.form in ("replies", "whole replies"):
             self.tell(self.form == "whole replies" or pair[1][0] % 2 == 0)
         elif is_whole:
@@ -161,43 +161,44 @@ class Answers:
             self.value(pair)
 
     def back(self, why, pair):
-        """A pair is handed back for this reason."""
+        """A pair that is returned for this reason."""
         self.say(why)
         if self.form != "text":
             self.pair(pair)
 
     def element_back(self, element):
-        """An element is handed back for want of memory."""
+        """An element that is returned because an allocation failed."""
         self.say(MEMORY)
         self.item(element)
 
     def hears(self):
-        """The word that the container said here."""
+        """The word that the container answered here."""
         place = len(self.words)
         return self.heard[place] if place < len(self.heard) else None
 
     def is_refused(self):
-        """Whether the container said here that there was no memory."""
+        """Whether the container answered here that an allocation failed."""
         return self.hears() == MEMORY
 
     def echo(self, *known):
-        """Says what was heard, of which a list knows no more than that it is one of these words."""
+        """Answers what the container answered, of which the model only knows that it is one of these
+        words."""
         heard = self.hears()
         self.say(heard if heard in known else WRONG)
 
     def echo_number(self):
-        """Says what was heard, of which a list knows no more than that it is a number."""
+        """Answers what the container answered, of which the model only knows that it is a number."""
         heard = self.hears()
         self.say(WRONG if number(heard) is None else heard)
 
     def taken(self):
-        """How many went in before one that was handed back, by what the container says, if one was."""
+        """How many items were put in before one that was refused, by the container's answer, if one was."""
         if len(self.heard) > 2 and self.heard[0] == MEMORY:
             return number(self.heard[2])
         return None
 
     def read(self, count):
-        """How many of so many items went in before one that was not, by how many the container says it did
-        not read, if one was not put in."""
+        """How many of this many items were put in before one that was refused, by how many the container
+        answers it did not read, if one was refused."""
         left = number(self.heard[1]) if len(self.heard) > 1 and self.heard[0] == MEMORY else None
         return None if left is None else count - left - 1

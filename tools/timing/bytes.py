@@ -1,7 +1,7 @@
 """Counts the bytes of memory that a map takes for each entry.
 
-Each program inserts N keys into an empty map (the row `insert`). What its blocks of memory take more
-afterwards, with what `malloc` adds to each, is the map's. It needs a C compiler.
+Each program inserts N keys into an empty map (the row `insert`). The increase of its blocks of memory, with
+what `malloc` adds to each, is the map's. It needs a C compiler.
 """
 
 import subprocess
@@ -12,7 +12,7 @@ PRELOAD = Path(__file__).resolve().parent.parent / "preload.c"
 
 
 def bytes_of(program, size, library):
-    """The bytes that the program's map has for each of so many entries."""
+    """The bytes for each of this many entries in the program's map."""
     with tempfile.TemporaryFile("w+") as told:
         subprocess.run(
             [program, "insert", "1", str(size)],
@@ -27,7 +27,7 @@ def bytes_of(program, size, library):
 
 
 def print_bytes(sizes, programs):
-    """Prints a table of the bytes for each entry, of the programs by their names, and the means."""
+    """Prints a table of the bytes for each entry, for the programs by their names, and the means."""
     with tempfile.TemporaryDirectory() as room:
         library = f"{room}/bytes.so"
         subprocess.run(["cc", "-DBYTES", "-O1", "-shared", "-fPIC", "-o", library, PRELOAD, "-ldl"], check=True)

@@ -1,8 +1,8 @@
-"""Counts what a call of each row takes.
+"""Counts the cost of a call of each row.
 
-Each program is run under callgrind, with one round of each row and with two; the difference is one round's.
-For each call there are the instructions, the reads and the writes of data, the misses of a cache of 1 MiB,
-and the branches that were mispredicted, as callgrind models them. The counts of a program are the same on
+Each program is run under callgrind, with one round of each row and with two; the difference is the cost of
+one round. For each call it prints the instructions, the reads and the writes of data, the misses of a cache
+of 1 MiB, and the mispredicted branches, as callgrind models them. The counts of a program are the same on
 each machine, whatever else runs there. It needs valgrind with its headers and a C compiler, and takes
 minutes.
 """
@@ -13,13 +13,13 @@ import tempfile
 from concurrent.futures import ThreadPoolExecutor
 from pathlib import Path
 
-#: the events of callgrind that a number is the sum of
+#: the events of callgrind whose sum a number is
 EVENTS = (("Ir",), ("Dr",), ("Dw",), ("DLmr", "DLmw"), ("Bcm", "Bim"))
 PRELOAD = Path(__file__).resolve().parent.parent / "preload.c"
 
 
 def counts_of(program, kind, size, rounds, room):
-    """What a round of each row of the kind took, by its name, with how many calls it made."""
+    """The cost of a round of each row of the kind, by its name, with its number of calls."""
     out = Path(room) / f"{kind}.{rounds}"
     tool = ["valgrind", "--tool=callgrind", "--cache-sim=yes", "--branch-sim=yes", "--LL=1048576,16,64"]
     subprocess.run(
@@ -43,7 +43,7 @@ def counts_of(program, kind, size, rounds, room):
 
 
 def for_each_call(once, twice):
-    """What a call took of each row."""
+    """The cost of a call of each row."""
     return {
         row: [max(of_two - of_one, 0) / calls for of_one, of_two in zip(once[row][0], counts)]
         for row, (counts, calls) in twice.items()
@@ -51,13 +51,13 @@ def for_each_call(once, twice):
 
 
 def begun(program, kinds, size, room, pool):
-    """The runs of a program, of each kind with one round and with two."""
+    """The runs of a program, for each kind one with one round and one with two."""
     Path(room).mkdir()
     return [[pool.submit(counts_of, program, kind, size, it, room) for it in (1, 2)] for kind in kinds]
 
 
 def ended(runs):
-    """What a call took of each row."""
+    """The cost of a call of each row."""
     rows = {}
     for once, twice in runs:
         rows |= for_each_call(once.result(), twice.result())
@@ -65,7 +65,7 @@ def ended(runs):
 
 
 def print_counts(kinds, size, programs):
-    """Prints a table of what a call of each row takes, of the programs by their names."""
+    """Prints a table of the cost of a call of each row, for the programs by their names."""
     with tempfile.TemporaryDirectory() as room:
         library = ["-shared", "-fPIC", "-o", f"{room}/counts.so", PRELOAD, "-ldl"]
         subprocess.run(["cc", "-DCOUNTS", "-O1", *library], check=True)

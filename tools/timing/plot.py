@@ -1,16 +1,16 @@
-"""A picture of each row's median times: to the right the number of keys, upwards the ns of a call, both in
-logarithms. Its colours are for light paper, and the style has those for dark."""
+"""A picture of each row's median times: the number of keys to the right, the ns of a call upwards, both on
+logarithmic scales. Its colours are for light paper, and its style has colours for dark paper."""
 
 import math
 from html import escape
 
-ACROSS = 4  # so many panels beside each other
-WIDTH, HEIGHT = 200, 120  # of what is drawn in a panel, and the space around it
+ACROSS = 4  # this many panels beside each other
+WIDTH, HEIGHT = 200, 120  # of the drawing in a panel, and the space around it
 LEFT, RIGHT, ABOVE, BELOW = 40, 20, 40, 40
 HEAD = 60
 LIGHT = {"port": "#0b62c4", "hashlink": "#c2570c", "lru": "#4d7c0f"}
 DARK = {"port": "#6cb2ff", "hashlink": "#ff9f5a", "lru": "#a3d977"}
-#: the path of a point, in a form of its own for each program
+#: the path of a point, with a different shape for each program
 MARKS = {
     "port": lambda x, y: f"M{x - 3:.1f} {y:.1f}a3 3 0 1 0 6 0a3 3 0 1 0 -6 0",
     "hashlink": lambda x, y: f"M{x - 3:.1f} {y - 3:.1f}h6v6h-6z",
@@ -104,8 +104,8 @@ class Panel:
 
 
 def steps_around(low, high):
-    """Of the steps .., 1, 2, 5, 10, 20, .. those from the last that is not above the least number to the
-    first that is not below the greatest, and two at least."""
+    """The numbers of the sequence .., 1, 2, 5, 10, 20, .. from the last that is not above the least number to
+    the first that is not below the greatest, and at least two of them."""
     powers = range(math.floor(math.log10(low)) - 1, math.ceil(math.log10(high)) + 2)
     steps = [digit * 10.0**power for power in powers for digit in (1, 2, 5)]
     first = max(place for place, step in enumerate(steps) if step <= low)

@@ -1,8 +1,8 @@
-"""What tools/bench measured, and its tables."""
+"""The measurements of tools/bench, and their tables."""
 
-import math
+import statistics
 
-#: which kinds of rows a mean is over
+#: the kinds of rows over which a mean is taken
 MEANS = {
     "numbers": ("lookups", "inserts", "removals", "walks", "wholes", "sets", "algebra", "caches", "budgets"),
     "texts": ("texts",),
@@ -13,16 +13,16 @@ FROM_ONE = "_from_one"
 
 
 class Times:
-    """The times of each program, the first of which is the one that the others are compared with.
+    """The times of each program. The others are compared with the first.
 
-    A row is timed at a size by several numbers of keys, if its kind is spread over the loads of a table.
+    A row is timed at a size with several numbers of keys, if its kind is spread over the loads of a table.
     """
 
     def __init__(self, programs, sizes, turns):
         self.programs, self.sizes, self.turns = programs, sizes, turns
-        #: the rows in the order in which they came, with their kinds
+        #: the rows in the order of their first times, with their kinds
         self.rows = {}
-        #: what a call took in each turn, by program, row and size, and then by the number of keys
+        #: the time of a call in each turn, by program, row and size, and then by the number of keys
         self.ns = {}
 
     def add(self, turn, program, kind, row, size, keys, ns):
@@ -30,17 +30,17 @@ class Times:
         self.ns.setdefault((program, row, size), {}).setdefault(keys, {})[turn] = ns
 
     def median(self, program, row, size):
-        """The median of what a call took, if the program has the row: the mean over the numbers of keys."""
+        """The median time of a call, if the program has the row: the mean over the numbers of keys."""
         by_keys = self.ns.get((program, row, size), {}).values()
-        return mean_of(part_of(sorted(it.values()), 0.5) for it in by_keys)
+        return mean_of(median_of(it.values()) for it in by_keys)
 
     def ratios(self, program, row, size, keys=None):
-        """What a call took beside the program in each turn, the least first: the mean over the numbers of
-        keys, or at one of them."""
+        """The time of a call divided by the program's in each turn, the least first: the mean over the
+        numbers of keys, or at one of them."""
         return self.ratios_of((self.programs[0], row), (program, row), size, keys)
 
     def ratios_of(self, one, other, size, keys=None):
-        """The same of a program and its row beside another."""
+        """The same for a program and its row compared with another."""
         ones, others = self.ns.get((*one, size), {}), self.ns.get((*other, size), {})
         counts = [it for it in ones if it in others and keys in (None, it)]
         turns = [turn for turn in range(1, self.turns + 1) if all(turn in others[it] for it in counts)]
@@ -49,10 +49,11 @@ class Times:
     def mean(self, program, kinds, sizes):
         """The geometric mean of the median ratios of the rows of these kinds."""
         rows = [row for row, kind in self.rows.items() if kind in kinds and not row.endswith(FROM_ONE)]
-        return mean_of(part_of(self.ratios(program, row, size), 0.5) for row in rows for size in sizes)
+        return mean_of(median_of(self.ratios(program, row, size)) for row in rows for size in sizes)
 
     def tables(self, notes):
-        """The lines of the tables: means by kind; all rows; those by load; from one place; the times."""
+        """The lines of the tables: means by kind; all rows; rows by load; rows called from one place; the
+        times."""
         yield "; ".join([*notes, f"medians of {self.turns} turns"])
         for program in self.programs[1:]:
             yield from ("", f"A call beside {program}, means by kind:", "")
@@ -67,7 +68,7 @@ class Times:
         yield from self.table(self.sizes, self.shown_times)
 
     def means(self, program):
-        """One mean for each kind, since a mean over different things says nothing."""
+        """One mean for each kind, because a mean over different things has no meaning."""
         yield from head_of(self.sizes, "all sizes")
         for name, kinds in MEANS.items():
             means = [self.mean(program, kinds, sizes) for sizes in (*([it] for it in self.sizes), self.sizes)]
@@ -75,17 +76,17 @@ class Times:
                 yield line_of(f"mean of {name}", map(shown, means))
 
     def by_keys(self, program, size):
-        """The rows that are timed by several numbers of keys at the size."""
+        """The rows that are timed with several numbers of keys at the size."""
         of_size = [by_keys for key, by_keys in self.ns.items() if (key[0], key[2]) == (program, size)]
         counts = sorted({keys for by_keys in of_size for keys in by_keys})
         if len(counts) > 1:
             yield from ("", f"A call beside {program}, by the number of keys:", "")
             yield from self.table(
-                counts, lambda row, keys: shown(part_of(self.ratios(program, row, size, keys), 0.5)), 1
+                counts, lambda row, keys: shown(median_of(self.ratios(program, row, size, keys))), 1
             )
 
     def table(self, sizes, cell, least=0):
-        """A line for each row of which there are more cells than the least."""
+        """A line for each row that has more cells than the least."""
         yield from head_of(sizes)
         for row in self.rows:
             cells = [cell(row, size) for size in sizes]
@@ -105,19 +106,13 @@ class Times:
 
 
 def mean_of(values):
-    """The geometric mean of those that are there and not 0, if any is."""
-    logarithms = [math.log(it) for it in values if it]
-    return math.exp(sum(logarithms) / len(logarithms)) if logarithms else None
+    """The geometric mean of the values that exist and are not 0, if there are any."""
+    there = [it for it in values if it]
+    return statistics.geometric_mean(there) if there else None
 
 
-def part_of(values, part):
-    """What stands at that part of sorted values, at 0.5 the median; of none there is none."""
-    if not values:
-        return None
-    place = (len(values) - 1) * part
-    below = int(place)
-    above = min(below + 1, len(values) - 1)
-    return values[below] + (place - below) * (values[above] - values[below])
+def median_of(values):
+    return statistics.median(values) if values else None
 
 
 def shown(number):
@@ -126,8 +121,10 @@ def shown(number):
 
 def shown_spread(ratios):
     """The median of sorted ratios, and where their middle half lies."""
-    low, middle, high = (shown(part_of(ratios, part)) for part in (0.25, 0.5, 0.75))
-    return f"{middle} ({low} to {high})" if ratios else ""
+    if not ratios:
+        return ""
+    low, middle, high = statistics.quantiles(ratios * 2 if len(ratios) == 1 else ratios, method="inclusive")
+    return f"{middle:.2f} ({low:.2f} to {high:.2f})"
 
 
 def head_of(sizes, *more):

@@ -25,14 +25,26 @@ impl Cache {
 
     #[inline(always)]
     fn insert(&mut self, key: u64, value: u64, weight: u64) -> Option<u64> {
+        self.insert_evicting(key, value, weight, |_, _| {})
+    }
+
+    #[inline(always)]
+    fn insert_evicting(
+        &mut self,
+        key: u64,
+        value: u64,
+        weight: u64,
+        mut on_evicted: impl FnMut(u64, u64),
+    ) -> Option<u64> {
         let old = self.map.insert(key, (value, weight));
         self.total += weight;
         if let Some((_, weight)) = old {
             self.total -= weight;
         }
         while self.total > self.budget {
-            let (_, (_, weight)) = self.map.pop_front()?;
+            let (key, (value, weight)) = self.map.pop_front()?;
             self.total -= weight;
+            on_evicted(key, value);
         }
         old.map(|(value, _)| value)
     }
@@ -82,6 +94,15 @@ fn insert(cache: &mut Cache, place: u64, key: &u64) -> u64 {
     cache.insert(*key, place, 1 + *key % 16).unwrap_or(*key)
 }
 
+/// Counts what is evicted.
+#[inline(always)]
+fn insert_evicting(cache: &mut Cache, place: u64, key: &u64) -> u64 {
+    let mut count: u64 = 0;
+    let on_evicted = |_, _| count += 1;
+    let old = cache.insert_evicting(*key, place, 1 + *key % 16, on_evicted);
+    fold(count, old.unwrap_or(*key))
+}
+
 #[inline(always)]
 fn peek(cache: &mut Cache, _place: u64, key: &u64) -> u64 {
     cache.map.get(key).map_or(*key, |(value, _)| *value)
@@ -126,6 +147,12 @@ pub fn rows(plan: &mut Plan) {
         insert,
     );
     plan.row("weighted_insert_present", Order::MixedByTurns, full, insert);
+    plan.row(
+        "weighted_insert_evicting",
+        Order::AbsentAndHeld,
+        tight_and_full,
+        insert_evicting,
+    );
     plan.row_afresh("weighted_remove_hit", Order::Mixed, full, remove);
     plan.row("weighted_iter", Order::Whole, full, iter);
 }

@@ -1,8 +1,10 @@
 //! The calls of a cache.
 
 use crate::fill::{full_cache, half_cache, lone_cache, Cache, LoneCache};
+use crate::keys::Keys;
 use crate::lists::Order;
 use crate::plan::{fold, Plan};
+use crate::walks::{sum_of_owned, sum_of_pairs};
 
 /// A look-up of a key, and an insert where it is not there.
 #[inline(always)]
@@ -122,6 +124,29 @@ fn remove_lru(cache: &mut Cache, _place: u64, key: &u64) -> u64 {
     }
 }
 
+#[inline(always)]
+fn raw_get(cache: &mut Cache, _place: u64, key: &u64) -> u64 {
+    match cache.raw_entry().from_key(key) {
+        Some((stored, value)) => fold(*stored, *value),
+        None => *key,
+    }
+}
+
+/// As `entry_or_insert`.
+#[inline(always)]
+fn raw_or_insert(cache: &mut Cache, place: u64, key: &u64) -> u64 {
+    let (stored, value) = cache.raw_entry_mut().from_key(key).or_insert(*key, place);
+    fold(*stored, *value)
+}
+
+#[inline(always)]
+fn remove_entry(cache: &mut Cache, _place: u64, key: &u64) -> u64 {
+    match cache.remove_entry(key) {
+        Some((stored, value)) => fold(stored, value),
+        None => *key,
+    }
+}
+
 fn uses(plan: &mut Plan) {
     plan.row("lru_hit", Order::MixedByTurns, full_cache, use_key);
     plan.row("lru_zipf", Order::Zipf, half_cache, use_key);
@@ -152,6 +177,7 @@ fn peeks(plan: &mut Plan) {
         contains_key,
     );
     plan.row("lru_evicted_by", Order::Absent, full_cache, evicted_by);
+    plan.row("lru_raw_get_hit", Order::Mixed, full_cache, raw_get);
 }
 
 fn gets(plan: &mut Plan) {
@@ -196,10 +222,22 @@ fn inserts(plan: &mut Plan) {
         full_cache,
         entry_or_insert,
     );
+    plan.row(
+        "lru_raw_or_insert_new",
+        Order::AbsentAndHeld,
+        full_cache,
+        raw_or_insert,
+    );
 }
 
 fn removals(plan: &mut Plan) {
     plan.row_afresh("lru_remove_hit", Order::Mixed, full_cache, remove);
+    plan.row_afresh(
+        "lru_remove_entry_hit",
+        Order::Mixed,
+        full_cache,
+        remove_entry,
+    );
     plan.row_afresh("lru_remove_lru", Order::Held, full_cache, remove_lru);
 }
 
@@ -210,8 +248,48 @@ fn set_capacity(cache: &mut Cache, _place: u64, _item: &u64) -> u64 {
     cache.len() as u64
 }
 
+#[inline(always)]
+fn iter(cache: &mut Cache, _place: u64, _item: &u64) -> u64 {
+    sum_of_pairs(cache.iter())
+}
+
+#[inline(always)]
+fn drain(cache: &mut Cache, _place: u64, _item: &u64) -> u64 {
+    sum_of_owned(cache.drain())
+}
+
+/// Keeps about half of the entries.
+#[inline(always)]
+fn retain(cache: &mut Cache, _place: u64, _item: &u64) -> u64 {
+    cache.retain(|key, _| *key % 2 == 0);
+    cache.len() as u64
+}
+
+fn two_full(keys: &Keys) -> (Cache, Cache) {
+    (full_cache(keys), full_cache(keys))
+}
+
+#[inline(always)]
+fn copy(caches: &mut (Cache, Cache), _place: u64, _item: &u64) -> u64 {
+    caches.1 = caches.0.clone();
+    caches.1.len() as u64
+}
+
+/// With the pairs that it has.
+#[inline(always)]
+fn extend(caches: &mut (Cache, Cache), _place: u64, _item: &u64) -> u64 {
+    let pairs = caches.0.iter().map(|(key, value)| (*key, *value));
+    caches.1.extend(pairs);
+    caches.1.len() as u64
+}
+
 fn wholes(plan: &mut Plan) {
     plan.row_afresh("lru_set_capacity", Order::Whole, full_cache, set_capacity);
+    plan.row("lru_iter", Order::Whole, full_cache, iter);
+    plan.row_afresh("lru_drain", Order::Whole, full_cache, drain);
+    plan.row_afresh("lru_retain", Order::Whole, full_cache, retain);
+    plan.row_afresh("lru_clone", Order::Whole, two_full, copy);
+    plan.row("lru_extend", Order::Whole, two_full, extend);
 }
 
 pub fn rows(plan: &mut Plan) {

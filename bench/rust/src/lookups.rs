@@ -83,6 +83,35 @@ fn raw_mut(map: &mut Map, _place: u64, key: &u64) -> u64 {
     }
 }
 
+/// A test, and then a write to the value of a key that is present.
+#[inline(always)]
+fn index_mut(map: &mut Map, place: u64, key: &u64) -> u64 {
+    if map.contains_key(key) {
+        map[key] = place;
+        place
+    } else {
+        *key
+    }
+}
+
+#[inline(always)]
+fn raw_from_hash(map: &mut Map, _place: u64, key: &u64) -> u64 {
+    let hash = map.hasher().hash_one(key);
+    match map.raw_entry().from_hash(hash, |stored| stored == key) {
+        Some((stored, value)) => fold(*stored, *value),
+        None => *key,
+    }
+}
+
+#[inline(always)]
+fn raw_mut_from_hash(map: &mut Map, _place: u64, key: &u64) -> u64 {
+    let hash = map.hasher().hash_one(key);
+    match map.raw_entry_mut().from_hash(hash, |stored| stored == key) {
+        RawEntryMut::Occupied(entry) => *entry.get(),
+        RawEntryMut::Vacant(_) => *key,
+    }
+}
+
 /// By the map's own calls.
 fn plain(plan: &mut Plan) {
     plan.row("get_hit", Order::Mixed, full, get);
@@ -94,6 +123,7 @@ fn plain(plan: &mut Plan) {
     plan.row("get_mut_hit", Order::Mixed, full, get_mut);
     plan.row("get_mut_miss", Order::Absent, full, get_mut);
     plan.row("index_hit", Order::Mixed, full, index);
+    plan.row("index_mut_hit", Order::Mixed, full, index_mut);
 }
 
 /// By raw entries.
@@ -103,6 +133,14 @@ fn raw(plan: &mut Plan) {
     plan.row("raw_hashed_hit", Order::Mixed, full, raw_hashed);
     plan.row("raw_mut_hit", Order::Mixed, full, raw_mut);
     plan.row("raw_mut_miss", Order::Absent, full, raw_mut);
+    plan.row("raw_from_hash_hit", Order::Mixed, full, raw_from_hash);
+    plan.row("raw_from_hash_miss", Order::Absent, full, raw_from_hash);
+    plan.row(
+        "raw_mut_from_hash_hit",
+        Order::Mixed,
+        full,
+        raw_mut_from_hash,
+    );
 }
 
 /// From one place of the program.

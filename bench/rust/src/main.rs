@@ -7,6 +7,7 @@ mod algebra;
 mod budgets;
 mod caches;
 mod command;
+mod entries;
 mod fill;
 mod growth;
 mod inserts;
@@ -26,6 +27,7 @@ fn main() -> ExitCode {
     command::run("hashlink-bench", |plan| {
         lookups::rows(plan);
         inserts::rows(plan);
+        entries::rows(plan);
         growth::rows(plan);
         removals::rows(plan);
         walks::rows(plan);

@@ -5,6 +5,7 @@ use crate::keys::Keys;
 use crate::lists::Order;
 use crate::plan::{fold, Plan};
 use crate::walks::sum_of;
+use std::hash::BuildHasher;
 
 #[inline(always)]
 fn contains(set: &mut Set, _place: u64, key: &u64) -> u64 {
@@ -62,6 +63,16 @@ fn queue(set: &mut Set, place: u64, key: &u64) -> u64 {
     fold(first, u64::from(set.insert(*key)))
 }
 
+#[inline(always)]
+fn get_or_insert_with(set: &mut Set, _place: u64, key: &u64) -> u64 {
+    *set.get_or_insert_with(key, |key| *key)
+}
+
+#[inline(always)]
+fn to_front(set: &mut Set, _place: u64, key: &u64) -> u64 {
+    u64::from(set.to_front(key))
+}
+
 fn lookups(plan: &mut Plan) {
     plan.row("set_contains_hit", Order::Mixed, full_set, contains);
     plan.row("set_contains_miss", Order::Absent, full_set, contains);
@@ -98,7 +109,20 @@ fn inserts(plan: &mut Plan) {
         full_set,
         get_or_insert,
     );
+    plan.row_afresh(
+        "set_get_or_insert_with_new",
+        Order::Held,
+        empty_set,
+        get_or_insert_with,
+    );
+    plan.row(
+        "set_get_or_insert_with_present",
+        Order::MixedByTurns,
+        full_set,
+        get_or_insert_with,
+    );
     plan.row("set_to_back_hit", Order::MixedByTurns, full_set, to_back);
+    plan.row("set_to_front_hit", Order::MixedByTurns, full_set, to_front);
 }
 
 fn removals(plan: &mut Plan) {
@@ -172,6 +196,19 @@ fn is_equal(sets: &mut (Set, Set), _place: u64, _item: &u64) -> u64 {
     u64::from(sets.0 == sets.1)
 }
 
+/// Of both, which are hashed alike as they are equal.
+#[inline(always)]
+fn hash(sets: &mut (Set, Set), _place: u64, _item: &u64) -> u64 {
+    let hasher = sets.0.hasher();
+    u64::from(hasher.hash_one(&sets.0) == hasher.hash_one(&sets.1))
+}
+
+#[inline(always)]
+fn extend_ref(sets: &mut (Set, Set), _place: u64, _item: &u64) -> u64 {
+    sets.1.extend(sets.0.iter());
+    sets.1.len() as u64
+}
+
 fn wholes(plan: &mut Plan) {
     plan.row("set_iter", Order::Whole, full_set, iter);
     plan.row_afresh("set_into_iter", Order::Whole, once, into_iter);
@@ -180,6 +217,8 @@ fn wholes(plan: &mut Plan) {
     plan.row_afresh("set_retain", Order::Whole, full_set, retain);
     plan.row_afresh("set_clone", Order::Whole, full_and_empty, copy);
     plan.row("set_eq", Order::Whole, two_full, is_equal);
+    plan.row("set_hash", Order::Both, two_full, hash);
+    plan.row_afresh("set_extend_ref", Order::Whole, full_and_empty, extend_ref);
 }
 
 pub fn rows(plan: &mut Plan) {

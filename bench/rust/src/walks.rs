@@ -61,6 +61,16 @@ fn values(map: &mut Map, _place: u64, _item: &u64) -> u64 {
     sum_of(map.values())
 }
 
+#[inline(always)]
+fn keys_reversed(map: &mut Map, _place: u64, _item: &u64) -> u64 {
+    sum_of(map.keys().rev())
+}
+
+#[inline(always)]
+fn values_reversed(map: &mut Map, _place: u64, _item: &u64) -> u64 {
+    sum_of(map.values().rev())
+}
+
 /// Adds one to each value.
 #[inline(always)]
 fn iter_mut(map: &mut Map, _place: u64, _item: &u64) -> u64 {
@@ -133,6 +143,11 @@ fn drain_half(map: &mut Map, _place: u64, _item: &u64) -> u64 {
     sum_of_owned(map.drain().take(half))
 }
 
+#[inline(always)]
+fn drain_reversed(map: &mut Map, _place: u64, _item: &u64) -> u64 {
+    sum_of_owned(map.drain().rev())
+}
+
 /// A cursor from the front to the back.
 #[inline(always)]
 fn cursor_walk(map: &mut Map, _place: u64, _item: &u64) -> u64 {
@@ -173,6 +188,8 @@ fn borrowing(plan: &mut Plan) {
     plan.row("iter_from", Order::Mixed, full, iter_from);
     plan.row("keys", Order::Whole, full, keys);
     plan.row("values", Order::Whole, full, values);
+    plan.row("keys_reversed", Order::Whole, full, keys_reversed);
+    plan.row("values_reversed", Order::Whole, full, values_reversed);
 }
 
 fn writing(plan: &mut Plan) {
@@ -190,6 +207,7 @@ fn owning(plan: &mut Plan) {
     plan.row_afresh("into_iter_half", Order::Whole, full, into_iter_half);
     plan.row_afresh("drain", Order::Whole, full, drain);
     plan.row_afresh("drain_half", Order::Whole, full, drain_half);
+    plan.row_afresh("drain_reversed", Order::Whole, full, drain_reversed);
 }
 
 pub fn rows(plan: &mut Plan) {

@@ -89,6 +89,22 @@ fn extend(pairs: &mut Pairs, _place: u64, _item: &u64) -> u64 {
     pairs.1.len() as u64
 }
 
+/// By an iterator that is kept. hashlink has no `extend_from`.
+#[inline(always)]
+fn extend_from(pairs: &mut Pairs, _place: u64, _item: &u64) -> u64 {
+    let mut items = pairs.0.iter().copied();
+    pairs.1.extend(&mut items);
+    pairs.1.len() as u64
+}
+
+/// By a closure that is kept. hashlink has no `retain_from`.
+#[inline(always)]
+fn retain_from(map: &mut Map, _place: u64, _item: &u64) -> u64 {
+    let mut is_even = |key: &u64, _value: &mut u64| *key % 2 == 0;
+    map.retain(&mut is_even);
+    map.len() as u64
+}
+
 /// A map a quarter of whose entries are gone.
 fn thinned(keys: &Keys) -> Map {
     let mut map = full(keys);
@@ -104,6 +120,8 @@ fn of_one(plan: &mut Plan) {
     plan.row_afresh("shrink_to_fit", Order::Whole, thinned, shrink);
     plan.row_afresh("from_iter", Order::Whole, pairs, build);
     plan.row_afresh("extend", Order::Whole, pairs, extend);
+    plan.row_afresh("extend_from", Order::Whole, pairs, extend_from);
+    plan.row_afresh("retain_from", Order::Whole, full, retain_from);
 }
 
 fn of_two(plan: &mut Plan) {

@@ -81,7 +81,7 @@ impl Row for SymmetricDifference {
     }
 }
 
-/// The number of elements, of a set if memory has sufficed for it.
+/// The number of elements of a set, if there was memory for it.
 #[inline(always)]
 fn count<E: Drop>(set: Result<Set, E>) -> Option<u64> {
     Some(set.ok()?.len() as u64)

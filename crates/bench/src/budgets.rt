@@ -1,4 +1,4 @@
-//! The calls of a cache with a budget, where a key weighs from 1 to 16.
+//! The calls of a cache with a budget. A key weighs from 1 to 16.
 use crate::fill::{Fill, Filled, Made};
 use crate::keys::Keys;
 use crate::lists::Order;
@@ -19,7 +19,7 @@ impl Filled for Cache {
     }
 }
 
-/// A cache of this budget that the keys went into.
+/// A cache of this budget into which the keys were inserted.
 fn filled_of(keys: &Keys, budget: u64) -> Option<Cache> {
     let mut cache = WeightedCache::new(keys.alloc, budget);
     for (place, key) in keys.held.iter().enumerate() {
@@ -28,7 +28,7 @@ fn filled_of(keys: &Keys, budget: u64) -> Option<Cache> {
     Some(cache)
 }
 
-/// A look-up of a key, and an insert where it is not there.
+/// A look-up of a key, and an insert if it is absent.
 struct UseKey;
 
 impl Row for UseKey {
@@ -155,9 +155,36 @@ impl Row for Iter {
     }
 }
 
+/// Counts what is evicted.
+struct InsertEvicting;
+
+impl Row for InsertEvicting {
+    type State = Cache;
+
+    type Item = u64;
+
+    const LINES: &'static [Line] = &[(
+        "weighted_insert_evicting",
+        Order::AbsentAndHeld,
+        Made::Once,
+        Fill::Half,
+    )];
+
+    #[inline(always)]
+    fn call(cache: &mut Cache, place: u64, key: &u64) -> Option<u64> {
+        let mut count: u64 = 0;
+        let mut on_evicted = |_key: u64, _value: u64| count = count.wrapping_add(1);
+        let old = cache
+            .insert_evicting(*key, place, 1 + *key % 16, &mut on_evicted)
+            .ok()?;
+        Some(fold(count, old.unwrap_or(*key)))
+    }
+}
+
 pub(crate) fn rows(plan: &mut Plan<'_>) {
     plan.kind("budgets");
     plan.rows::<UseKey, Peek, Get, Insert>();
     plan.row::<Remove>();
     plan.row::<Iter>();
+    plan.row::<InsertEvicting>();
 }

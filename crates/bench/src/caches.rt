@@ -2,8 +2,9 @@
 use crate::fill::{Cache, Fill, LoneCache, Made};
 use crate::lists::Order;
 use crate::plan::{Line, Plan, Row, fold};
+use crate::walks::{sum_of_owned, sum_of_pairs};
 
-/// A look-up of a key, and an insert where it is not there.
+/// A look-up of a key, and an insert if it is absent.
 pub(crate) struct UseKey;
 
 impl Row for UseKey {
@@ -299,7 +300,7 @@ impl Row for GetOrInsertWith {
     }
 }
 
-/// The entry may be one too many until the next call.
+/// The cache may have one entry beyond its capacity until the next call.
 struct EntryOrInsert;
 
 impl Row for EntryOrInsert {
@@ -373,6 +374,152 @@ impl Row for SetCapacity {
     }
 }
 
+struct RawGet;
+
+impl Row for RawGet {
+    type State = Cache;
+
+    type Item = u64;
+
+    const LINES: &'static [Line] = &[("lru_raw_get_hit", Order::Mixed, Made::Once, Fill::Full)];
+
+    #[inline(always)]
+    fn call(cache: &mut Cache, _place: u64, key: &u64) -> Option<u64> {
+        match cache.raw_entry().from_key(key) {
+            Some((stored, value)) => Some(fold(*stored, *value)),
+            None => Some(*key),
+        }
+    }
+}
+
+/// As `EntryOrInsert`.
+struct RawOrInsert;
+
+impl Row for RawOrInsert {
+    type State = Cache;
+
+    type Item = u64;
+
+    const LINES: &'static [Line] = &[(
+        "lru_raw_or_insert_new",
+        Order::AbsentAndHeld,
+        Made::Once,
+        Fill::Full,
+    )];
+
+    #[inline(always)]
+    fn call(cache: &mut Cache, place: u64, key: &u64) -> Option<u64> {
+        match cache.raw_entry_mut().from_key(key).or_insert(*key, place) {
+            Ok((stored, value)) => Some(fold(*stored, *value)),
+            Err(_) => None,
+        }
+    }
+}
+
+struct RemoveEntry;
+
+impl Row for RemoveEntry {
+    type State = Cache;
+
+    type Item = u64;
+
+    const LINES: &'static [Line] = &[(
+        "lru_remove_entry_hit",
+        Order::Mixed,
+        Made::Anew,
+        Fill::Full,
+    )];
+
+    #[inline(always)]
+    fn call(cache: &mut Cache, _place: u64, key: &u64) -> Option<u64> {
+        match cache.remove_entry(key) {
+            Some((stored, value)) => Some(fold(stored, value)),
+            None => Some(*key),
+        }
+    }
+}
+
+struct Iter;
+
+impl Row for Iter {
+    type State = Cache;
+
+    type Item = u64;
+
+    const LINES: &'static [Line] = &[("lru_iter", Order::Whole, Made::Once, Fill::Full)];
+
+    #[inline(always)]
+    fn call(cache: &mut Cache, _place: u64, _item: &u64) -> Option<u64> {
+        sum_of_pairs(cache.iter())
+    }
+}
+
+struct Drain;
+
+impl Row for Drain {
+    type State = Cache;
+
+    type Item = u64;
+
+    const LINES: &'static [Line] = &[("lru_drain", Order::Whole, Made::Anew, Fill::Full)];
+
+    #[inline(always)]
+    fn call(cache: &mut Cache, _place: u64, _item: &u64) -> Option<u64> {
+        sum_of_owned(cache.drain())
+    }
+}
+
+/// Keeps about half of the entries.
+struct Retain;
+
+impl Row for Retain {
+    type State = Cache;
+
+    type Item = u64;
+
+    const LINES: &'static [Line] = &[("lru_retain", Order::Whole, Made::Anew, Fill::Full)];
+
+    #[inline(always)]
+    fn call(cache: &mut Cache, _place: u64, _item: &u64) -> Option<u64> {
+        cache.retain(|key, _| *key % 2 == 0);
+        Some(cache.len() as u64)
+    }
+}
+
+struct CloneAll;
+
+impl Row for CloneAll {
+    type State = (Cache, Cache);
+
+    type Item = u64;
+
+    const LINES: &'static [Line] = &[("lru_clone", Order::Whole, Made::Anew, Fill::Full)];
+
+    #[inline(always)]
+    fn call(caches: &mut (Cache, Cache), _place: u64, _item: &u64) -> Option<u64> {
+        caches.1 = caches.0.clone().ok()?;
+        Some(caches.1.len() as u64)
+    }
+}
+
+/// With the pairs that it has.
+struct Extend;
+
+impl Row for Extend {
+    type State = (Cache, Cache);
+
+    type Item = u64;
+
+    const LINES: &'static [Line] = &[("lru_extend", Order::Whole, Made::Once, Fill::Full)];
+
+    #[inline(always)]
+    fn call(caches: &mut (Cache, Cache), _place: u64, _item: &u64) -> Option<u64> {
+        let pairs = caches.0.iter().map(|(key, value)| (*key, *value));
+        caches.1.extend(pairs).ok()?;
+        Some(caches.1.len() as u64)
+    }
+}
+
 pub(crate) fn rows(plan: &mut Plan<'_>) {
     plan.kind("caches");
     plan.rows::<UseKey, Peek, PeekMut, ContainsKey>();
@@ -380,6 +527,8 @@ pub(crate) fn rows(plan: &mut Plan<'_>) {
     plan.rows::<Push, GetOrInsertWith, EntryOrInsert, Remove>();
     plan.row::<RemoveLru>();
     plan.row::<SetCapacity>();
+    plan.rows::<RawGet, RawOrInsert, RemoveEntry, Iter>();
+    plan.rows::<Drain, Retain, CloneAll, Extend>();
     plan.row_alone::<PeekLone>();
     plan.row_alone::<GetLone>();
 }

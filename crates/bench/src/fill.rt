@@ -1,28 +1,28 @@
-//! What the containers of rows have in them.
+//! The contents of containers before the calls of a row.
 use crate::caches::UseKey;
 use crate::keys::Keys;
 use crate::plan::Row;
 use hashlink::{LinkedHashMap, LinkedHashSet, LruCache};
 
-/// What a container has in it before the calls of a row.
+/// The contents of a container before the calls of a row.
 #[derive(Clone, Copy, PartialEq, Eq)]
 pub(crate) enum Fill {
     Empty,
     /// Nothing, but there is room for the keys.
     Roomy,
-    /// The keys that are held. Into a cache of numbers they come from the last one on.
+    /// The held keys. Into a cache of numbers they are inserted from the last one on.
     Full,
-    /// The same, whose order is not that in memory.
+    /// The held keys, in another order than that in memory.
     Moved,
-    /// The same, which came from the last one on.
+    /// The held keys, inserted from the last one on.
     Backwards,
-    /// All but about a quarter of them.
+    /// The held keys without about a quarter of them.
     Thinned,
     /// Half of the keys, and there is room for no more.
     Half,
-    /// About half of the keys, and as many others as are left out.
+    /// About half of the held keys, and as many absent keys as held keys are left out.
     Overlapping,
-    /// As many others.
+    /// The absent keys, which are as many.
     Absent,
 }
 
@@ -35,10 +35,10 @@ pub(crate) enum Made {
     Anew,
 }
 
-/// What the calls of a row are made on: a container, or two, of which the first is full and the second has
-/// what is said.
+/// What the calls of a row are made on: a container, or two of them, of which the first is full and the
+/// second is filled as the row states.
 pub(crate) trait Filled: Drop {
-    /// Makes it, or returns `None` when memory runs out.
+    /// Makes the container, or returns `None` if memory runs out.
     fn filled(keys: &Keys, fill: Fill) -> Option<Self>;
 }
 
@@ -49,12 +49,12 @@ pub(crate) type LoneMap = LinkedHashMap<u64, u32>;
 
 pub(crate) type Set = LinkedHashSet<u64>;
 
-/// As `LoneMap`.
+/// Like `LoneMap`.
 pub(crate) type LoneSet = LinkedHashSet<(u64, ())>;
 
 pub(crate) type Cache = LruCache<u64, u64>;
 
-/// As `LoneMap`.
+/// Like `LoneMap`.
 pub(crate) type LoneCache = LruCache<u64, u32>;
 
 impl Filled for Map {
@@ -69,7 +69,7 @@ impl Filled for Map {
     }
 }
 
-/// Inserts each key with its place in the list as its value.
+/// Inserts each key with its index in the list as its value.
 fn insert_each(map: &mut Map, keys: &[u64]) -> Option<()> {
     for (place, key) in keys.iter().enumerate() {
         map.insert(*key, place as u64).ok()?;
@@ -117,7 +117,7 @@ impl Filled for Set {
     }
 }
 
-/// The keys, each of which comes from one of the lists, where a key of the first is even or not.
+/// A set that has, for each index, the key of `even` if that is even, else the key of `odd`.
 fn set_of(keys: &Keys, even: &[u64], odd: &[u64]) -> Option<Set> {
     let mut set = LinkedHashSet::new(keys.alloc);
     for (key, other) in even.iter().zip(odd) {
@@ -147,7 +147,7 @@ impl Filled for Cache {
     }
 }
 
-/// A cache that the keys went into, the first one last.
+/// A cache into which the keys were inserted, the first one last.
 fn cache_of(keys: &Keys, capacity: usize) -> Option<Cache> {
     let mut cache = LruCache::new(keys.alloc, capacity);
     for (place, key) in keys.held.iter().rev().enumerate() {
@@ -172,7 +172,7 @@ impl<C: Filled> Filled for (C, C) {
     }
 }
 
-/// A container that a call takes.
+/// A container that a call takes by value.
 impl<C: Filled> Filled for Option<C> {
     fn filled(keys: &Keys, fill: Fill) -> Option<Option<C>> {
         Some(Some(C::filled(keys, fill)?))

@@ -1,4 +1,4 @@
-//! The longest insert of all, which is one for which a map grows.
+//! The longest insert into a map, which is one for which the map grows.
 use crate::fill::{Fill, Made};
 use crate::inserts::Insert;
 use crate::lists::Order;
@@ -9,7 +9,8 @@ use std::io;
 use std::rt::Clock;
 use std::time::Duration;
 
-/// The time of the longest insert, as all keys come into an empty map, and the sum with the answers.
+/// The time of the longest insert, when all keys are inserted into an empty map, and the sum with the
+/// results.
 fn longest_insert(plan: &Plan<'_>) -> io::Result<(Duration, u64)> {
     let mut map = LinkedHashMap::new(plan.keys.alloc);
     let mut longest = Duration::ZERO;
@@ -24,7 +25,7 @@ fn longest_insert(plan: &Plan<'_>) -> io::Result<(Duration, u64)> {
     Ok((longest, sum))
 }
 
-/// Writes the least of the rounds.
+/// Writes the least time of the rounds.
 fn time_longest(plan: &Plan<'_>) -> io::Result<()> {
     let mut least = u128::MAX;
     let mut sum: u64 = 0;

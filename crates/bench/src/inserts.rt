@@ -1,5 +1,5 @@
-//! Inserts into a map, and moves of its entries. An insert of a new key comes to a map that is empty in each
-//! pass, and that grows.
+//! Inserts into a map, and moves of its entries. A new key is inserted into a map that is empty in each pass,
+//! and that grows.
 use crate::fill::{Fill, Made, Map};
 use crate::lists::Order;
 use crate::plan::{Line, Plan, Row, fold};
@@ -147,7 +147,7 @@ impl Row for RawOrInsert {
     }
 }
 
-/// Before the last entry.
+/// An insert before the last entry.
 struct CursorInsert;
 
 impl Row for CursorInsert {

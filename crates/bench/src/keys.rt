@@ -2,18 +2,18 @@
 use crate::random::Xorshift;
 use std::alloc::{AllocError, Global};
 
-/// Lists of keys that look random. None is in both `held` and `absent`.
+/// Lists of keys that look random. No key is in both `held` and `absent`.
 #[derive(Drop)]
 pub(crate) struct Keys {
     pub(crate) alloc: Global,
-    /// The keys of a full container, in the order in which they come in.
+    /// The keys of a full container, in the order in which they are inserted.
     pub(crate) held: Vec<u64>,
-    /// As many others.
+    /// As many other keys.
     pub(crate) absent: Vec<u64>,
-    /// Those that are held, in two other orders.
+    /// The held keys, in two other orders.
     pub(crate) mixed: Vec<u64>,
     pub(crate) mixed_again: Vec<u64>,
-    /// The others in another order.
+    /// The absent keys in another order.
     pub(crate) absent_mixed: Vec<u64>,
     /// The numbers below the size.
     pub(crate) places: Vec<u64>,

@@ -1,37 +1,38 @@
-//! What the calls of a pass are given.
+//! The items of the calls of a pass.
 use crate::keys::Keys;
 use crate::random::Xorshift;
 use std::alloc::{AllocError, Global};
 
-/// Which keys the calls are given, and in which order.
+/// Which keys the calls get, and in which order.
 #[derive(Clone, Copy, PartialEq, Eq)]
 pub(crate) enum Order {
-    /// Those that are held, as they came in.
+    /// The held keys, in the order in which they were inserted.
     Held,
-    /// Others.
+    /// The absent keys.
     Absent,
-    /// Those that are held, mixed.
+    /// The held keys, mixed.
     Mixed,
-    /// The same in two orders by turns, so that a key's neighbours are not those of the last time.
+    /// The held keys, mixed, in two orders by turns, so that a key's neighbours are not the same as in the
+    /// pass before.
     MixedByTurns,
-    /// The others and those that are held, by turns.
+    /// The absent and the held keys, by turns.
     AbsentAndHeld,
-    /// Those that are held, mixed, each with another that comes for it, and back in the next pass.
+    /// The held keys, mixed, each with an absent key that replaces it, and back in the next pass.
     Exchanges,
-    /// Those that are held, the first ones the most often, about as by Zipf's law, others in each pass.
+    /// Held keys, chosen at random in each pass, the first ones most often, about as by Zipf's law.
     Zipf,
-    /// Places in the list of those that are held, chosen in the same way.
+    /// Indexes into the list of held keys, chosen in the same way.
     ZipfPlaces,
-    /// Those that are held, each as often, others in each pass.
+    /// Held keys, chosen at random in each pass, each equally often.
     Uniform,
-    /// A single call, for each entry of a container.
+    /// A single call, counted once for each entry of a container.
     Whole,
-    /// A single call, for each entry of two.
+    /// A single call, counted once for each entry of two containers.
     Both,
 }
 
 impl Order {
-    /// How many operations a pass has.
+    /// The number of operations of a pass.
     pub(crate) fn operations(self, size: usize) -> usize {
         if self == Order::Both {
             size.saturating_mul(2)
@@ -41,9 +42,9 @@ impl Order {
     }
 }
 
-/// What a call is given.
+/// The item of a call.
 pub(crate) trait Listed: Drop {
-    /// Of a key, and of the one that comes for it.
+    /// Makes the item from a key and from the key that replaces it.
     fn of(alloc: Global, key: u64, other: u64) -> Result<Self, AllocError>;
 }
 
@@ -53,7 +54,7 @@ impl Listed for u64 {
     }
 }
 
-/// An element of a set that only rows of one place have.
+/// An element of a set whose calls are made at one place of the program only.
 impl Listed for (u64, ()) {
     fn of(_alloc: Global, key: u64, _other: u64) -> Result<(u64, ()), AllocError> {
         Ok((key, ()))
@@ -66,7 +67,7 @@ impl Listed for (u64, u64) {
     }
 }
 
-/// The items of one pass after the other.
+/// The items of each pass.
 #[derive(Drop)]
 pub(crate) struct Lists {
     order: Order,
@@ -84,7 +85,7 @@ impl Lists {
         }
     }
 
-    /// How many passes had a list.
+    /// The number of passes that had a list.
     pub(crate) fn passes(&self) -> u64 {
         self.passes
     }
@@ -113,7 +114,7 @@ impl Lists {
     }
 }
 
-/// The items of a pass whose keys are not chosen by chance.
+/// The items of a pass whose keys are not chosen at random.
 fn items_of<T: Listed>(keys: &Keys, order: Order, is_back: bool) -> Result<Vec<T>, AllocError> {
     let (now, other) = match order {
         Order::Absent => (&keys.absent, &keys.absent),
@@ -129,7 +130,7 @@ fn items_of<T: Listed>(keys: &Keys, order: Order, is_back: bool) -> Result<Vec<T
     items(keys.alloc, now, other)
 }
 
-/// The items of keys and of those that come for them.
+/// The items of keys and of the keys that replace them.
 pub(crate) fn items<T: Listed>(
     alloc: Global,
     keys: &[u64],

@@ -135,7 +135,7 @@ impl Row for GetMut {
     }
 }
 
-/// A test, and then the value of a key that is present.
+/// A test for a key that is present, and then a read of its value.
 struct Index;
 
 impl Row for Index {
@@ -216,10 +216,80 @@ impl Row for RawMut {
     }
 }
 
+/// A test, and then a write to the value of a key that is present.
+struct IndexWrite;
+
+impl Row for IndexWrite {
+    type State = Map;
+
+    type Item = u64;
+
+    const LINES: &'static [Line] = &[("index_mut_hit", Order::Mixed, Made::Once, Fill::Full)];
+
+    #[inline(always)]
+    fn call(map: &mut Map, place: u64, key: &u64) -> Option<u64> {
+        if map.contains_key(key) {
+            map[key] = place;
+            Some(place)
+        } else {
+            Some(*key)
+        }
+    }
+}
+
+struct RawFromHash;
+
+impl Row for RawFromHash {
+    type State = Map;
+
+    type Item = u64;
+
+    const LINES: &'static [Line] = &[
+        ("raw_from_hash_hit", Order::Mixed, Made::Once, Fill::Full),
+        ("raw_from_hash_miss", Order::Absent, Made::Once, Fill::Full),
+    ];
+
+    #[inline(always)]
+    fn call(map: &mut Map, _place: u64, key: &u64) -> Option<u64> {
+        let hash = map.hasher().hash_one(key);
+        match map.raw_entry().from_hash(hash, |stored| stored == key) {
+            Some((stored, value)) => Some(fold(*stored, *value)),
+            None => Some(*key),
+        }
+    }
+}
+
+struct RawMutFromHash;
+
+impl Row for RawMutFromHash {
+    type State = Map;
+
+    type Item = u64;
+
+    const LINES: &'static [Line] = &[(
+        "raw_mut_from_hash_hit",
+        Order::Mixed,
+        Made::Once,
+        Fill::Full,
+    )];
+
+    #[inline(always)]
+    fn call(map: &mut Map, _place: u64, key: &u64) -> Option<u64> {
+        let hash = map.hasher().hash_one(key);
+        match map.raw_entry_mut().from_hash(hash, |stored| stored == key) {
+            RawEntryMut::Occupied(entry) => Some(*entry.get()),
+            RawEntryMut::Vacant(_) => Some(*key),
+        }
+    }
+}
+
 pub(crate) fn rows(plan: &mut Plan<'_>) {
     plan.kind("lookups");
     plan.rows::<Get, GetKeyValue, ContainsKey, GetMut>();
     plan.rows::<Index, RawGet, RawHashed, RawMut>();
+    plan.row::<IndexWrite>();
+    plan.row::<RawFromHash>();
+    plan.row::<RawMutFromHash>();
     plan.row_alone::<GetLone>();
     plan.row_alone::<ContainsKeyLone>();
 }

@@ -1,19 +1,20 @@
-//! How long the calls of the containers take.
+//! Times the calls of the containers.
 //!
 //! usage: bench WHAT ROUNDS [N ..]
 //!
 //! WHAT is a kind of rows, the name of one row, or all. The kinds are lookups, inserts, growth, removals,
-//! walks, wholes, sets, algebra, caches, budgets and texts. For each N and each row there is a line
-//! `name N ns_per_operation operations` on standard output, the least of so many rounds of about a million
-//! operations, and a line `checksum name N hex` of all answers on standard error. With no rounds each row is
-//! done once and not timed, and its checksum is what goes to standard output.
+//! walks, wholes, sets, algebra, caches, budgets and texts. For each N and each row it prints a line `name N
+//! ns_per_operation operations` to standard output, with the least time of ROUNDS rounds of about a million
+//! operations, and a line `checksum name N hex` of all results to standard error. If ROUNDS is 0, each row is
+//! done once and not timed, and only its checksum is printed, to standard output.
 //!
-//! An operation is a call, or an entry where a call is one for all entries.
+//! An operation is a call or, if a call is one for all entries, an entry.
 #![tactic(auto)]
 
 mod algebra;
 mod budgets;
 mod caches;
+mod entries;
 mod fill;
 mod growth;
 mod inserts;
@@ -48,7 +49,7 @@ fn main(rt: HostRuntime) -> io::Result<ExitCode> {
     Ok(ExitCode::SUCCESS)
 }
 
-/// Says how the program is called.
+/// Prints how the program is called.
 fn refuse(rt: &HostRuntime) -> io::Result<ExitCode> {
     eprintln!(rt;
         "usage: bench WHAT ROUNDS [N ..], where WHAT is all, a row, or one of lookups, inserts, growth, \
@@ -57,7 +58,7 @@ fn refuse(rt: &HostRuntime) -> io::Result<ExitCode> {
     Ok(ExitCode::from(2))
 }
 
-/// Does the rows that are asked for at one size, and returns whether there are any.
+/// Does the requested rows at one size, and returns whether there are any.
 fn time_rows(rt: &HostRuntime, alloc: Global, request: &Request, size: usize) -> io::Result<bool> {
     let keys = Keys::new(alloc, size)?;
     let mut plan = Plan::new(rt, request, &keys);
@@ -69,6 +70,7 @@ fn time_rows(rt: &HostRuntime, alloc: Global, request: &Request, size: usize) ->
 fn all_rows(plan: &mut Plan<'_>) {
     lookups::rows(plan);
     inserts::rows(plan);
+    entries::rows(plan);
     growth::rows(plan);
     removals::rows(plan);
     walks::rows(plan);

@@ -1,4 +1,4 @@
-//! How a row is timed and told.
+//! How a row is timed and printed.
 use crate::fill::{Fill, Filled, Made};
 use crate::keys::Keys;
 use crate::lists::{Listed, Lists, Order};
@@ -8,43 +8,43 @@ use std::io;
 use std::rt::Clock;
 use std::time::Duration;
 
-/// About so many operations make a round.
+/// A round has about this many operations.
 const OPERATIONS: usize = 1_000_000;
 
-/// The rows that are asked for, at one size, and what became of them.
+/// The requested rows at one size, and their outcome.
 #[derive(Drop)]
 pub(crate) struct Plan<'a> {
     pub(crate) rt: &'a HostRuntime,
     pub(crate) request: &'a Request,
     pub(crate) keys: &'a Keys,
-    /// Whether all rows that are told next are asked for.
+    /// Whether all rows of the current kind are requested.
     has_kind: bool,
-    /// Whether a row was asked for.
+    /// Whether any row was requested.
     has_rows: bool,
-    /// Why a row could not be done. The rows after it are left out.
+    /// Why a row could not be done. The rows after it are skipped.
     failure: Option<io::Error>,
 }
 
-/// A row: its name, what the calls are given, and what they are made on.
+/// A row: its name, the items of its calls, when its container is made, and the contents of the container.
 pub(crate) type Line = (&'static str, Order, Made, Fill);
 
 /// A call that is timed.
 pub(crate) trait Row {
-    /// What it is made on.
+    /// What the call is made on.
     type State: Filled;
 
-    /// What it is given.
+    /// The item of the call.
     type Item: Listed;
 
     /// The rows of the call.
     const LINES: &'static [Line];
 
-    /// The call, with an item and its place in the list. It returns the answer as a number, or `None` when
+    /// Makes the call, with an item and its index in the list. Returns the result as a number, or `None` if
     /// memory runs out.
     fn call(state: &mut Self::State, place: u64, item: &Self::Item) -> Option<u64>;
 }
 
-/// Folds an answer into a sum.
+/// Folds a result into a sum.
 #[inline(always)]
 pub(crate) fn fold(sum: u64, answer: u64) -> u64 {
     sum.rotate_left(5) ^ answer
@@ -62,7 +62,7 @@ impl<'a> Plan<'a> {
         }
     }
 
-    /// Tells of which kind the next rows are.
+    /// Sets the kind of the next rows.
     pub(crate) fn kind(&mut self, kind: &str) {
         let what = self.request.what.as_str();
         self.has_kind = what == kind || what == "all";
@@ -98,7 +98,7 @@ impl<'a> Plan<'a> {
         }
     }
 
-    /// Whether the row is asked for.
+    /// Whether the row is requested.
     pub(crate) fn wants(&mut self, name: &str) -> bool {
         let is_asked = self.has_kind || self.request.what.as_str() == name;
         self.has_rows |= is_asked;
@@ -112,7 +112,7 @@ impl<'a> Plan<'a> {
         }
     }
 
-    /// Does a row if it is asked for.
+    /// Does a row if it is requested.
     pub(crate) fn run<const PLACES: u64, W: Row>(&mut self, line: Line) {
         let (name, _, _, _) = line;
         if self.wants(name) {
@@ -145,7 +145,7 @@ impl<'a> Plan<'a> {
         self.print_time(name, least, timed, sum)
     }
 
-    /// Does so many passes.
+    /// Does this many passes.
     fn round<const PLACES: u64, W: Row>(
         &self,
         passes: usize,
@@ -157,7 +157,7 @@ impl<'a> Plan<'a> {
         let mut sum = sum;
         let mut spent = Duration::ZERO;
         for _ in 0..passes {
-            // Not linear as the folds are, so that equal passes don't cancel out.
+            // It is not linear as the folds are, so that equal passes don't cancel out.
             sum = sum.wrapping_add(1).wrapping_mul(0x9e37_79b9_7f4a_7c15);
             let (answers, time) = self.pass::<PLACES, W>(line, lists, state, sum)?;
             sum = answers;
@@ -166,7 +166,7 @@ impl<'a> Plan<'a> {
         Ok((sum, spent))
     }
 
-    /// Does a pass, and returns the sum with the answers and the time that they took.
+    /// Does a pass, and returns the sum with the results and the time that they took.
     fn pass<const PLACES: u64, W: Row>(
         &self,
         line: Line,
@@ -214,8 +214,8 @@ impl<'a> Plan<'a> {
     }
 }
 
-/// Makes the call on each item, and folds the answers into the sum. Each pass goes through another of ten
-/// places in the program, so that no call is fast because it has one caller.
+/// Makes the call on each item, and folds the results into the sum. Each pass uses another of ten places in
+/// the program, so that no call is fast because it has a single caller.
 fn call_each_from_ten<W: Row>(
     pass: u64,
     state: &mut W::State,
@@ -236,8 +236,8 @@ fn call_each_from_ten<W: Row>(
     }
 }
 
-/// Makes the call on each item, and folds the answers into the sum, and the place too: so no two of these
-/// functions are alike, and none is replaced by another.
+/// Makes the call on each item, and folds the results and the place into the sum. So no two of these
+/// functions are alike, and none is merged with another.
 #[inline(never)]
 fn call_each<const PLACE: u64, W: Row>(
     state: &mut W::State,

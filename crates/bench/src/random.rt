@@ -21,7 +21,7 @@ impl Xorshift {
         self.state
     }
 
-    /// So many numbers.
+    /// This many numbers.
     pub(crate) fn numbers(&mut self, alloc: Global, count: usize) -> Result<Vec<u64>, AllocError> {
         let mut numbers = Vec::new(alloc);
         for _ in 0..count {
@@ -40,9 +40,10 @@ impl Xorshift {
         Ok(keys)
     }
 
-    /// Keys out of a list, as many as it has.
+    /// Chooses keys from a list, as many as the list has.
     ///
-    /// Each is one of the first n, n/2, n/4 and so on, in as many parts as are given, each part as often.
+    /// Each is one of the first n, n/2, n/4 and so on, for the given number of parts, each part equally
+    /// often.
     pub(crate) fn choose(
         &mut self,
         alloc: Global,

@@ -22,7 +22,7 @@ impl Row for Remove {
     }
 }
 
-/// The answer for a pair that was removed, if one was.
+/// The result for a pair that was removed, if one was.
 #[inline(always)]
 fn removed(pair: Option<(u64, u64)>, key: u64) -> Option<u64> {
     match pair {
@@ -112,7 +112,7 @@ impl Row for PopBack {
     }
 }
 
-/// Of the entry at the front.
+/// A removal of the entry at the front.
 struct CursorRemove;
 
 impl Row for CursorRemove {
@@ -131,7 +131,7 @@ impl Row for CursorRemove {
     }
 }
 
-/// Of the entry at the back.
+/// A removal of the entry at the back.
 struct BackEntryRemove;
 
 impl Row for BackEntryRemove {
@@ -150,7 +150,7 @@ impl Row for BackEntryRemove {
     }
 }
 
-/// A removal of a key that is there and an insert of one that is not: the map keeps its length.
+/// A removal of a present key and an insert of an absent one: the map keeps its length.
 struct Exchange;
 
 impl Row for Exchange {

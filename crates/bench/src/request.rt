@@ -1,8 +1,8 @@
-//! What the program is asked for.
+//! The program's arguments.
 use std::alloc::{AllocError, Global};
 use std::env::Args;
 
-/// What the program is asked for.
+/// The program's arguments.
 #[derive(Drop)]
 pub(crate) struct Request {
     /// A kind of rows, the name of a row, or `all`.
@@ -12,7 +12,7 @@ pub(crate) struct Request {
 }
 
 impl Request {
-    /// Reads the arguments after the program's name, and returns `None` where they are none that it takes.
+    /// Reads the arguments after the program's name, and returns `None` if they are wrong.
     pub(crate) fn read(alloc: Global, arguments: Args) -> Result<Option<Request>, AllocError> {
         let mut arguments = arguments;
         let _program = arguments.next();

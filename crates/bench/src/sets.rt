@@ -1,10 +1,12 @@
 //! The calls of one set.
+ghost use Rattle.std.specs.Prelude.{◌≡◌};
 ghost use Rattle.std.specs.Iterator.{IsFinite};
 
 use crate::fill::{Fill, LoneSet, Made, Set};
 use crate::lists::Order;
 use crate::plan::{Line, Plan, Row, fold};
 use crate::walks::sum_of;
+use std::hash::BuildHasher;
 
 struct Contains;
 
@@ -339,11 +341,103 @@ impl Row for IsEqual {
     }
 }
 
+struct GetOrInsertWith;
+
+impl Row for GetOrInsertWith {
+    type State = Set;
+
+    type Item = u64;
+
+    const LINES: &'static [Line] = &[
+        (
+            "set_get_or_insert_with_new",
+            Order::Held,
+            Made::Anew,
+            Fill::Empty,
+        ),
+        (
+            "set_get_or_insert_with_present",
+            Order::MixedByTurns,
+            Made::Once,
+            Fill::Full,
+        ),
+    ];
+
+    #[inline(always)]
+    fn call(set: &mut Set, _place: u64, key: &u64) -> Option<u64> {
+        let element = *key;
+        let lent = set.get_or_insert_with(
+            key,
+            |_| -> u64
+                ensures given { result ≡ element }
+            { element },
+        );
+        match lent {
+            Ok(element) => Some(*element),
+            Err(_) => None,
+        }
+    }
+}
+
+struct ToFront;
+
+impl Row for ToFront {
+    type State = Set;
+
+    type Item = u64;
+
+    const LINES: &'static [Line] = &[(
+        "set_to_front_hit",
+        Order::MixedByTurns,
+        Made::Once,
+        Fill::Full,
+    )];
+
+    #[inline(always)]
+    fn call(set: &mut Set, _place: u64, key: &u64) -> Option<u64> {
+        Some(u64::from(set.to_front(key)))
+    }
+}
+
+/// Of both, which are hashed alike as they are equal.
+struct HashBoth;
+
+impl Row for HashBoth {
+    type State = (Set, Set);
+
+    type Item = u64;
+
+    const LINES: &'static [Line] = &[("set_hash", Order::Both, Made::Once, Fill::Full)];
+
+    #[inline(always)]
+    fn call(sets: &mut (Set, Set), _place: u64, _item: &u64) -> Option<u64> {
+        let hasher = sets.0.hasher();
+        Some(u64::from(hasher.hash_one(&sets.0) == hasher.hash_one(&sets.1)))
+    }
+}
+
+struct ExtendRef;
+
+impl Row for ExtendRef {
+    type State = (Set, Set);
+
+    type Item = u64;
+
+    const LINES: &'static [Line] = &[("set_extend_ref", Order::Whole, Made::Anew, Fill::Empty)];
+
+    #[inline(always)]
+    fn call(sets: &mut (Set, Set), _place: u64, _item: &u64) -> Option<u64> {
+        sets.1.extend_ref(sets.0.iter()).ok()?;
+        Some(sets.1.len() as u64)
+    }
+}
+
 pub(crate) fn rows(plan: &mut Plan<'_>) {
     plan.kind("sets");
     plan.rows::<Contains, Get, Insert, Replace>();
     plan.rows::<GetOrInsert, ToBack, Remove, Take>();
     plan.rows::<Queue, Iter, IntoIter, Drain>();
     plan.rows::<Clear, Retain, CloneAll, IsEqual>();
+    plan.rows::<GetOrInsertWith, ToFront, HashBoth, ExtendRef>();
     plan.row_alone::<ContainsLone>();
 }

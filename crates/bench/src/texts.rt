@@ -1,5 +1,5 @@
-//! The calls of maps and caches whose keys are texts, which are asked for by `&str`. An insert takes a copy
-//! of the text that it is given.
+//! The calls of maps and caches whose keys are texts, which are queried by `&str`. An insert takes a copy of
+//! the text that it gets.
 use crate::fill::{Fill, Filled, Made};
 use crate::keys::Keys;
 use crate::lists::{Listed, Order, items};
@@ -11,7 +11,7 @@ type Map = LinkedHashMap<String, u64>;
 
 type Cache = LruCache<String, u64>;
 
-/// The key alone, in 20 bytes.
+/// Only the key, in 20 bytes.
 impl Listed for String {
     fn of(alloc: Global, key: u64, _other: u64) -> Result<String, AllocError> {
         format!(in alloc; "{key:020}")
@@ -27,7 +27,7 @@ impl Listed for (String, String) {
     }
 }
 
-/// Texts that come into a map, the last one first, which are made before.
+/// Texts that are inserted into a map, the last one first. They are made before the timing.
 type Coming = (Vec<String>, Map);
 
 impl Filled for Coming {
@@ -170,7 +170,7 @@ impl Row for Remove {
     }
 }
 
-/// A removal of a text that is there and an insert of one that is not.
+/// A removal of a present text and an insert of an absent one.
 struct Exchange;
 
 impl Row for Exchange {
@@ -321,7 +321,7 @@ impl Filled for Uses {
     }
 }
 
-/// A look-up of the text at a place, and an insert of a copy of it where it is not there.
+/// A look-up of the text at an index, and an insert of a copy of it if it is absent.
 struct UseText;
 
 impl Row for UseText {
@@ -353,12 +353,12 @@ fn token(alloc: Global, key: u64) -> Result<String, AllocError> {
     format!(in alloc; "{key:016x}{rest:016x}")
 }
 
-/// A statement of a database, of 77 bytes, which begins and ends as all others do.
+/// A database statement of 77 bytes, which begins and ends like all others.
 fn statement(alloc: Global, key: u64) -> Result<String, AllocError> {
     format!(in alloc; "SELECT name, price FROM articles WHERE shop = {key:020} AND id = ?")
 }
 
-/// A token or a statement of each key that is held.
+/// A token or a statement for each held key.
 fn texts_of(keys: &Keys, are_tokens: bool) -> Result<Vec<String>, AllocError> {
     let mut texts = Vec::new(keys.alloc);
     for key in &keys.held {

@@ -1,4 +1,4 @@
-//! Iterators over a map, to the end and broken off in the middle, and a cursor's walk.
+//! Iterators over a map, some dropped in the middle, and a cursor's walk.
 ghost use Rattle.std.specs.Iterator.{IsFinite};
 
 use crate::fill::{Fill, Made, Map};
@@ -334,7 +334,7 @@ impl Row for CursorWalk {
     }
 }
 
-/// From the entry of the key on, four entries.
+/// Reads four entries, from that of the key on.
 struct IterFrom;
 
 impl Row for IterFrom {
@@ -350,10 +350,58 @@ impl Row for IterFrom {
     }
 }
 
+struct KeysReversed;
+
+impl Row for KeysReversed {
+    type State = Map;
+
+    type Item = u64;
+
+    const LINES: &'static [Line] = &[("keys_reversed", Order::Whole, Made::Once, Fill::Full)];
+
+    #[inline(always)]
+    fn call(map: &mut Map, _place: u64, _item: &u64) -> Option<u64> {
+        sum_of(map.keys().rev())
+    }
+}
+
+struct ValuesReversed;
+
+impl Row for ValuesReversed {
+    type State = Map;
+
+    type Item = u64;
+
+    const LINES: &'static [Line] = &[("values_reversed", Order::Whole, Made::Once, Fill::Full)];
+
+    #[inline(always)]
+    fn call(map: &mut Map, _place: u64, _item: &u64) -> Option<u64> {
+        sum_of(map.values().rev())
+    }
+}
+
+struct DrainReversed;
+
+impl Row for DrainReversed {
+    type State = Map;
+
+    type Item = u64;
+
+    const LINES: &'static [Line] = &[("drain_reversed", Order::Whole, Made::Anew, Fill::Full)];
+
+    #[inline(always)]
+    fn call(map: &mut Map, _place: u64, _item: &u64) -> Option<u64> {
+        sum_of_owned(map.drain().rev())
+    }
+}
+
 pub(crate) fn rows(plan: &mut Plan<'_>) {
     plan.kind("walks");
     plan.rows::<Iter, IterReversed, IterHalf, IterFrom>();
     plan.rows::<Keys, Values, IterMut, IterMutReversed>();
     plan.rows::<ValuesMut, ValuesMutHalf, CursorWalk, IntoIter>();
     plan.rows::<IntoIterReversed, IntoIterHalf, Drain, DrainHalf>();
+    plan.row::<KeysReversed>();
+    plan.row::<ValuesReversed>();
+    plan.row::<DrainReversed>();
 }

@@ -22,7 +22,7 @@ impl Row for Clear {
     }
 }
 
-/// The end of a map.
+/// The end of a map: its drop.
 struct End;
 
 impl Row for End {
@@ -72,7 +72,7 @@ impl Row for Reserve {
     }
 }
 
-/// Gives back the room and the spare nodes.
+/// Frees the room that no entry needs, and the free nodes.
 struct Shrink;
 
 impl Row for Shrink {
@@ -151,7 +151,7 @@ impl Row for IsAtMost {
     }
 }
 
-/// Of both, which are hashed alike as they are equal.
+/// Hashes both maps. The hashes are equal because the maps are.
 struct HashBoth;
 
 impl Row for HashBoth {
@@ -171,7 +171,7 @@ impl Row for HashBoth {
 /// Pairs, and a map for them.
 type Pairs = (Vec<(u64, u64)>, Map);
 
-/// The keys that are held, each with another as its value, and an empty map.
+/// The held keys, each with another as its value, and an empty map.
 impl Filled for Pairs {
     fn filled(keys: &Keys, _fill: Fill) -> Option<Pairs> {
         let pairs = items(keys.alloc, &keys.held, &keys.absent).ok()?;
@@ -212,9 +212,47 @@ impl Row for Extend {
     }
 }
 
+/// By an iterator that is kept.
+struct ExtendFrom;
+
+impl Row for ExtendFrom {
+    type State = Pairs;
+
+    type Item = u64;
+
+    const LINES: &'static [Line] = &[("extend_from", Order::Whole, Made::Anew, Fill::Empty)];
+
+    #[inline(always)]
+    fn call(pairs: &mut Pairs, _place: u64, _item: &u64) -> Option<u64> {
+        let mut items = pairs.0.iter().copied();
+        pairs.1.extend_from(&mut items).ok()?;
+        Some(pairs.1.len() as u64)
+    }
+}
+
+/// By a closure that is kept.
+struct RetainFrom;
+
+impl Row for RetainFrom {
+    type State = Map;
+
+    type Item = u64;
+
+    const LINES: &'static [Line] = &[("retain_from", Order::Whole, Made::Anew, Fill::Full)];
+
+    #[inline(always)]
+    fn call(map: &mut Map, _place: u64, _item: &u64) -> Option<u64> {
+        let mut is_even = |key: &u64, _value: &mut u64| *key % 2 == 0;
+        map.retain_from(&mut is_even);
+        Some(map.len() as u64)
+    }
+}
+
 pub(crate) fn rows(plan: &mut Plan<'_>) {
     plan.kind("wholes");
     plan.rows::<Clear, End, Retain, Reserve>();
     plan.rows::<Shrink, Build, Extend, CloneAll>();
     plan.rows::<ExtendRef, IsEqual, IsAtMost, HashBoth>();
+    plan.row::<ExtendFrom>();
+    plan.row::<RetainFrom>();
 }

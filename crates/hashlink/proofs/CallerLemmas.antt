@@ -1,21 +1,22 @@
--- What a caller's proof cites of maps, sets and caches, with the dependency `hashlink` alone. Each lemma says
--- which goal it closes. A state is what `state_of` shows of a map, `state_of` of a cache, and a set itself.
+-- Lemmas for callers' proofs about maps, sets and caches, which need only the dependency `hashlink`. The
+-- comment over each lemma names the goal that it closes. A state is `state_of` of a map or of a cache; a set
+-- is its own state.
 use Rattle.std.proofs.Common.{◌≡◌, ℕ, zero, suc, ◌-◌, ◌≤◌, ◌<◌, Bool, true, false, cond, not, is_some, List}
 use Rattle.std.proofs.Common.{[], ◌∷◌, ◌++◌, length, take, drop, Option, None, Some, Result, Ok, Err, refl}
 use Rattle.std.proofs.Common.{sym, ap, subst, ◌∙◌, lt-ltb, map, ◌⊎◌, inl, inr, true≢false, arith, filter}
-use Rattle.std.proofs.Common.{nat_le, le_refl, zero-le}
+use Rattle.std.proofs.Common.{nat_le, le_refl, zero-le, max}
 use Rattle.std.specs.Prelude.{All, IsSome, OnOk, insert, remove, slice_get, unwrap_or, MatchOption}
 use Rattle.std.specs.Prelude.{MatchResult, fold}
-use Rattle.std.specs.Option.{option_map_or, option_or}
+use Rattle.std.specs.Option.{option_map, option_map_or, option_or, option_to_list}
 use Rattle.std.specs.Cmp.{IsEquivalence}
-use Rattle.std.specs.Iterator.{Yields, YieldsThen}
+use Rattle.std.specs.Iterator.{DrainsIf, Yields, YieldsThen}
 use Rattle.std.specs.List.{AllPass, list_any}
 use Rattle.std.specs.List.Sorted.{IsNonDecreasingBy}
 use Rattle.std.specs.Map.{lookup, lookup_entry, keys_of, remove_entry, set_value}
 use Rattle.std.specs.Map.Iter.{TakesFirst}
 use Rattle.std.specs.Set.{is_member}
 use Rattle.std.proofs.lemmas.Bool.{le-leb, lt-leb}
-use Rattle.std.proofs.lemmas.List.{map-append, map-id, take-append-drop}
+use Rattle.std.proofs.lemmas.List.{append-nil, map-append, map-id, take-append-drop}
 use Rattle.std.proofs.lemmas.List.Edits.{insert_end}
 use Rattle.std.proofs.lemmas.List.Elements.{All-cons, All-head, All-tail, All-same, All-append}
 use Rattle.std.proofs.lemmas.List.Elements.{All-take, All-drop, All-push, All-filter}
@@ -25,9 +26,12 @@ use Rattle.std.proofs.lemmas.Map.{NonePasses, keys-set_value}
 use Rattle.std.proofs.lemmas.Map.Entries.{place_from_lookup}
 use Rattle.std.proofs.lemmas.Map.Made.{is_some-lookup}
 use Rattle.std.proofs.lemmas.Option.{none-some, same_Some, slice_get-get_or}
-use Rattle.hashlink_model.specs.Cache.{CacheState, CacheInserts, IsWithin, cache_put}
+use Rattle.hashlink_model.specs.Cache.{CacheState, CacheGetsAndWrites, CacheInserts, IsWithin, cache_put}
+use Rattle.hashlink_model.specs.Cache.{last_entries}
 use Rattle.hashlink_model.specs.Entries.{IsEntries, place_left, place_of, place_without, place_or_end}
-use Rattle.hashlink_model.specs.Entries.{moved_at, moved_match, put, stored_key, without}
+use Rattle.hashlink_model.specs.Entries.{moved_at, moved_match, put, set_key_at, stored_key, without}
+use Rattle.hashlink_model.specs.Entry.{EntryState, entry_of, key_at, value_at}
+use Rattle.hashlink_model.specs.Lookups.{Updates}
 use Rattle.hashlink_model.specs.Many.{AcceptsAll, StopsAt}
 use Rattle.hashlink_model.specs.MapState.{MapState, Inserts}
 use Rattle.hashlink_model.specs.Retain.{KeepsInOrder, RetainsInOrder}
@@ -42,7 +46,11 @@ use Rattle.hashlink_run.specs.CallReplies.{insert_reply, is_refused}
 use Rattle.hashlink_run.specs.Chain.{Answered, replies_of}
 use Rattle.hashlink_run.specs.Run.{LawfulRun, Run, ShownBy, TakesKeysWhereShorter, keeps_nodes}
 use Rattle.hashlink_run.specs.Step.{KeepAsks, ReadBy, Step}
-use Rattle.hashlink_lru.specs.Evicted.{evicted_by}
+use Rattle.hashlink_map.specs.EntryLends.{PutsLast}
+use Rattle.hashlink_map.specs.declared.try_insert_error.TryInsertError.{TryInsertError}
+use Rattle.hashlink_map.specs.declared.try_insert_error.TryInsertError.TheVariants.{Make, Memory}
+use Rattle.hashlink_lru.specs.Cached.{FailsToUse, PutsNewIn, UsesAndWrites}
+use Rattle.hashlink_lru.specs.Evicted.{evicted_by, evicted_entries, pushed_out}
 use Rattle.hashlink_lru.proofs.Evicting.{long, named, named_first, unnamed}
 use Rattle.hashlink_map.proofs.Outcomes.{inserts_entries}
 use Rattle.hashlink_core.proofs.AtKeyNode.{is_some-map}
@@ -55,48 +63,62 @@ use Rattle.hashlink_model.proofs.SetElements.{keys-filter, set_inserts}
 use Rattle.hashlink_model.proofs.SetViews.{keys_of-pairs_of, pairs_of-keys_of}
 use Rattle.hashlink_model.proofs.Splits.{Stands, splits, remove_entry-here, none_from_lookup}
 use Rattle.hashlink_model.proofs.Splits.{remove_entry-none, lookup_key-none, place_of-none, place_of-here}
--- ---- handed on
+-- ---- lemmas of lower crates
 
 -- goal: `lookup`, or `lookup_entry`, at the key that was put, at another key, after a removal, and after a
--- move
+-- move; the length after each; `IsEntries` after a move; a move as a put
 pub use Rattle.hashlink_model.proofs.Afterwards.{lookup-put, lookup-put_same, lookup_entry-put_other}
 pub use Rattle.hashlink_model.proofs.Afterwards.{lookup-without, lookup-without_same}
 pub use Rattle.hashlink_model.proofs.Afterwards.{lookup_entry-without_other, lookup-moved, length-put_absent}
 pub use Rattle.hashlink_model.proofs.Afterwards.{length-put_there, length-without_absent}
 pub use Rattle.hashlink_model.proofs.Afterwards.{length-without_there, length-moved, IsEntries-moved}
 pub use Rattle.hashlink_model.proofs.Afterwards.{moved-absent, moved-there}
--- goal: the length after a put, a removal and a move
--- goal: `IsEntries` after them
+-- goal: `IsEntries` after a put and a removal
+-- goal: `put` written out: at the back, at the front, of an absent key, and at the place of a present key
 pub use Rattle.hashlink_model.proofs.Puts.{IsEntries-put, IsEntries-without, put_back, put_front}
 pub use Rattle.hashlink_model.proofs.Puts.{put_back_absent, put_at_its_place}
--- goal: `put` written out: last, first, of an absent key, and where the key stands; and a move as a put
--- goal: the stored key equals the one given; equal keys are looked up alike
+-- goal: the stored key equals the given one; equal keys have the same look-up
 pub use Rattle.hashlink_model.proofs.Finds.{stored_key-equal, lookup-equal}
--- goal: what is left after a retain by a predicate is a filter
+-- goal: a retain by a predicate leaves a filter
 pub use Rattle.hashlink_model.proofs.Filtered.{retained_by_predicate}
--- goal: a cache's entries after `insert`, its answer, and what a refusal leaves; after a hit and a miss of
--- `get`
+-- goal: a cache's entries after `insert`, its result, and what a refused insert leaves; after a hit and a
+-- miss of `get`
 pub use Rattle.hashlink_model.proofs.CacheSteps.{inserts_entries as cache_inserts_entries}
 pub use Rattle.hashlink_model.proofs.CacheSteps.{inserts_answer as cache_inserts_answer}
 pub use Rattle.hashlink_model.proofs.CacheSteps.{inserts_refused as cache_inserts_refused, gets_hit}
 pub use Rattle.hashlink_model.proofs.CacheSteps.{gets_miss}
--- goal: `lookup` at the key that a cache's insert put in, and at another key; an insert with a place to spare
+-- goal: `lookup` at the key that a cache's insert inserted, and at another key; an insert when there is room
 pub use Rattle.hashlink_model.proofs.Caches.{lookup-cache_put, lookup_entry-cache_put, cache_put-with_a_place}
--- goal: a set's elements after one is put last, written out
+-- goal: a set's elements after one was inserted last, written out
 pub use Rattle.hashlink_model.proofs.SetElements.{put_element_back}
 -- goal: what a cache's insert evicts, by the entry that `evicted_by` names
 pub use Rattle.hashlink_lru.proofs.Evicting.{evicts_first, evicts_alone, evicts_none}
--- goal: what is said of a list whose keys are pairwise unequal: of its first entry and of the others, of keys
--- equal to one that no entry has, and of the entries around one
+-- goal: facts about a list whose keys are pairwise unequal: its first entry and the others, keys equal to a
+-- key that no entry has, and the entries around one
 pub use Rattle.hashlink_model.proofs.Distinct.{IsEntries-cons, IsEntries-head, IsEntries-tail, each-left}
 pub use Rattle.hashlink_model.proofs.Distinct.{none_equal, none_others}
--- goal: what a lookup finds, by the entry that stands there or by the lack of one
+-- goal: what a lookup finds, by the entry at its place or by the lack of one
 pub use Rattle.hashlink_model.proofs.Splits.{lookup-here, lookup-none}
--- goal: what a call that lends says, at the answer that came
+-- goal: the look-ups at every key, at the call's own test and at any other query, after a put, a removal, a
+-- value that was written, and a move
+pub use Rattle.hashlink_model.proofs.Updates.{updates-put, updates-removed, updates-written, keeps-moved}
+-- goal: what any test of keys finds, a text among them
+pub use Rattle.hashlink.proofs.LookUps.{lookup-tested, lookup-by_each, lookup-apart, set_value-absent}
+pub use Rattle.hashlink.proofs.LookUps.{is_text-tests, texts_apart, lookup-text, is_some-lookup_text}
+pub use Rattle.hashlink.proofs.LookUps.{place-from_text, lookup-text_updated, lookup-string_updated}
+pub use Rattle.hashlink.proofs.LookUps.{lookup-text_kept}
+-- goal: the look-ups after a write through what was lent, and after two changes; what is read at any text,
+-- and of a value that was found or else made
+pub use Rattle.hashlink.proofs.LookUps.{updates-lent, updates-twice, read-text_updated, read-text_same}
+pub use Rattle.hashlink.proofs.LookUps.{read-found_or_made}
+-- goal: what a retain leaves whose closure counts
+pub use Rattle.hashlink.proofs.Counting.{removes_first, RemovesFirst, filter-without_first}
+pub use Rattle.hashlink.proofs.Counting.{without_first-keys}
+-- goal: what a lending call ensures, for the result that it returned
 pub use Rattle.hashlink_map.proofs.Walking.{on-some}
 
 module _ {K V : Type 0} (P : K × V → Type 0) where
-  -- ---- what holds of each entry, through a change of a list of entries
+  -- ---- a property of each entry, through a change of a list of entries
 
   -- goal: `All P (remove_entry test es)`, so `All P (without eq es k)`
   pub All-remove_entry : (test : K → Bool) (es : List (K × V)) → All P es → All P (remove_entry test es)
@@ -113,8 +135,8 @@ module _ {K V : Type 0} (P : K × V → Type 0) where
       All-append P (take b es) (e ∷ drop b es) (All-take P b es a)
       (All-cons P e (drop b es) p (All-drop P b es a))
 
-  -- goal: `All P (put eq es k v b)`, as after an insert or a replace. Of values alone the first premise is
-  -- that of v
+  -- goal: `All P (put eq es k v b)`, as after an insert or a replace. If P depends only on values, the first
+  -- premise is P of v
   pub All-put : (eq : K → K → Bool) (es : List (K × V)) (k : K) (v : V) (b : ℕ)
       → P (stored_key eq es k, v) → All P es
       → All P (put eq es k v b)
@@ -122,13 +144,13 @@ module _ {K V : Type 0} (P : K × V → Type 0) where
       All-insert (without eq es k) (place_without eq es k b) (stored_key eq es k, v) p
       (All-remove_entry (eq k) es a)
 
-  -- goal: P of an entry that stands at a place
+  -- goal: P of an entry at a given index
   pub All-at : (es : List (K × V)) (j : ℕ) (e : K × V) → slice_get es j ≡ Some e → All P es → P e
   All-at [] j e h a = absurd (none-some e h)
   All-at (x ∷ es) zero e h a = subst P (same_Some x e h) (All-head P x es a)
   All-at (x ∷ es) (suc j) e h a = All-at es j e h (All-tail P x es a)
 
-  -- goal: P of what a look-up finds, at a key that passes its test
+  -- goal: P of the entry that a look-up finds, at a key that passes its test
   pub All-found : (test : K → Bool) (es : List (K × V)) (v : V) → lookup test es ≡ Some v → All P es
       → (k : K) × P (k, v) × (test k ≡ true)
   All-found test es v l a =
@@ -152,7 +174,7 @@ module _ {K V : Type 0} (P : K × V → Type 0) where
       by None = a
       by (Some j) = at j (slice_get es j) refl
 
-  -- goal: `All P (set_value test es w)`, as after a replace or a write through what is lent
+  -- goal: `All P (set_value test es w)`, as after a replace or a write through a loan
   pub All-set_value : (test : K → Bool) (es : List (K × V)) (w : V)
       → ((k : K) → test k ≡ true → P (k, w)) → All P es
       → All P (set_value test es w)
@@ -173,7 +195,7 @@ module _ {K V : Type 0} (P : K × V → Type 0) where
       let zs = put eq es k v (length es) in
       All-drop P (length zs - cap) zs (All-put eq es k v (length es) p a)
 
-  -- goal: `All P` of a map's entries after a `retain` whose closure answers a predicate and writes nothing
+  -- goal: `All P` of a map's entries after a `retain` whose closure returns a predicate and writes nothing
   pub All-retains : {F S : Type 0} (T : F → K → V → Bool → V → F → Type 0) (p : K × V → Bool)
       → ((f : F) (k : K) (v : V) (b : Bool) (w : V) (g : F) → T f k v b w g → (b ≡ p (k, v)) × (w ≡ v))
       → (f : F) (old new : MapState K V S) (g : F) → RetainsInOrder T f old new g → All P old.entries
@@ -182,7 +204,7 @@ module _ {K V : Type 0} (P : K × V → Type 0) where
       All-same P new.entries _ (retained_by_predicate T p says f old new g r).entries
       (All-filter p P old.entries a)
 
-  -- ---- the same through a step, whatever the call answers
+  -- ---- the same through a step, whatever the call returns
 
   module _ {S : Type 0} (eq : K → K → Bool) (old new : MapState K V S) (k : K) (v : V) where
     -- goal: `All P` of a map's entries after `insert`, `insert_front` or a cursor's insert
@@ -212,7 +234,7 @@ module _ {K V : Type 0} (P : K × V → Type 0) where
         (All-cache_put eq old.map.entries old.cap k v p a)
     All-cache_inserts eq k v (Err pair) s p a = All-same P new.map.entries _ s.map.grows.entries a
 
--- no two keys were equal before a put after which no two are
+-- if no two keys are equal after a put, none were before
 module _ {K V : Type 0} (eq : K → K → Bool) (laws : IsEquivalence eq) where
   distinct_before : (es : List (K × V)) (k : K) (v : V) (b : ℕ) → IsEntries eq (put eq es k v b)
       → IsEntries eq es
@@ -243,7 +265,7 @@ module _ {K V : Type 0} (eq : K → K → Bool) (laws : IsEquivalence eq) where
 -- ---- each step as an equation of entries
 
 module _ {K V S : Type 0} (eq : K → K → Bool) (old new : MapState K V S) (k : K) (v : V) where
-  -- what an insert of an absent key ends as: the pair is the last entry, or is handed back
+  -- the result of inserting an absent key: the pair is the last entry, or is returned
   abbrev PutLast : Result (Option V) (K × V) → Type 0
   PutLast r =
       MatchResult r (λ w. (w ≡ None) × (new.entries ≡ old.entries ++ (k, v) ∷ []))
@@ -257,7 +279,7 @@ module _ {K V S : Type 0} (eq : K → K → Bool) (old new : MapState K V S) (k 
   inserts_absent none (Ok (Some w)) s = absurd (none-some w (sym none ∙ s.old_value))
   inserts_absent none (Err pair) s = (s.handed_back, s.grows.entries)
 
-  -- goal: the entries after an insert at the end, whether the key was there or not, and its answer
+  -- goal: the entries after an insert at the end, whether the key was present or not, and its result
   pub inserts_back : (r : Result (Option V) (K × V)) → Inserts eq old new k v (length old.entries) r
       → MatchResult r (λ w. (w ≡ lookup (eq k) old.entries)
       × (new.entries ≡ without eq old.entries k ++ (stored_key eq old.entries k, v) ∷ []))
@@ -269,7 +291,7 @@ module _ {K V S : Type 0} (eq : K → K → Bool) (old new : MapState K V S) (k 
 
   -- no two keys are equal afterwards, as each call ensures
   module _ (laws : IsEquivalence eq) (d : IsEntries eq new.entries) where
-    -- goal: the value found at the key after an insert that is not refused
+    -- goal: the value found at the key after an insert that succeeded
     pub lookup-inserts : (b : ℕ) (r : Result (Option V) (K × V)) → Inserts eq old new k v b r
         → OnOk r (lookup (eq k) new.entries ≡ Some v)
     lookup-inserts b (Ok w) s =
@@ -279,7 +301,7 @@ module _ {K V S : Type 0} (eq : K → K → Bool) (old new : MapState K V S) (k 
         (distinct_before eq laws old.entries k v b (subst (IsEntries eq) e d)) (laws.refl k)
     lookup-inserts b (Err pair) s = tt
 
-    -- goal: what is found at another key after an insert, whatever the answer
+    -- goal: the value found at another key after an insert, whatever its result
     pub lookup-inserts_other : (b : ℕ) (q : K) → eq k q ≡ false → (r : Result (Option V) (K × V))
         → Inserts eq old new k v b r
         → lookup (eq q) new.entries ≡ lookup (eq q) old.entries
@@ -291,6 +313,25 @@ module _ {K V S : Type 0} (eq : K → K → Bool) (old new : MapState K V S) (k 
         ∙ rw t refl
     lookup-inserts_other b q t (Err pair) s = ap (lookup (eq q)) s.grows.entries
 
+  -- goal: the look-ups after an insert that is not refused, or once what an entry lent was written, by the
+  -- keys before it, as `c.entry.ensures.distinct` states them
+  pub updates-inserts : IsEquivalence eq → IsEntries eq old.entries → (b : ℕ) (r : Result (Option V) (K × V))
+      → Inserts eq old new k v b r
+      → OnOk r (Updates eq old.entries new.entries k (Some v))
+  updates-inserts laws d b (Ok w) s =
+      subst (λ zs. Updates eq old.entries zs k (Some v)) (sym (inserts_entries eq old new k v b w s).0)
+      (updates-put eq laws old.entries k v b d)
+  updates-inserts laws d b (Err pair) s = tt
+
+module _ {K V : Type 0} (eq : K → K → Bool) where
+  -- goal: the look-ups once w was written through what an entry lent
+  pub updates-entered : {S : Type 0} (old new : MapState K V S) (e : EntryState K V S) (k : K) (w : V)
+      → IsEquivalence eq → IsEntries eq old.entries → e ≡ entry_of eq old k → PutsLast eq e.map new e.key w
+      → Updates eq old.entries new.entries k (Some w)
+  updates-entered old new e k w laws d is s =
+      updates-inserts eq old new k w laws d (length old.entries) (Ok (lookup (eq k) old.entries))
+      (subst (λ x. PutsLast eq x.map new x.key w) is s)
+
 -- ---- lists of entries, written out
 
 -- goal: a list by its first item, as `front` and `peek_lru` return it
@@ -300,6 +341,20 @@ by_first [] None is = refl
 by_first [] (Some x) is = absurd (none-some x (sym is))
 by_first (y ∷ xs) None is = absurd (none-some y is)
 by_first (y ∷ xs) (Some x) is = ap (λ z. z ∷ xs) (same_Some y x (sym is))
+
+module _ {X : Type 0} where
+  -- goal: an item of a list with one more at its end, and that one
+  pub slice_get-push : (xs : List X) (x y : X) (k : ℕ) → slice_get (xs ++ x ∷ []) k ≡ Some y
+      → (slice_get xs k ≡ Some y) ⊎ ((k ≡ length xs) × (y ≡ x))
+  slice_get-push [] x y zero at = inr (refl, same_Some y x (sym at))
+  slice_get-push [] x y (suc k) at = absurd (none-some y at)
+  slice_get-push (z ∷ xs) x y zero at = inl at
+  slice_get-push (z ∷ xs) x y (suc k) at =
+      elim (slice_get-push xs x y k at) [ inl old ↦ inl old | inr new ↦ inr (ap suc new.0, new.1) ]
+
+  pub slice_get-pushed : (xs : List X) (x : X) → slice_get (xs ++ x ∷ []) (length xs) ≡ Some x
+  slice_get-pushed [] x = refl
+  slice_get-pushed (z ∷ xs) x = slice_get-pushed xs x
 
 module _ {K V : Type 0} where
   -- goal: `lookup` in one list of entries behind another, and `set_value` there
@@ -341,8 +396,8 @@ module _ {K V : Type 0} where
       = rw (lt-ltb 0 (suc (length es)) (omega arith)) (omega arith) in
       rw t (ap (λ b. insert es b e) end ∙ insert_end es e)
 
-  -- goal: `put` where a replace puts it, written out: the value changes where the key stands, and an absent
-  -- key goes last; and the keys then
+  -- goal: `put` at the place that a replace uses, written out: the value of a present key changes at its
+  -- place, and an absent key is inserted last; and the keys afterwards
   pub put_in_place : (eq : K → K → Bool) (es : List (K × V)) (k : K) (v : V)
       → put eq es k v (place_or_end eq es k)
       ≡ cond (is_some (lookup (eq k) es)) (set_value (eq k) es v) (es ++ (k, v) ∷ [])
@@ -375,7 +430,7 @@ module _ {K V : Type 0} where
       by false = map-append (λ e. e.0) es ((k, v) ∷ [])
 
 module _ {K V : Type 0} (eq : K → K → Bool) (laws : IsEquivalence eq) where
-  -- goal: `lookup` after a replace of each pair in turn, of which no two keys are equal
+  -- goal: `lookup` after a replace of each pair in order, if no two of the pairs have equal keys
   pub lookup-replaced_each : (q : K) (es pairs : List (K × V)) → IsEntries eq es → IsEntries eq pairs
       → lookup (eq q) (fold (λ zs p. put eq zs p.0 p.1 (place_or_end eq zs p.0)) es pairs)
       ≡ option_or (lookup (eq q) pairs) (lookup (eq q) es)
@@ -395,7 +450,7 @@ module _ {K V : Type 0} (eq : K → K → Bool) (laws : IsEquivalence eq) where
           rw (laws.symm q p.0, t, none) refl
       by false t = rw (laws.symm q p.0, t) refl
 
--- ---- what is found at a key once an entry left, of which no two have equal keys
+-- ---- what is found at a key after an entry left, if no two entries have equal keys
 
 module _ {K V : Type 0} (eq : K → K → Bool) (laws : IsEquivalence eq) (q : K) where
   lookup-behind : (e : K × V) (es : List (K × V)) → IsEntries eq (e ∷ es)
@@ -460,23 +515,113 @@ module _ {K V : Type 0} (eq : K → K → Bool) (laws : IsEquivalence eq) (q : K
             ap (λ m. lookup (eq q) (drop m zs)) one ∙ behind ∙ none
             ∙ grind (arith, other, laws.congr k q e.0, laws.symm q e.0)
 
+-- ---- a use of a cache whose value is lent, as by `get_or_insert_with` and `get_or_try_insert_with`
+
+module _ {K V S : Type 0} (eq : K → K → Bool) (old new : CacheState K V S) (k : K) (v : V) where
+  -- what a use leaves, by what was found: a key that was there is last with v, and an absent one is put last
+  -- with v, after which the last `cap` entries stay, or that one at capacity 0
+  abbrev pub used_by : Option V → List (K × V)
+  used_by o =
+      let es = old.map.entries in
+      cond (is_some o) (set_value (eq k) (moved_match (eq k) es (length es)) v)
+      (last_entries (put eq es k v (length es)) (max old.cap 1))
+
+  used_at : (o : Option V) → MatchOption o (PutsNewIn eq old new k v) (λ _. CacheGetsAndWrites eq old new k v)
+      → new.map.entries ≡ used_by o
+  used_at None s =
+      s.map.fits.entries ∙ ap (λ es. last_entries es (max old.cap 1)) s.map.inserts.adds.entries
+  used_at (Some w) s =
+      ap (λ m. m.entries) s.map.writes ∙ ap (λ es. set_value (eq k) es v) s.map.moves.entries
+
+  -- goal: a cache's entries once v was written through what a use lent. The step is
+  -- `c.get_or_try_insert_with.follows.holds v`, at an `Ok`
+  pub used_entries : UsesAndWrites eq old new k v → new.map.entries ≡ used_by (lookup (eq k) old.map.entries)
+  used_entries s = used_at (lookup (eq k) old.map.entries) s
+
+  -- goal: `All P` of them
+  pub All-used : (P : K × V → Type 0) → IsEquivalence eq → UsesAndWrites eq old new k v
+      → ((q : K) → eq k q ≡ true → P (q, v)) → All P old.map.entries
+      → All P new.map.entries
+  All-used P laws s p a =
+      let es = old.map.entries in
+      let zs = put eq es k v (length es) in
+      let hit = All-set_value P (eq k) _ v p (All-moved_match P (eq k) es (length es) a) in
+      let miss = All-drop P (length zs - max old.cap 1) zs
+      (All-put P eq es k v (length es) (p _ (stored_key-equal eq laws k es)) a) in
+      All-same P new.map.entries _ (used_entries s) (by (lookup (eq k) es) hit miss)
+    where
+      by : (o : Option V)
+          → All P (set_value (eq k) (moved_match (eq k) old.map.entries (length old.map.entries)) v)
+          → All P (last_entries (put eq old.map.entries k v (length old.map.entries)) (max old.cap 1))
+          → All P (used_by o)
+      by None hit miss = miss
+      by (Some w) hit miss = hit
+
+module _ {K V S E : Type 0} (eq : K → K → Bool) (old new : CacheState K V S) (k : K) where
+  -- goal: a cache's entries after a use that failed, which are the same. The step is
+  -- `c.get_or_try_insert_with.follows.holds-at-none`, at an `Err`
+  pub failed_entries : (e : TryInsertError K V E) → FailsToUse eq old new k e
+      → new.map.entries ≡ old.map.entries
+  failed_entries (Make q error) s = ap (λ c. c.map.entries) s
+  failed_entries (Memory pair) s = s.map.grows.entries
+
+-- ---- what a push hands out
+
+-- one entry at most is evicted
+first_evicted : {X : Type 0} (xs : List X) (n : ℕ) → n ≤ 1
+    → option_to_list (first_of (take n xs)) ≡ take n xs
+first_evicted xs zero le = refl
+first_evicted [] (suc n) le = refl
+first_evicted (x ∷ xs) (suc zero) le = refl
+first_evicted (x ∷ xs) (suc (suc n)) le = absurd (omega arith)
+
+module _ {K V : Type 0} (eq : K → K → Bool) (es : List (K × V)) (cap : ℕ) (k : K) (v : V) where
+  -- goal: what a push of an absent key hands out and what it leaves, of a cache that is within its capacity:
+  -- the entries that were there and the new pair, at capacity 0 too
+  pub pushed_absent : lookup (eq k) es ≡ None → length es ≤ cap
+      → option_to_list (pushed_out eq es cap k v) ++ cache_put eq es cap k v ≡ es ++ (k, v) ∷ []
+  pushed_absent none within =
+      let zs = put eq es k v (length es) in
+      let is : zs ≡ es ++ (k, v) ∷ [] = put_back_absent eq es k v (none_from_lookup (eq k) es none) in
+      let more = length-put_absent eq es k v (length es) none in
+      let one : length zs - cap ≤ 1 = omega (arith, more, within) in
+      let out : option_to_list (pushed_out eq es cap k v) ≡ take (length zs - cap) zs
+      = ap (λ o. option_to_list (option_or (option_map (λ w. (k, w)) o) (first_of (evicted_entries zs cap)))) none
+      ∙ first_evicted zs (length zs - cap) one in
+      ap (λ xs. xs ++ cache_put eq es cap k v) out ∙ take-append-drop (length zs - cap) zs ∙ is
+
 -- ---- what came out of a container that is given by value, or of its iterator
 
 module _ {X State A : Type 0} (step : State → State → X → Result A X → Type 0) (es : List X)
     (old new : State) where
-  -- goal: an `extend` or a `from_iter` took all of it
+  -- goal: an `extend` or a `from_iter` read all items
   pub extended_by_all : (it items rest : List X) × (it ≡ es)
       × YieldsThen (TakesFirst (λ x. x)) it items None rest × AcceptsAll step old items new
       → AcceptsAll step old es new
   extended_by_all h = subst (λ xs. AcceptsAll step old xs new) (sym (taken_all h.0 h.1 h.2 h.4) ∙ h.3) h.5
 
-  -- goal: an `extend` took some of it, and one item was refused
+  -- goal: an `extend` read some items, and one of them was refused
   pub extended_until : (taken : ℕ) (back : X) (items left : List X)
       → Yields (TakesFirst (λ x. x)) es items left → StopsAt step old items new taken back []
       → StopsAt step old es new taken back left
   extended_until taken back items left y stops =
       subst (λ xs. StopsAt step old xs new taken back left) (sym (taken_front es items left y))
       (stops_before step old new items left taken back stops)
+
+-- ---- an iterator that gives its list away, as a drain does: `rest` is what is left of it
+
+module _ {I X : Type 0} (steps : I → Option X → I → Type 0) (rest : I → List X)
+    (takes : (i : I) (o : Option X) (j : I) → steps i o j → TakesFirst (λ x. x) (rest i) o (rest j)) where
+  given_front : (i : I) (xs : List X) (j : I) → Yields steps i xs j → rest i ≡ xs ++ rest j
+  given_front i [] j y = ap rest y
+  given_front i (x ∷ xs) j y =
+      takes i (Some x) y.0 y.1 ∙ ap (λ ys. x ∷ ys) (given_front y.0 xs j y.2)
+
+  -- goal: what `drain().collect(alloc)` gave, by its clause `ran`
+  pub given_all : {W : Type 0} → W → (i : I) (xs : List X) → DrainsIf steps W i xs → rest i ≡ xs
+  given_all w i xs ran =
+      let end = ran.2 w in
+      given_front i xs ran.0 ran.1 ∙ ap (λ ys. xs ++ ys) (takes ran.0 None end.0 end.1).0 ∙ append-nil xs
 
 -- ---- a retain whose closure captures: `Holds` says what it holds to, as which time it compares with
 
@@ -499,15 +644,15 @@ module _ {F K V : Type 0} (T : F → K → V → Bool → V → F → Type 0) (H
         r.6 ∙ (λ i. cond (c.0 i) ((e.0, c.1 i) ∷ rest i) (rest i))
         ∙ map-cond (λ x. (x.0, value x)) (passes e) e (filter passes es)
 
-    -- goal: what a retain leaves whose closure answers `passes` and writes `value`. The step is
-    -- `c.retain.ensures.retained.1` of a map, and its field `map` of a cache
+    -- goal: what a retain leaves if its closure returns `passes` and writes `value`. The step is
+    -- `c.retain.ensures.retained.1` for a map, and its field `map` for a cache
     pub retained_writing : {S : Type 0} (f : F) → Holds f → (old new : MapState K V S) (g : F)
         → RetainsInOrder T f old new g
         → KeepsOnly old new (map (λ e. (e.0, value e)) (filter passes old.entries))
     retained_writing f h old new g r =
         subst (KeepsOnly old new) (kept_writing f old.entries r.kept g h r.calls) r.keeps
 
-  -- goal: the same where the closure writes nothing
+  -- goal: the same if the closure writes nothing
   pub retained_where : ((f : F) (k : K) (v : V) (b : Bool) (w : V) (g : F) → Holds f → T f k v b w g
       → (b ≡ passes (k, v)) × (w ≡ v) × Holds g)
       → {S : Type 0} (f : F) → Holds f → (old new : MapState K V S) (g : F) → RetainsInOrder T f old new g
@@ -516,7 +661,7 @@ module _ {F K V : Type 0} (T : F → K → V → Bool → V → F → Type 0) (H
       subst (KeepsOnly old new) (map-id (filter passes old.entries))
       (retained_writing (λ e. e.1) call f h old new g r)
 
--- goal: the same of a set's elements
+-- goal: the same for a set's elements
 pub set_retained_where : {F T S : Type 0} (U : F → T → Bool → F → Type 0) (Holds : F → Type 0)
     (passes : T → Bool)
     → ((f : F) (t : T) (b : Bool) (g : F) → Holds f → U f t b g → (b ≡ passes t) × Holds g)
@@ -527,15 +672,15 @@ set_retained_where U Holds passes call f h old new g r =
     (λ f t v b w g h u. let c = call f t b g h u in (c.0, refl, c.1)) f h old new g r).entries
     ∙ keys-filter passes passes old.entries
 
--- ---- entries in the order of a number, as of a time: it does not fall from one to the next
+-- ---- entries in the order of a number, such as a time, which does not fall from one entry to the next
 
 module _ {K V : Type 0} (n : K × V → ℕ) where
-  -- the number of the last entry, which is the greatest of a list in order; 0 where there is none
+  -- the number of the last entry, which is the greatest in an ordered list; 0 if the list is empty
   abbrev pub number_of_last : List (K × V) → ℕ
   number_of_last es = option_map_or n (last_of es) 0
 
-  -- goal: a bound on each number, from one on the last entry's; one on the last entry's, from one on each;
-  -- and a bound from below on each, from the first entry's
+  -- goal: a bound on each number, from a bound on the last entry's; a bound on the last entry's, from a bound
+  -- on each; and a lower bound on each, from one on the first entry's
   pub All-from_last : (es : List (K × V)) (m : ℕ) → IsNonDecreasingBy n es → number_of_last es ≤ m
       → All (λ e. n e ≤ m) es
   All-from_last es m up le k d lt =
@@ -563,7 +708,7 @@ module _ {K V : Type 0} (n : K × V → ℕ) where
   IsNonDecreasingBy-cons e es a up (suc i) zero d le lt = absurd (omega arith)
   IsNonDecreasingBy-cons e es a up (suc i) (suc j) d le lt = up i j d (omega arith) (omega arith)
 
-  -- goal: the order of what is left without the entry of a key
+  -- goal: the order of the entries left without the entry of a key
   pub IsNonDecreasingBy-remove_entry : (test : K → Bool) (es : List (K × V)) → IsNonDecreasingBy n es
       → IsNonDecreasingBy n (remove_entry test es)
   IsNonDecreasingBy-remove_entry test [] up = up
@@ -579,7 +724,7 @@ module _ {K V : Type 0} (n : K × V → ℕ) where
       by false h =
           IsNonDecreasingBy-cons e (remove_entry test es) (All-remove_entry (λ x. n e ≤ n x) test es above) h
 
-  -- goal: the order once an entry is put last whose number no other exceeds, and the greatest number
+  -- goal: the order after an entry was inserted last whose number is the greatest, and the greatest number
   pub ordered-push : (es : List (K × V)) (e : K × V) → IsNonDecreasingBy n es → All (λ x. n x ≤ n e) es
       → IsNonDecreasingBy n (es ++ e ∷ []) × (number_of_last (es ++ e ∷ []) ≤ n e)
   ordered-push es e up a = (
@@ -587,7 +732,7 @@ module _ {K V : Type 0} (n : K × V → ℕ) where
     number_of_last-from_All (es ++ e ∷ []) (n e) (All-push (λ x. n x ≤ n e) es e a (le_refl (n e))),
   )
 
-  -- goal: the order once a key is put last with a number that none exceeds, and the greatest number
+  -- goal: the order after a key was put last with a number that is the greatest, and the greatest number
   pub ordered-put_back : (eq : K → K → Bool) (es : List (K × V)) (k : K) (v : V) → IsNonDecreasingBy n es
       → number_of_last es ≤ n (stored_key eq es k, v)
       → IsNonDecreasingBy n (without eq es k ++ (stored_key eq es k, v) ∷ [])
@@ -597,7 +742,7 @@ module _ {K V : Type 0} (n : K × V → ℕ) where
       ordered-push (without eq es k) (stored_key eq es k, v) (IsNonDecreasingBy-remove_entry (eq k) es up)
       (All-remove_entry (λ x. n x ≤ m) (eq k) es (All-from_last es m up le))
 
-  -- goal: what is left where entries went from the front until one had at least the number m, as a filter
+  -- goal: the entries left after entries left the front until one had at least the number m, as a filter
   pub filter-front : (m : ℕ) (es rest : List (K × V)) → All (λ e. n e < m) es → All (λ e. m ≤ n e) rest
       → filter (λ e. nat_le m (n e)) (es ++ rest) ≡ rest
   filter-front m [] [] gone left = refl
@@ -618,10 +763,10 @@ module _ {K V : Type 0} (n : K × V → ℕ) where
         rw ((inserts_back eq old new k v (Ok w) s).1) (ordered-put_back eq old.entries k v up le)
     ordered-inserts eq k v (Err pair) s up le = rw s.grows.entries (up, le)
 
--- ---- the same of a set's elements
+-- ---- the same for a set's elements
 
 module _ {T S : Type 0} (old new : SetState T S) where
-  -- goal: the elements after an insert of a new one, and its answer
+  -- goal: the elements after an insert of a new one, and its result
   pub set_inserts_new : (eq : T → T → Bool) (t : T) → list_any (eq t) (elements_of old)
       ≡ false → (r : Result Bool T)
       → SetInserts eq old new t r
@@ -663,20 +808,47 @@ module _ {T S : Type 0} (old new : SetState T S) where
           ∙ map-append (λ e. e.0) (pairs_of rest) ((t, tt) ∷ [])
           ∙ ap (λ ts. ts ++ t ∷ []) (keys_of-pairs_of rest)
 
--- ---- the key object that is stored
+-- ---- the stored key object
 
 module _ {K V : Type 0} (eq : K → K → Bool) (es : List (K × V)) (k : K) where
-  -- goal: the stored key of an absent key is the one given
+  -- goal: the stored key of an absent key is the given one
   pub stored_key-absent : lookup (eq k) es ≡ None → stored_key eq es k ≡ k
   stored_key-absent none = ap (λ o. unwrap_or o k)
       (lookup_key-none (eq k) es (none_from_lookup (eq k) es none))
 
-  -- goal: what is seen of the stored key is what is seen of the one given, where equal keys look alike: the
-  -- very key for numbers (f is `λ x. x`), the bytes for texts (f is `string_bytes`)
+  -- goal: f is the same for the stored key and for the given one, if it is the same for equal keys: f is `λ
+  -- x. x` for numbers, and `string_bytes` for texts
   pub stored_key-seen : {B : Type 0} → IsEquivalence eq → (f : K → B)
       → ((x y : K) → eq x y ≡ true → f x ≡ f y)
       → f (stored_key eq es k) ≡ f k
   stored_key-seen laws f alike = sym (alike k (stored_key eq es k) (stored_key-equal eq laws k es))
+
+-- ---- a key that is replaced by one that equals it
+
+module _ {K V : Type 0} where
+  -- goal: what any key finds once the key at a place was replaced by one that equals it
+  pub lookup-set_key_at : (eq : K → K → Bool) → IsEquivalence eq → (q : K) (es : List (K × V)) (j : ℕ) (k old : K)
+      → key_at es j ≡ Some old → eq old k ≡ true
+      → lookup (eq q) (set_key_at es j k) ≡ lookup (eq q) es
+  lookup-set_key_at eq laws q [] j k old at same = refl
+  lookup-set_key_at eq laws q (e ∷ es) zero k old at same =
+      let is : e.0 ≡ old = same_Some e.0 old at in
+      let alike : eq q k ≡ eq q e.0
+      = laws.symm q k ∙ laws.congr k e.0 q (laws.symm k e.0 ∙ ap (λ x. eq x k) is ∙ same) ∙ laws.symm e.0 q
+      in
+      ap (λ b. cond b (Some e.1) (lookup (eq q) es)) alike
+  lookup-set_key_at eq laws q (e ∷ es) (suc j) k old at same =
+      ap (cond (eq q e.0) (Some e.1)) (lookup-set_key_at eq laws q es j k old at same)
+
+  -- goal: `All P` once the key at a place was replaced
+  pub All-set_key_at : (P : K × V → Type 0) (es : List (K × V)) (j : ℕ) (k : K)
+      → ((v : V) → value_at es j ≡ Some v → P (k, v)) → All P es
+      → All P (set_key_at es j k)
+  All-set_key_at P [] j k p a = a
+  All-set_key_at P (e ∷ es) zero k p a = All-cons P (k, e.1) es (p e.1 refl) (All-tail P e es a)
+  All-set_key_at P (e ∷ es) (suc j) k p a =
+      All-cons P e (set_key_at es j k) (All-head P e es a)
+      (All-set_key_at P es j k p (All-tail P e es a))
 
 -- ---- two commands in one run
 
@@ -726,7 +898,7 @@ module _ {K V B S : Type 0} (eq : K → K → Bool) (Says : K → V → B → Ty
 
 module _ {K V B S : Type 0} {eq : K → K → Bool} {Says : K → V → B → Type 0}
     {Keeps : K → V → Bool → Type 0} where
-  -- goal: in one `run`, the reply to an insert after the removal of a key that is there is a value
+  -- goal: in one `run`, the reply to an insert after the removal of a present key is a value
   pub answered_after_removal : {old new : MapState K V S} {g k : K} {v : V} {replies : List (Reply K V B)}
       (commands : List (Command K V)) → commands ≡ Remove g ∷ Insert k v ∷ []
       → LawfulRun eq Says Keeps old commands replies new → IsSome (lookup (eq g) old.entries)
@@ -737,9 +909,8 @@ module _ {K V B S : Type 0} {eq : K → K → Bool} {Says : K → V → B → Ty
       subst (λ rs. (was : Option V) × (slice_get rs 1 ≡ Some (Value was))) (sym ran.runs.joined)
       (second_answered eq Says Keeps old g k v ran.runs.answers ran.runs.chain ran.shorter p)
 
-  -- goal: what `run` requires of its closure. A pair that it may be shown it may be shown at the first
-  -- command,
-  -- or later
+  -- goal: what `run` requires of its closure: a pair that the closure may be shown is shown at the first
+  -- command or later
   pub shown_now_or_later : {old : MapState K V S} {command : Command K V} {commands : List (Command K V)}
       {pair : K × V} → ShownBy eq Says Keeps old (command ∷ commands) pair
       → (ReadBy eq Says old command pair ⊎ KeepAsks old command pair)

@@ -1,5 +1,9 @@
--- The lemmas for callers stand in CallerLemmas; the files after it are passed on.
+-- The lemmas for callers are in CallerLemmas, Counting, Joined and LookUps; the files after them are passed
+-- on.
 pub mod CallerLemmas
+pub mod Counting
+pub mod Joined
+pub mod LookUps
 pub mod Modified
 pub use Rattle.hashlink_model.proofs.Extends
 pub use Rattle.hashlink_model.proofs.Filtered

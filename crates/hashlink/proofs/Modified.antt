@@ -1,4 +1,4 @@
--- The value of a key is modified where its entry stands, and then the key is put last, or refused.
+-- The value of a key is modified at its entry, and then the key is put last, or refused.
 use Rattle.std.proofs.Common.{◌≡◌, ℕ, Bool, List, [], ◌∷◌, length, Option, None, Some, refl, sym, ap, ap₂}
 use Rattle.std.proofs.Common.{subst, zero, suc, ◌∙◌}
 use Rattle.std.specs.Borrow.{MutBor}
@@ -33,7 +33,7 @@ module _ {K V : Type 0} (eq : K → K → Bool) (es : List (K × V)) (k : K) (j 
       ∙ sym (put-here eq s.0 s.1 s.2 k u b s.3.passes s.3.before)
       ∙ ap (λ zs. put eq zs k u b) (sym s.3.is)
 
--- what a put last of the same key leaves is what it would have left without the modified value
+-- a put of the same key last leaves the same entries, whether its value was modified before or not
 puts_modified : {K V S : Type 0} (eq : K → K → Bool) (old new : MapState K V S) (k : K) (j : ℕ) (v w u : V)
     → place_of (eq k) old.entries ≡ Some j → lookup (eq k) old.entries ≡ Some v
     → PutsLast eq (with_value old j w) new k u
@@ -75,7 +75,7 @@ module _ {K V : Type 0} where
 module _ {K V S F : Type 0} (eq : K → K → Bool)
     (calls : Once F (MutBor V × Unit {0}) (Unit {0} × (MutBor V × Unit {0}))) (f : F)
     (m : MapState K V S) (k : K) where
-  -- what the entry of the key is once its value was modified, by its place
+  -- the entry of the key after its value was modified, by its place
   abbrev ModifiedAt : EntryState K V S → Option ℕ → Type 0
   ModifiedAt e o =
       MatchOption o (e ≡ entry_of eq m k)
@@ -123,7 +123,7 @@ module _ {K V S F : Type 0} (eq : K → K → Bool)
       (value ∙ steps v w ret ∙ sym (ap (λ q. unwrap_or (option_map step q) d) placed))
       (puts_modified eq m new k j v w u p placed (subst (λ x. PutsLast eq x.map new x.key u) is s))
 
-  -- goal: what `or_insert` leaves after `and_modify`, whose closure takes each value one step
+  -- goal: what `or_insert` leaves after `and_modify`, if its closure maps each value by `step`
   pub inserts_modified : (step : V → V) → ((x y : V) → FnOnceReturnsAtMut calls f x tt y → y ≡ step x)
       → (e0 e : EntryState K V S) → e0 ≡ entry_of eq m k → Modifies calls f e0 e
       → (new : MapState K V S) (u d : V) → u ≡ unwrap_or (entry_value e) d

@@ -1,6 +1,7 @@
--- The definitions that the contracts of the containers cite, passed on. Where two crates have a file of one
--- name, the container stands before it here.
+-- The definitions that the contracts of the containers use, passed on. If two crates have files of the same
+-- name, the name here begins with that of the container, such as `MapLends`.
 pub mod Texts
+pub mod WithoutFirst
 pub use Rattle.hashlink_model.specs.Algebra
 pub use Rattle.hashlink_model.specs.Cache
 pub use Rattle.hashlink_history.specs.CacheRuns
@@ -54,6 +55,7 @@ pub use Rattle.hashlink_set.specs.Drain as SetDrain
 pub use Rattle.hashlink_set.specs.Made as SetMade
 pub use Rattle.hashlink_set.specs.SetLends
 pub use Rattle.hashlink_lru.specs.Cached
+pub use Rattle.hashlink_lru.specs.Drain as CacheDrain
 pub use Rattle.hashlink_lru.specs.Evicted
 pub use Rattle.hashlink_lru.specs.Lends as CacheLends
 pub use Rattle.hashlink_weighted.specs.Answers

@@ -1,4 +1,4 @@
--- Which texts a query of a text finds.
+-- The texts that a query for a text finds.
 use Rattle.std.specs.Prelude.{ℕ, Bool, List}
 use Rattle.std.specs.Str.{bytes_eq}
 use Rattle.std.specs.String.{string_bytes}

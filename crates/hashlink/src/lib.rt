@@ -1,5 +1,5 @@
-//! Linked hash containers under the names of hashlink: hash maps, sets and caches that keep their entries in
-//! an order which the caller controls.
+//! Linked hash containers under hashlink's names: hash maps, sets and caches that keep their entries in an
+//! order which the caller controls.
 #![tactic(auto)]
 
 /// The linked hash map.
@@ -34,13 +34,13 @@ pub mod weighted {
     pub use hashlink_weighted::{WeightError, WeightedCache, WeightedIter};
 }
 
-/// How often a cache of each capacity misses, from one pass over the keys that are used.
+/// How often a cache of each capacity misses, computed in one pass over the used keys.
 pub mod miss_curve {
     pub use hashlink_curve::{Falls, MissCurve, miss_curve};
 }
 
-/// Lists of commands to the containers, and the text form in which a program reads them and writes the
-/// answers.
+/// Lists of commands to the containers, and the text form in which a program reads commands and writes the
+/// replies.
 pub mod run {
     pub use hashlink_run::{
         CacheCommand, Command, CursorStep, EntryStep, Pair, PairCommand, Reply, Uses,

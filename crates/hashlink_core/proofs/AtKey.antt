@@ -1,4 +1,4 @@
--- What a step at the place of a key is for the key.
+-- A step at the place of a key, as the step of a map at the key.
 use Rattle.hashlink_core.proofs.Names.{◌≡◌, ℕ, Bool, List, [], ◌∷◌, length, None, Some, refl, sym, ap}
 use Rattle.hashlink_core.proofs.Names.{subst, ◌∙◌, arith, set_value, NonePasses, place_of}
 use Rattle.hashlink_core.proofs.Names.{RemovesKey, WritesEntry, with_value_of, moved_at-put}
@@ -56,7 +56,7 @@ module _ {K V S : Type 0} (eq : K → K → Bool) (m : MapState K V S) (k : K)
   pub absent-taken : RemovesKey eq m m k None
   absent-taken = record { answer = sym (lookup_entry-unplaced (eq k) m.entries p); step = refl }
 
-  -- what is written at an absent key changes nothing
+  -- a write at an absent key changes nothing
   pub absent-written : (w : V) → m ≡ with_value_of eq m k w
   absent-written w =
       ap (λ es. record m { entries = es })

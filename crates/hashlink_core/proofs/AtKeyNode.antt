@@ -1,4 +1,4 @@
--- What the calls of a map leave, from what the calls of the keyed list inside it leave, at the node of a key.
+-- From what the keyed list's calls leave at a key's node to what the map's calls leave.
 use Rattle.hashlink_core.proofs.Names.{◌≡◌, ◌+◌, ◌≤◌, ℕ, Bool, List, [], ◌∷◌, length, Option, None, Some}
 use Rattle.hashlink_core.proofs.Names.{refl, sym, ap, subst, ◌∙◌, arith, slice_get, is_some, option_map}
 use Rattle.hashlink_core.proofs.Names.{IsEquivalence, lookup, lookup_entry, values_of, length-values_of}
@@ -23,7 +23,7 @@ pub guard-number : {K V S : Type 0} (m : Keyed K V S) → place_number m.nodes N
 guard-number m = sym (length-values_of m.nodes)
 
 module _ {K V S : Type 0} {old new : Keyed K V S} {j : ℕ} {v : V} (s : WritesNode old new j v) where
-  -- a value that was written leaves every node at its place
+  -- a write of a value leaves every node at its place
   pub written-number : (p : Option Node) → place_number new.nodes p ≡ place_number old.nodes p
   written-number p = rw s.nodes (place_number-renewed (pair_with_value v) old.nodes j p)
 
@@ -62,7 +62,7 @@ module _ {K V S : Type 0} (eq : K → K → Bool) (old new : Keyed K V S) (k : K
     };
   }
 
-  -- ---- a key that is there, at the node n
+  -- ---- a present key, at the node n
 
   module _ (n : Node) (found : HoldsKey eq old.nodes k n) where
     -- a new value, and then a move
@@ -105,12 +105,12 @@ module _ {K V S : Type 0} (test : K → Bool) (old new : Keyed K V S) (n : Node)
   lent w = ap (λ es. record (state_of old) { entries = es })
       (values-renewed_value old.nodes j w ∙ set_value_at-place test (entries_of old) j w found.place)
 
--- a value that is lent at a node that moved before
+-- a value that is lent at a node that has moved
 module _ {K V S : Type 0} (eq : K → K → Bool) (laws : IsEquivalence eq) (test : K → Bool)
     (tells : IsKeyTest eq test) (old new : Keyed K V S) (n : Node) (found : HoldsMatch test old.nodes n)
     (b b' : ℕ) (same : b' ≡ b) (le : b' ≤ length old.nodes)
     (s : MovesNode old new (place_number old.nodes (Some n)) b') (sound : IsKeyed eq new) where
-  -- the test is the equality with the key that passes
+  -- the test is the equality with the key that passes it
   by_key : (P : (K → Bool) → Type 0) → ((k : K) → HoldsKey eq old.nodes k n → P (eq k)) → P test
   by_key P f =
       let k = key_from_place test eq tells (entries_of old) (place_number old.nodes (Some n)) found.place in

@@ -25,13 +25,15 @@ use Rattle.hashlink_core.proofs.Mapped.{renewed-mapped, values-renewed_value, va
 use Rattle.hashlink_core.proofs.Neighbours.{distinct-left, next-number, prev-number}
 use Rattle.hashlink_core.proofs.Stepping.{pair-at, length-pairs, step-in, step-out, step-renewed, kept}
 use Rattle.hashlink_core.proofs.Steps.{none_passes_from_place}
+use Rattle.hashlink_core.proofs.Walk.{after-number, before-number}
+use Rattle.std.specs.Prelude.{IfNone, ◌<◌}
 use Rattle.hashlink_nodes.specs.NodesLends.{with_value_at as ring_with_value_at}
 
 pub on_err : {A E : Type 0} (r : Result A E) (P : Type 0) → P → OnErr r P
 on_err (Ok x) P p = tt
 on_err (Err e) P p = p
 
--- a step that stored n links stored n at most
+-- a step that stored n links stored at most n
 stores-exactly : (n old new : ℕ) → new ≡ old + n → StoresAtMost n old new
 stores-exactly n old new is = record { grows = omega (arith, is); bound = omega (arith, is) }
 
@@ -39,7 +41,7 @@ or-some : {X Y : Type 0} (f : X → Y) (d : Y) (o : Option X) → IfSome o (λ x
 or-some f d None = tt
 or-some f d (Some x) = refl
 
--- a list is sound where its ring and its table are in step
+-- a list is sound if its ring and its table are in step
 module _ {K V S : Type 0} {eq : K → K → Bool} {hash : K → ℕ} {s : S} {r : Ring K V} {t : Contents Node} where
   pub sound : {seen : Keyed K V S} → seen_as r t s ≡ seen → IsInStep eq hash r t → IsKeyed eq seen
   sound view step = subst (IsKeyed eq) view (record {
@@ -48,13 +50,13 @@ module _ {K V S : Type 0} {eq : K → K → Bool} {hash : K → ℕ} {s : S} {r 
     fits = omega (arith, step.fits, length-pairs r.entries);
   })
 
--- with the ring r and the table t inside, the list is seen as `seen`
+-- the list with the ring r and the table t inside is seen as `seen`
 module _ {K V S : Type 0} {eq : K → K → Bool} (laws : IsEquivalence eq) {hash : K → ℕ} {s : S} {r : Ring K V}
     {t : Contents Node} {seen : Keyed K V S} (view : seen_as r t s ≡ seen) (step : IsInStep eq hash r t) where
   nodes-seen : nodes_of r.entries ≡ seen.nodes
   nodes-seen = ap (λ m. m.nodes) view
 
-  -- the nodes, as the ring has them
+  -- the nodes, as they are in the ring
   keys-inside : keys_of seen.nodes ≡ keys_of r.entries
   keys-inside = ap keys_of (sym nodes-seen) ∙ keys_of-map_values pair_of r.entries
 
@@ -64,7 +66,7 @@ module _ {K V S : Type 0} {eq : K → K → Bool} (laws : IsEquivalence eq) {has
   pub place-inside : (p : Option Node) → IsPlace seen.nodes p → IsPlace r.entries p
   place-inside p = same-place seen.nodes r.entries p keys-inside
 
-  -- a place of the list without the node
+  -- a place of the list without the node n
   pub rest-inside : (n : Node) (p : Option Node) → IsPlace (remove_entry (same_node n) seen.nodes) p
       → IsPlace (remove_entry (same_node n) r.entries) p
   rest-inside n p =
@@ -73,7 +75,7 @@ module _ {K V S : Type 0} {eq : K → K → Bool} (laws : IsEquivalence eq) {has
       ∙ ap keys_of (sym (remove_entry-mapped pair_of (same_node n) r.entries))
       ∙ keys_of-map_values pair_of (remove_entry (same_node n) r.entries))
 
-  -- the place that the ring answers
+  -- the place that the ring returns
   pub next-inside : (p q : Option Node) → IsPlace seen.nodes p → q ≡ next_place (keys_of r.entries) p
       → IsPlaceAt seen.nodes q (following_place (length seen.nodes) (place_number seen.nodes p))
   next-inside p q within is = rw (is, ← keys-inside) (next-number seen.nodes (sound view step).apart p within)
@@ -82,7 +84,7 @@ module _ {K V S : Type 0} {eq : K → K → Bool} (laws : IsEquivalence eq) {has
       → IsPlaceAt seen.nodes q (preceding_place (length seen.nodes) (place_number seen.nodes p))
   prev-inside p q within is = rw (is, ← keys-inside) (prev-number seen.nodes (sound view step).apart p within)
 
-  -- as many nodes are spare as before
+  -- a step that leaves the number of free nodes unchanged
   changed : (s' : Ring K V) (es : List (K × V)) (n : ℕ) → pairs_in s'.entries ≡ es → s'.free ≡ r.free
       → s'.link_writes ≡ r.link_writes + n
       → Changes (state_of seen) (state_of (seen_as s' t s)) es n
@@ -108,9 +110,25 @@ module _ {K V S : Type 0} {eq : K → K → Bool} (laws : IsEquivalence eq) {has
     same-here : i ≡ j
     same-here = sym (number-inside (Some n))
 
-    -- what the node holds, and where it stands
+    -- what the node holds, and its place
     at : (h : Held K V) × IsNodeAt r.entries n h
     at = node-at r.entries n held-inside
+
+    -- the node after it, and the node before it
+    pub after-inside : (q : Node) → IfSome (next_place (keys_of r.entries) (Some n)) (λ m. q ≡ m)
+        → IfNone (next_place (keys_of r.entries) (Some n)) (lookup (same_node q) r.entries ≡ None)
+        → place_number seen.nodes (Some q) ≡ place_number seen.nodes (Some n) + 1
+    after-inside q same absent =
+        let next = after-number r.entries step.apart n q held-inside same absent in
+        omega (arith, number-inside (Some q), next, same-here)
+
+    pub before-inside : (q : Node) → IfSome (prev_place (keys_of r.entries) (Some n)) (λ m. q ≡ m)
+        → 0 < place_number seen.nodes (Some n)
+        → place_number seen.nodes (Some q) + 1 ≡ place_number seen.nodes (Some n)
+    before-inside q same later =
+        let prev = before-number r.entries step.apart n q held-inside same
+        (omega (arith, later, same-here)) in
+        omega (arith, number-inside (Some q), prev, same-here)
 
     pub stored : slice_get (entries_of seen) j ≡ option_map pair_of (lookup (same_node n) r.entries)
     stored = ap₂ (λ ns k. slice_get (values_of ns) k) (sym nodes-seen) (sym same-here)
@@ -124,7 +142,7 @@ module _ {K V S : Type 0} {eq : K → K → Bool} (laws : IsEquivalence eq) {has
         let held : f at.0 ≡ y = cc (sym (ap (option_map f) at.1.found) ∙ is) in
         ap (option_map g) (stored ∙ ap (option_map pair_of) at.1.found) ∙ ap Some (sym (same at.0) ∙ held)
 
-    -- ---- the node left the table, and then the ring
+    -- ---- the node was taken out of the table, and then out of the ring
     module _ (s' : Ring K V) (u : Contents Node) (number : ℕ)
         (numbered : option_map (λ h. h.number) (lookup (same_node n) r.entries) ≡ Some number)
         (left : IsPermutation t.nodes (kept number n ∷ u.nodes)) (room : u.room ≡ t.room)
@@ -157,7 +175,7 @@ module _ {K V S : Type 0} {eq : K → K → Bool} (laws : IsEquivalence eq) {has
             };
           }
 
-    -- ---- the node moved to the place b, right before or right after another one
+    -- ---- the node moved to the place b, directly before or directly after another one
     module _ (s' : Ring K V) (free : s'.free ≡ r.free) (more : s'.link_writes ≡ r.link_writes + 6) where
       moved : (b : ℕ) → s'.entries ≡ moved_at r.entries i b
           → IsInStep eq hash s' t × MovesNode seen (seen_as s' t s) j b
@@ -186,7 +204,7 @@ module _ {K V S : Type 0} {eq : K → K → Bool} (laws : IsEquivalence eq) {has
         moved-after m = moved _ (rw (number-inside p, number-inside None)
             (moves_after-at r.entries n p step.apart held-inside (rest-inside n p place) s'.entries m))
 
-    -- ---- its entry was changed where it stands
+    -- ---- its entry was changed in place
     module _ (s' : Ring K V) (f : Held K V → Held K V) (set : IfSome (lookup (same_node n) r.entries)
         (λ h. s'.entries ≡ set_value (same_node n) r.entries (f h))) (free : s'.free ≡ r.free) where
       renewed : s'.entries ≡ renewed_at f r.entries i
@@ -205,7 +223,7 @@ module _ {K V S : Type 0} {eq : K → K → Bool} (laws : IsEquivalence eq) {has
       renewed-nodes g same = ap nodes_of renewed ∙ renewed-mapped pair_of f g same r.entries i
           ∙ ap₂ (renewed_at g) nodes-seen same-here
 
-    -- its value is v now
+    -- its value now is v
     pub value-written : (s' : Ring K V) (v : V) → IfSome (lookup (same_node n) r.entries)
         (λ h. s'.entries ≡ set_value (same_node n) r.entries (with_value h v))
         → s'.free ≡ r.free → s'.link_writes ≡ r.link_writes
@@ -220,7 +238,7 @@ module _ {K V S : Type 0} {eq : K → K → Bool} (laws : IsEquivalence eq) {has
           },
         )
 
-    -- its key became the equal k
+    -- its key now is the equal k
     pub key-written : (s' : Ring K V) (k : K) → IfSome (lookup (same_node n) r.entries)
         (λ h. s'.entries ≡ set_value (same_node n) r.entries (with_key h k))
         → s'.free ≡ r.free → s'.link_writes ≡ r.link_writes
@@ -239,7 +257,7 @@ module _ {K V S : Type 0} {eq : K → K → Bool} (laws : IsEquivalence eq) {has
           },
         )
 
-    -- its value was lent, and w written there
+    -- its value was lent, and w was written there
     pub lent : (w : V) → IsInStep eq hash (ring_with_value_at r n w) t
         × (seen_as (ring_with_value_at r n w) t s ≡ with_value_at seen n w)
     lent w =
@@ -252,8 +270,8 @@ module _ {K V S : Type 0} {eq : K → K → Bool} (laws : IsEquivalence eq) {has
               view,
         )
 
-  -- ---- a new node n for the absent key k went in right before the place p; before room was made for it the
-  -- list was `old`
+  -- ---- a new node n for the absent key k was put directly before the place p; before room was made for it,
+  -- the list was `old`
   module _ (old : Keyed K V S) (grown : GrowsRoom 1 old seen) (k : K) (v : V)
       (absent : place_of (eq k) (entries_of old) ≡ None) (ready : length old.nodes + 1 ≤ seen.room)
       (p : Option Node) (n : Node) (number : ℕ) (r' : Ring K V) (u : Contents Node)
@@ -324,7 +342,7 @@ module _ {K V S : Type 0} {eq : K → K → Bool} (laws : IsEquivalence eq) {has
           };
         }
 
--- a table that shrank to its nodes, or was refused that, has room for them
+-- a table that shrank to its nodes, or that failed to, has room for them
 pub shrunk-room : {E : Type 0} (t u : Contents Node) (o : Result (Unit {0}) E) → len_of t ≤ t.room
     → OnOk o (u.room ≡ len_of t) → OnErr o (u ≡ t) → len_of t ≤ u.room
 shrunk-room t u (Ok x) fits ok err = omega (arith, ok)

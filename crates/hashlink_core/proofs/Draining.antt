@@ -1,6 +1,6 @@
--- What a step at the back of a drain is to the list that it drains.
-use Rattle.hashlink_core.proofs.Names.{◌≡◌, ℕ, ◌-◌, List, [], ◌∷◌, ◌++◌, length, Option, None, Some, refl, sym}
-use Rattle.hashlink_core.proofs.Names.{ap, ◌∙◌, arith, take, length-append, map-append, values_of, Node}
+-- A step at the back of a drain, as a step of the list that it drains.
+use Rattle.hashlink_core.proofs.Names.{◌≡◌, ◌-◌, List, [], ◌∷◌, ◌++◌, length, Option, None, Some, refl, sym}
+use Rattle.hashlink_core.proofs.Names.{ap, ◌∙◌, arith, take, length-append, map-append, values_of}
 use Rattle.hashlink_core.specs.Drained.{Drained, GivesLast, state_with}
 use Rattle.hashlink_model.proofs.Places.{slice_get_here}
 use Rattle.hashlink_model.specs.MapState.{MapState}

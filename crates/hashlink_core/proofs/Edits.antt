@@ -1,4 +1,4 @@
--- Lists edited at an index, and the place of a key in a list.
+-- Lists changed at an index, and the place of a key in a list.
 use Rattle.std.proofs.Common.{◌≡◌, ℕ, zero, suc, ◌+◌, ◌-◌, ◌<◌, ◌≤◌, Bool, true, false, cond, List, [], ◌∷◌}
 use Rattle.std.proofs.Common.{◌++◌, length, take, drop, Option, None, Some, refl, ap, sym, subst, ◌∙◌, arith}
 use Rattle.std.proofs.Common.{add-one, map, lt-ltb, le-ltb}
@@ -17,7 +17,7 @@ use Rattle.hashlink_model.proofs.Splits.{stands_from_place}
 use Rattle.hashlink_model.proofs.Places.{slice_get_here}
 use Rattle.hashlink_model.proofs.Distinct.{none_others, IsEntries-middle, IsEntries-insert}
 
--- ---- any list, edited at an index
+-- ---- any list, changed at an index
 module _ {X : Type 0} where
   pub drop-at : (xs : List X) (i : ℕ) (x : X) → slice_get xs i ≡ Some x → drop i xs ≡ x ∷ drop (suc i) xs
   drop-at [] i x at = absurd (cc)
@@ -51,12 +51,12 @@ module _ {X Y : Type 0} (f : X → Y) where
   pub remove-map : (xs : List X) (i : ℕ) → map f (remove xs i) ≡ remove (map f xs) i
   remove-map xs i = simp (map-append, take-map, drop-map)
 
-  -- what f was read from
+  -- if f of an option is y, the option has an x, and f of x is y
   pub from_part : (o : Option X) (y : Y) → option_map f o ≡ Some y → (x : X) × (o ≡ Some x) × (f x ≡ y)
   from_part None y h = absurd (cc)
   from_part (Some x) y h = (x, refl, cc)
 
-  -- an element under f, and the one that it is of
+  -- an element of a mapped list, from the element that f maps, and back
   pub mapped-at : (xs : List X) (i : ℕ) (x : X) → slice_get xs i ≡ Some x
       → slice_get (map f xs) i ≡ Some (f x)
   mapped-at xs i x at = slice_get-map f xs i ∙ ap (option_map f) at
@@ -110,7 +110,7 @@ module _ {A B : Type 0} (eq : A → A → Bool) where
       (elim (eq k e.0) as (λ b. cond b 0 (suc (place_or_end eq es k)) ≤ suc (length es))
       [ true ↦ omega arith | false ↦ omega (arith, place_or_end-most es k) ])
 
-  -- what is taken out under the key is what stands at its place
+  -- the entry that is taken out by its key is the one at the key's place
   pub remove_entry-at : (es : List (A × B)) (k : A) → remove_entry (eq k) es
       ≡ remove es (place_or_end eq es k)
   remove_entry-at [] k = refl
@@ -138,13 +138,13 @@ module _ {A B : Type 0} (eq : A → A → Bool) where
         IsEntries-insert eq laws (take i es) e (drop i es) (rw (take-append-drop i es) none)
         (rw (take-append-drop i es) d)
 
-    -- an entry that was put in has another key than the rest
+    -- the key of an entry that was put in differs from all other keys
     pub none-inserted : (fs : List (A × B)) (i : ℕ) (e : A × B) → es ≡ insert fs i e → NonePasses (eq e.0) fs
     none-inserted fs i e is =
         subst (NonePasses (eq e.0)) (take-append-drop i fs)
         (none_others eq laws (take i fs) e (drop i fs) (subst (IsEntries eq) is d))
 
--- the key at the first place where one passes does
+-- the key at the first place where one passes passes
 pub passes-at : {A B : Type 0} (test : A → Bool) (es : List (A × B)) (j : ℕ) (e : A × B)
     → place_of test es ≡ Some j → slice_get es j ≡ Some e → test e.0 ≡ true
 passes-at test es j e p at =

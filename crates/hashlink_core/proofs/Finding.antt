@@ -1,5 +1,5 @@
--- Finding a key's node by the table. A node is marked by a number that is no short hash: so the table finds
--- it, and so it is told from another.
+-- Finding a key's node by the table. A node is marked by a number that is no short hash. So the table finds
+-- it, and it can be distinguished from another node.
 use Rattle.hashlink_core.proofs.Names.{◌++◌, ◌≡◌, ℕ, ◌^◌, ◌<◌, ◌≤◌, Bool, true, false, cond, eqb, eqb-true}
 use Rattle.hashlink_core.proofs.Names.{eq-eqb, List, ◌∷◌, Option, None, Some, refl, ap, sym, subst, ◌∙◌}
 use Rattle.hashlink_core.proofs.Names.{arith, ◌⊎◌, inl, inr, length, Bor, IsEquivalence, Shared, FnReturnsAt}
@@ -19,7 +19,7 @@ use Rattle.hashlink_model.proofs.Splits.{remove_entry-here}
 use Rattle.hashlink_core.proofs.Mapped.{place_number-mapped}
 use Rattle.hashlink_core.proofs.Stepping.{pair-at, held-at, kept, listed, in-table, number-of, was-kept}
 
--- an entry that is written, and taken out or written again
+-- an entry with a new value, which is then taken out or gets another value
 module _ {X : Type 0} (test : Node → Bool) (es : List (Node × X)) (x : X) (found : lookup test es ≡ Some x)
     (w : X) where
   s : Stands test es
@@ -38,7 +38,7 @@ module _ {X : Type 0} (test : Node → Bool) (es : List (Node × X)) (x : X) (fo
       ∙ set_value-here test (s.1.0, w) s.2 s.3.passes v s.0 s.3.before
       ∙ sym (ap (λ l. set_value test l v) s.3.is ∙ set_value-here test s.1 s.2 s.3.passes v s.0 s.3.before)
 
--- the entry of n had this number and got one that is no short hash, which left the entries fs
+-- the number of n's entry was replaced by one that is no short hash, which left the entries fs
 pub record Marked {K V : Type 0} (r : Ring K V) (n : Node) (number : ℕ)
     (fs : List (Node × Held K V)) : Type 0 where
   pub mark : ℕ
@@ -98,7 +98,7 @@ module _ {K V : Type 0} {eq : K → K → Bool} {hash : K → ℕ} {r : Ring K V
     left-removed = ap (remove_entry (same_node n)) set-at
         ∙ remove_entry-set_value (same_node n) r.entries own found (with_number own marked.mark)
 
-    -- it gets its number back
+    -- it has its old number again
     restored : (gs : List (Node × Held K V)) → IfSome (lookup (same_node n) fs)
         (λ h. gs ≡ set_value (same_node n) fs (with_number h number)) → gs ≡ r.entries
     restored gs set =
@@ -117,7 +117,7 @@ module _ {K V : Type 0} {eq : K → K → Bool} {hash : K → ℕ} {r : Ring K V
       pub restored-step : IsInStep eq hash s t
       restored-step = subst (λ r. IsInStep eq hash r t) (sym restored-ring) step
 
-    -- ---- by the table
+    -- ---- the search of the table
     pub asked-holds : (i : ℕ) (m : Node) → Keeps t i m → Holds fs m
     asked-holds i m there = marked-holds m (ap is_some (listed step i m there).1)
 
@@ -142,7 +142,7 @@ module _ {K V : Type 0} {eq : K → K → Bool} {hash : K → ℕ} {r : Ring K V
               ))
         ]) refl
 
-    -- whether a node is found to have it
+    -- whether a node has the mark
     abbrev IsMarked : Node → Bool → Type 0
     IsMarked m b = option_map (λ h. eqb h.number marked.mark) (lookup (same_node m) fs) ≡ Some b
 
@@ -151,7 +151,7 @@ module _ {K V : Type 0} {eq : K → K → Bool} {hash : K → ℕ} {r : Ring K V
         let h = from_part (λ h. eqb h.number marked.mark) (lookup (same_node m) fs) true answer in
         sym (marked-is m (ap is_some (listed step i m there).1) h.0 h.1 (eqb-true _ _ h.2))
 
-    -- a node that is told to be marked is n, which is kept under its old number
+    -- a node that has the mark is n, which the table has under its old number
     pub asked-told : (i : ℕ) (m : Node) → Keeps t i m → IsMarked m true → i ≡ number
     asked-told i m there answer =
         let old = listed step i m there in
@@ -159,7 +159,7 @@ module _ {K V : Type 0} {eq : K → K → Bool} {hash : K → ℕ} {r : Ring K V
         let same : old.0 ≡ own = cc (sym old.1 ∙ at) in
         sym old.2 ∙ ap (λ (h : Held K V). h.number) same ∙ own-number
 
-    -- a node has the mark where it is n
+    -- a node has the mark exactly if it is n
     pub marked-same : (m : Node) → Holds r.entries m → (i : ℕ)
         → option_map (λ h. h.number) (lookup (same_node m) fs) ≡ Some i
         → (IsTrue (eqb i marked.mark) → m ≡ n) × (m ≡ n → IsTrue (eqb i marked.mark))
@@ -173,7 +173,7 @@ module _ {K V : Type 0} {eq : K → K → Bool} {hash : K → ℕ} {r : Ring K V
               eq-eqb i marked.mark is,
         )
 
-    -- what the table took out is n
+    -- the node that the table took out is n
     pub taken-out : (u : Contents Node) (o : Option Node)
         → IfSome o (λ m. IsPermutation t.nodes (kept number m ∷ u.nodes) × IsMarked m true)
         → IfNone o ((m : Node) → Keeps t number m → IsMarked m false)
@@ -187,7 +187,7 @@ module _ {K V : Type 0} {eq : K → K → Bool} {hash : K → ℕ} {r : Ring K V
         subst (λ m. IsPermutation t.nodes (kept number m ∷ u.nodes))
         (sym (only number m (was-kept t u number m some.0) some.1)) some.0
 
--- what a call answered at a node's key
+-- what a call returned for a node's key
 pub answered-at : {K V : Type 0} (P : K → Type 0) (o : Option (Held K V)) (key : K) (value : V)
     → option_map pair_of o ≡ Some (key, value) → P key
     → IfSome o (λ h. P h.key)
@@ -195,7 +195,7 @@ answered-at P o key value is p =
     let x = from_part pair_of o (key, value) is in
     rw x.1 (subst P (sym (ap (λ q. q.0) x.2)) p)
 
--- the answers of a test that tells the keys equal to k from the others
+-- the results of a test that distinguishes the keys equal to k from all others
 pub told : {K F : Type 0} {calls : Shared F (Bor K × Unit {0}) Bool} {eq : K → K → Bool}
     (laws : IsEquivalence eq)
     {hash : K → ℕ} {held : List K} {test : F} {asked : ℕ} {k : K}
@@ -215,7 +215,7 @@ key-held es n h is =
     element-at (keys_of (pairs_in es)) c.0 h.key
     (mapped-at (λ p. p.0) (pairs_in es) c.0 (pair_of h) (pair-at es c.0 n h (at-element es (n, h) c)))
 
--- a search that the table makes: the hash of the keys that pass, and what a call may answer at a node's key
+-- a search of the table: the hash of the keys that pass, and what a call may return for a node's key
 pub record Search {K V : Type 0} (hash : K → ℕ) (r : Ring K V) (passes : K → Bool) (i : ℕ)
     (Answers : K → Bool → Type 0) : Type 0 where
   pub hashed : (x : K) → passes x ≡ true → short (hash x) ≡ i
@@ -238,7 +238,7 @@ query-search build write finish input matches query alike s now same asked i is 
 
 module _ {K V : Type 0} {eq : K → K → Bool} (laws : IsEquivalence eq) {hash : K → ℕ} {r : Ring K V}
     {t : Contents Node} (step : IsInStep eq hash r t) where
-  -- each node that the table has is of the ring
+  -- each node of the table is in the ring
   pub listed-holds : (number : ℕ) (n : Node) → Keeps t number n → Holds r.entries n
   listed-holds number n there = ap is_some (listed step number n there).1
 
@@ -256,7 +256,7 @@ module _ {K V : Type 0} {eq : K → K → Bool} (laws : IsEquivalence eq) {hash 
         → passes h.key ≡ b
     answered n h b here answer = sym (search.tells n h here b (rw here at answer))
 
-    -- a node whose key is told to pass is kept under the short hash
+    -- a node whose key passes by the test is in the table under the short hash
     pub told-hash : (number : ℕ) (n : Node) → Keeps t number n
         → IfSome (lookup (same_node n) r.entries) (λ h. Answers h.key true)
         → number ≡ i
@@ -264,7 +264,7 @@ module _ {K V : Type 0} {eq : K → K → Bool} (laws : IsEquivalence eq) {hash 
         let l = listed step number n there in
         sym l.2 ∙ number-of step n l.0 l.1 ∙ search.hashed l.0.key (answered n l.0 true l.1 answer)
 
-    -- where each node that has the short hash is told not to hold a key that passes, none passes
+    -- if by the test no node with the short hash has a key that passes, no key passes
     none-told : ((n : Node) → Keeps t i n
         → IfSome (lookup (same_node n) r.entries) (λ h. Answers h.key false))
         → NonePasses passes (pairs_in r.entries) ⊎ Stands passes (pairs_in r.entries)
@@ -282,7 +282,7 @@ module _ {K V : Type 0} {eq : K → K → Bool} (laws : IsEquivalence eq) {hash 
         let there = subst (λ k. Keeps t k n) number (in-table step n h here) in
         absurd (cc (sym (answered n h false here (none n there)) ∙ met))
 
-    -- what a search of the table answers
+    -- the result of a search of the table
     pub found-by_table : IsKeyTest eq passes → (o : Option Node)
         → IfSome o (λ n. Keeps t i n
         × IfSome (lookup (same_node n) r.entries) (λ h. Answers h.key true))

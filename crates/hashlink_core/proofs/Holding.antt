@@ -1,4 +1,4 @@
--- Which keys a node holds, by the entry that stands with it, and that it holds them still when it moves.
+-- The keys that a node holds: by the entry that it has, and still after a move.
 use Rattle.hashlink_core.proofs.Names.{◌≡◌, ℕ, Bool, true, List, ◌∷◌, length, Some, refl, ap, sym, subst, ◌∙◌}
 use Rattle.hashlink_core.proofs.Names.{arith, is_some, insert, remove, slice_get, unwrap_or, Contains}
 use Rattle.hashlink_core.proofs.Names.{IsEquivalence, lookup_from_place, lookup-from_Contains}
@@ -8,7 +8,7 @@ use Rattle.hashlink_core.proofs.Names.{place_number, MovesNode, moved_at-is, pas
 use Rattle.std.proofs.lemmas.List.Sorted.{Contains-permutation, IsPermutation-insert}
 use Rattle.hashlink_core.specs.Places.{Holds}
 
--- an entry that stands at p with its node n
+-- an entry at p, with its node n
 module _ {K V S : Type 0} {eq : K → K → Bool} (laws : IsEquivalence eq) (m : Keyed K V S)
     (sound : IsKeyed eq m) (n : Node) (p : ℕ) (e : K × V) (at : slice_get m.nodes p ≡ Some (n, e)) where
   pub number-at : place_number m.nodes (Some n) ≡ p
@@ -28,14 +28,14 @@ module _ {K V S : Type 0} {eq : K → K → Bool} (laws : IsEquivalence eq) (m :
             ∙ ap Some (sym number-at);
       }
 
--- the pair of a node that is there
+-- the pair of a node of the list
 pub at-node : {K V S : Type 0} (m : Keyed K V S) (n : Node) (held : Holds m.nodes n)
     → slice_get (entries_of m) (place_number m.nodes (Some n)) ≡ Some (node-at m.nodes n held).0
 at-node m n held =
     let x = node-at m.nodes n held in
     mapped-at (λ e. e.1) m.nodes (place_number m.nodes (Some n)) (n, x.0) x.1.at
 
--- the key of a node that stands at the first key that passes
+-- the key of a node whose key is the first that passes
 pub holds-passes : {K V S : Type 0} (test : K → Bool) (m : Keyed K V S) (n : Node) → HoldsMatch test m.nodes n
     → PassesAt test (entries_of m) (place_number m.nodes (Some n))
 holds-passes test m n h =
@@ -43,7 +43,7 @@ holds-passes test m n h =
     let j = place_number m.nodes (Some n) in
     rw (at-node m n h.within) (passes-at test (entries_of m) j x.0 h.place (at-node m n h.within))
 
--- it holds each key that equals its own, and no other
+-- a node holds each key that equals its own, and no other
 module _ {K V S : Type 0} (eq : K → K → Bool) (m : Keyed K V S) (n : Node) (k : K) where
   pub equals-stored : (held : Holds m.nodes n)
       → EqualsKeyAt eq (entries_of m) (place_number m.nodes (Some n)) k

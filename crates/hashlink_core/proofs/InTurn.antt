@@ -1,17 +1,17 @@
--- Items that go in, in turn.
+-- Items that are inserted in turn.
 use Rattle.hashlink_core.proofs.Names.{◌≡◌, ℕ, ◌+◌, ◌-◌, ◌^◌, List, [], ◌∷◌, ◌++◌, length, map, min, Result}
 use Rattle.hashlink_core.proofs.Names.{Ok, Err, refl, ap, ◌∙◌, arith, map-append, AcceptsAll, StopsAt}
 use Rattle.std.proofs.Common.{length-append, append_assoc}
 use Rattle.hashlink_model.proofs.InTurn.{accepts_in_parts}
 
 module _ {State Item A : Type 0} (step : State → State → Item → Result A Item → Type 0) where
-  -- one item more was accepted
+  -- one more item was accepted
   pub accepts_another : (a b c : State) (xs : List Item) (x : Item) (r : A) → AcceptsAll step a xs b
       → step b c x (Ok r)
       → AcceptsAll step a (xs ++ x ∷ []) c
   accepts_another a b c xs x r s t = accepts_in_parts step a b c xs (x ∷ []) s (c, r, t, refl)
 
-  -- the item after those that were accepted was refused
+  -- the item after the accepted ones was refused
   pub stops_after : (a b c : State) (xs : List Item) (x back : Item) (taken : ℕ) → AcceptsAll step a xs b
       → taken ≡ min (length xs) (2 ^ 64 - 1)
       → step b c x (Err back)
@@ -26,7 +26,7 @@ module _ {State Item A : Type 0} (step : State → State → Item → Result A I
     count = n;
   }
 
-  -- the same of a longer list, whose rest was not read
+  -- the same for a longer list, whose rest was not read
   pub stops_before : (a c : State) (xs left : List Item) (taken : ℕ) (back : Item)
       → StopsAt step a xs c taken back []
       → StopsAt step a (xs ++ left) c taken back left
@@ -40,7 +40,7 @@ module _ {State Item A : Type 0} (step : State → State → Item → Result A I
     count = s.count;
   }
 
--- how many there are then, up to the greatest `u64`
+-- the number of accepted items after one more, up to the greatest `u64`
 pub counts_another : {X : Type 0} (xs : List X) (x : X) (taken : ℕ) → taken ≡ min (length xs) (2 ^ 64 - 1)
     → min (taken + 1) (2 ^ 64 - 1) ≡ min (length (xs ++ x ∷ [])) (2 ^ 64 - 1)
 counts_another xs x taken n = let long = length-append xs (x ∷ []) in omega arith

@@ -1,4 +1,4 @@
--- A place stays where its entry is, when a pair comes in, an entry moves or a value is written.
+-- A place stays on its entry if a pair is inserted, an entry moves or a value is written.
 use Rattle.hashlink_core.proofs.Names.{◌≡◌, ℕ, suc, Bool, true, false, zero, List, [], ◌∷◌, length, Option}
 use Rattle.hashlink_core.proofs.Names.{None, Some, refl, sym, ap, subst, ◌∙◌, cond, arith, slice_get, is_some}
 use Rattle.hashlink_core.proofs.Names.{unwrap_or, option_map, IsEquivalence, lookup, remove_entry}
@@ -14,7 +14,7 @@ use Rattle.hashlink_core.proofs.AtKeyNode.{is_some-map}
 use Rattle.hashlink_core.proofs.Holding.{at-node, holds_key-at}
 use Rattle.hashlink_core.proofs.Mapped.{mapped}
 
--- at the guard stands no entry
+-- there is no entry at the guard
 pub at-guard : {K V S : Type 0} (m : Keyed K V S) → slice_get (entries_of m) (place_number m.nodes None)
     ≡ None
 at-guard m = slice_get_past (entries_of m) (length m.nodes) (omega (arith, length-values_of m.nodes))
@@ -24,7 +24,7 @@ module _ {K V S : Type 0} (old new : Keyed K V S) where
   keys-held kept m held = sym (is_some-map (λ e. e.0) (lookup (same_node m) new.nodes))
       ∙ ap is_some (kept m held) ∙ is_some-map (λ e. e.0) (lookup (same_node m) old.nodes) ∙ held
 
-  -- so its place is kept
+  -- so the place stays on its entry
   pub keeps-place : {eq : K → K → Bool} → IsEquivalence eq → IsKeyed eq new → KeepsKeys old new
       → (p : Option Node)
       → IsPlace old.nodes p
@@ -98,11 +98,11 @@ module _ {K V S : Type 0} (old new : Keyed K V S) where
   keys-place kept None within = tt
   keys-place kept (Some m) within = keys-held kept m within
 
--- steps in a row
+-- two steps in sequence
 pub keys_twice : {K V S : Type 0} (a b c : Keyed K V S) → KeepsKeys a b → KeepsKeys b c → KeepsKeys a c
 keys_twice a b c s t m h = t m (keys-held a b s m h) ∙ s m h
 
--- ---- a place that is not the node's is of the list without the node too
+-- ---- a place other than the node's is also a place of the list without the node
 
 pub left-place : {X : Type 0} (es : List (Node × X)) → IsEntries same_node es → (n : Node) (p : Option Node)
     → (p ≡ Some n → ⊥) → IsPlace es p → IsPlace (remove_entry (same_node n) es) p

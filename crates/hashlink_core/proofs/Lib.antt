@@ -1,5 +1,5 @@
--- Lemmas on lists by places, on the ring and the table in step, on what each call leaves, and on walks along
--- a ring.
+-- Lemmas on lists by places, on ring and table in step, on what each call leaves, and on iterators along a
+-- ring.
 pub mod Names
 pub mod AtKey
 pub mod AtKeyNode
@@ -17,3 +17,4 @@ pub mod Retaining
 pub mod Stepping
 pub mod Steps
 pub mod Walk
+pub mod Windows

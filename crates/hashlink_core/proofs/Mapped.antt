@@ -1,12 +1,12 @@
--- Lists whose elements are seen through a function: the ring's entries as the pairs with their nodes, and
--- those as the pairs alone.
+-- Lists whose elements are seen through a function: the ring's entries as pairs with their nodes, and pairs
+-- with nodes as pairs.
 use Rattle.hashlink_core.proofs.Names.{◌≡◌, ℕ, zero, suc, Bool, true, false, cond, List, [], ◌∷◌, length}
 use Rattle.hashlink_core.proofs.Names.{Option, refl, ap, map, remove_entry, values_of, length-map}
 use Rattle.hashlink_core.proofs.Names.{keys_of-map_values, set_value_at, set_key_at, Node, place_number}
 use Rattle.hashlink_core.proofs.Names.{renewed_at, pair_with_value, pair_with_key, same-number}
 
 module _ {X Y : Type 0} (f : X → Y) where
-  -- the entries with what f makes of what their nodes hold
+  -- the entries, with f of what each node holds
   abbrev pub mapped : List (Node × X) → List (Node × Y)
   mapped = map (λ e. (e.0, f e.1))
 
@@ -25,7 +25,7 @@ module _ {X Y : Type 0} (f : X → Y) where
       ≡ cond b (mapped es) ((e.0, f e.1) ∷ remove_entry test (mapped es)))
       [ true ↦ refl | false ↦ ap (λ r. (e.0, f e.1) ∷ r) (remove_entry-mapped test es) ]
 
-  -- what is changed under f is changed so that f sees g's change
+  -- if a changes an element, f of it changes by b
   pub renewed-mapped : (a : X → X) (b : Y → Y) → ((x : X) → f (a x) ≡ b (f x))
       → (es : List (Node × X)) (j : ℕ)
       → mapped (renewed_at a es j) ≡ renewed_at b (mapped es) j
@@ -33,7 +33,7 @@ module _ {X Y : Type 0} (f : X → Y) where
   renewed-mapped a b same (e ∷ es) zero = ap (λ y. (e.0, y) ∷ mapped es) (same e.1)
   renewed-mapped a b same (e ∷ es) (suc j) = ap (λ r. (e.0, f e.1) ∷ r) (renewed-mapped a b same es j)
 
--- ---- the pairs alone
+-- ---- the pairs without nodes
 module _ {K V : Type 0} where
   pub values-renewed_value : (ns : List (Node × (K × V))) (j : ℕ) (v : V)
       → values_of (renewed_at (pair_with_value v) ns j) ≡ set_value_at (values_of ns) j v

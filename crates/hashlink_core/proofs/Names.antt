@@ -1,4 +1,4 @@
--- What the proofs of this crate import again and again.
+-- The names that many proofs of this crate import.
 pub use Rattle.hashlink_core.proofs.Edits.{IsEntries-inserted, IsEntries-removed, at-element, drop-at}
 pub use Rattle.hashlink_core.proofs.Edits.{element-at, from-mapped, from_part, insert-map, length-inserted}
 pub use Rattle.hashlink_core.proofs.Edits.{length-removed, mapped-at, moved-map, moved_at-is, none-inserted}

@@ -1,4 +1,4 @@
--- The place after a place, and the one before it, by number.
+-- The next place and the previous one, by their indices.
 use Rattle.hashlink_core.proofs.Names.{◌≡◌, inl, inr, ℕ, zero, suc, ◌+◌, ◌-◌, ◌%◌, ◌<◌, ◌≤◌, false}
 use Rattle.hashlink_core.proofs.Names.{cond, List, [], ◌∷◌, ◌++◌, length, Option, None, Some, refl, ap, sym}
 use Rattle.hashlink_core.proofs.Names.{◌∙◌, arith, slice_get, unwrap_or, keys_of, length-keys_of}
@@ -36,7 +36,7 @@ node_after-at (m ∷ ns) (suc i) n d at =
     ap (λ b. cond b (slice_get ns 0) (node_after n ns)) (other-at m ns i n d at)
     ∙ node_after-at ns i n (IsDistinct-tail same_node m ns d) at
 
--- the node before the one at i: what stands before the list for the first
+-- the node before the one at i; for the first node, `before`
 abbrev before_at : Option Node → List Node → ℕ → Option Node
 before_at before ns zero = before
 before_at before ns (suc i) = slice_get ns i
@@ -65,7 +65,7 @@ last_node-at (m ∷ ns) =
     let one_less : length ns ≡ suc (length ns) - 1 = omega arith in
     last_node-later m ns ∙ ap (slice_get (m ∷ ns)) one_less
 
--- ---- the place before, by number
+-- ---- the previous place, by its index
 pub before-suc : (n i : ℕ) → i ≤ n → preceding_place n (suc i) ≡ i
 before-suc n i le =
     let more : suc i + n ≡ i + (n + 1) = omega arith in
@@ -80,7 +80,7 @@ before-guard (suc n) = before-suc (suc n) n (omega arith) ∙ omega arith
 
 -- ---- entries with their nodes
 module _ {X : Type 0} (es : List (Node × X)) (d : IsEntries same_node es) where
-  -- what stands at i is a place with the number i
+  -- the node at i, or the guard after the last, is the place with the index i
   pub place-at : (i : ℕ) → i ≤ length es → IsPlaceAt es (slice_get (keys_of es) i) i
   place-at i le =
       elim (slice_get_cases (keys_of es) i).1 as (λ _. IsPlaceAt es (slice_get (keys_of es) i) i) [

@@ -1,4 +1,4 @@
--- The numbers of places, and the ring's words by places in terms of them.
+-- The indices of places, and the ring's definitions by places in terms of them.
 use Rattle.std.proofs.Common.{◌≡◌, ◌≢◌, ℕ, zero, suc, ◌+◌, ◌<◌, ◌≤◌, Bool, true, false, cond, List, [], ◌∷◌}
 use Rattle.std.proofs.Common.{length, Option, None, Some, refl, ap, sym, subst, ◌∙◌, arith, add-one, ⊎_elim}
 use Rattle.std.proofs.lemmas.Bool.Decides.{nat_tests}
@@ -33,7 +33,7 @@ around n = mod_self (n + 1)
 pub following-within : (n i : ℕ) → i < n → cursor.following_place n i ≡ suc i
 following-within n i lt = mod-eq_of_lt (omega arith) ∙ add-one i
 
--- where the place after b is once another place j is taken out
+-- the index of the place after b, once another place j is taken out
 following-left : (n j b : ℕ) → j < n + 1 → b ≤ n + 1 → b ≢ j
     → place_left j (cursor.following_place (n + 1) b) ≡ cursor.following_place n (place_left j b)
 following-left n j b lt le other =
@@ -54,7 +54,7 @@ abbrev pub is_node : Option Node → Node → Bool
 is_node None m = false
 is_node (Some n) m = same_node n m
 
--- places depend on the nodes alone
+-- the index of a place depends only on the nodes
 module _ {X Y : Type 0} where
   pub same-number : (es : List (Node × X)) (fs : List (Node × Y)) (p : Option Node)
       → keys_of es ≡ keys_of fs → place_number es p ≡ place_number fs p
@@ -79,7 +79,7 @@ module _ {X Y : Type 0} where
       ∙ ap (list_any (same_node n)) (sym same) ∙ sym (is_some-lookup (same_node n) es) ∙ held
 
 module _ {X : Type 0} where
-  -- ---- where a node stands
+  -- ---- the place of a node
 
   -- the node with what it holds, at its place
   pub record IsNodeAt (es : List (Node × X)) (n : Node) (x : X) : Type 0 where
@@ -124,7 +124,7 @@ module _ {X : Type 0} where
   number-cons e es None = refl
   number-cons e es (Some n) = place_or_end-cons same_node e es n
 
-  -- ---- an entry put in at a place
+  -- ---- an entry inserted at a place
   pub put_before-at : (es : List (Node × X)) (p : Option Node) (x : Node × X)
       → put_before p x es ≡ insert es (place_number es p) x
   put_before-at es None x = sym (insert_end es x)
@@ -151,7 +151,7 @@ module _ {X : Type 0} where
       rw (following-within (length es) (place_number es (Some m)) (node-at es m within).1.within)
       (put_after_node-at es m x)
 
-  -- ---- an entry that is changed where it stands
+  -- ---- an entry that is changed in place
   pub set_value-at : (f : X → X) (es : List (Node × X)) (n : Node) (x : X) → lookup (same_node n) es ≡ Some x
       → set_value (same_node n) es (f x) ≡ renewed_at f es (place_number es (Some n))
   set_value-at f [] n x at = refl
@@ -164,7 +164,7 @@ module _ {X : Type 0} where
         | false ↦ λ h. ap (λ r. e ∷ r) (set_value-at f es n x h)
       ]) at)
 
-  -- which leaves every place
+  -- such a change leaves every place as it was
   pub keys-renewed : (f : X → X) (es : List (Node × X)) (j : ℕ) → keys_of (renewed_at f es j) ≡ keys_of es
   keys-renewed f [] j = refl
   keys-renewed f (e ∷ es) zero = refl
@@ -182,21 +182,21 @@ module _ {X : Type 0} where
       → Holds (renewed_at f es j) n
   renewed-holds f es j n = place-renewed f es j (Some n)
 
-  -- which is to take it out and to put in there what f makes of it
+  -- such a change is to take the entry out and to insert f of it
   pub renewed_at-is : (f : X → X) (es : List (Node × X)) (j : ℕ) (e : Node × X) → slice_get es j ≡ Some e
       → renewed_at f es j ≡ insert (remove es j) j (e.0, f e.1)
   renewed_at-is f [] j e at = absurd (cc)
   renewed_at-is f (y ∷ es) zero e at = let same : y ≡ e = cc in ap (λ z. (z.0, f z.1) ∷ es) same
   renewed_at-is f (y ∷ es) (suc j) e at = ap (λ r. y ∷ r) (renewed_at-is f es j e at)
 
-  -- changed twice
+  -- two changes
   pub renewed_twice : (f g : X → X) (es : List (Node × X)) (j : ℕ)
       → renewed_at g (renewed_at f es j) j ≡ renewed_at (λ x. g (f x)) es j
   renewed_twice f g [] j = refl
   renewed_twice f g (e ∷ es) zero = refl
   renewed_twice f g (e ∷ es) (suc j) = ap (λ r. e ∷ r) (renewed_twice f g es j)
 
-  -- ---- where a place is once a node is taken out
+  -- ---- the index of a place, once a node is taken out
   place_number-left : (es : List (Node × X)) (n : Node) (p : Option Node) → is_node p n ≡ false
       → place_number (remove_entry (same_node n) es) p
       ≡ place_left (place_number es (Some n)) (place_number es p)

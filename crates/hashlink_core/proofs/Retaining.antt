@@ -1,4 +1,5 @@
--- A retain, as it comes along the list: what it has kept, and what is left to call the closure on.
+-- A retain on its way along the list: what it has kept, and the entries on which it has yet to call the
+-- closure.
 use Rattle.std.proofs.lemmas.List.{nil_from_length}
 use Rattle.hashlink_core.proofs.Names.{◌≡◌, suc, ◌+◌, ◌-◌, ◌<◌, Bool, true, false, cond, List, [], ◌∷◌, ◌++◌}
 use Rattle.hashlink_core.proofs.Names.{length, Option, None, Some, refl, ap, ap₂, sym, subst, ◌∙◌, arith}
@@ -9,7 +10,7 @@ use Rattle.hashlink_core.proofs.Names.{set_value_at-here, Node, same_node, IsPla
 use Rattle.hashlink_core.proofs.Names.{entries_of, state_of, pair_with_value, with_value_at, place_number}
 use Rattle.hashlink_core.proofs.Names.{IsPlaceAt, RemovesNode, remove_entry-at, following-within}
 use Rattle.hashlink_core.proofs.Names.{place_number-renewed, node-at, place-renewed, keys-renewed, left-at}
-use Rattle.std.proofs.Common.{filter, append_assoc}
+use Rattle.std.proofs.Common.{append_assoc}
 use Rattle.hashlink_model.specs.Retain.{KeepsInOrder, RetainsInOrder}
 use Rattle.hashlink_model.proofs.ByPlace.{length-set_value_at, keys-set_value_at, remove-here}
 use Rattle.hashlink_core.proofs.Edits.{place_left-before}
@@ -17,14 +18,14 @@ use Rattle.hashlink_core.proofs.Keeping.{left-place}
 use Rattle.hashlink_core.proofs.Mapped.{values-renewed_value}
 
 module _ {X : Type 0} where
-  -- what stands right after xs is the first of what is left
+  -- the element directly after xs is the first of ys
   begins : (xs ys : List X) (x : X) → slice_get (xs ++ ys) (length xs) ≡ Some x
       → (zs : List X) × (ys ≡ x ∷ zs)
   begins [] [] x at = absurd (cc)
   begins [] (y ∷ ys) x at = let same : y ≡ x = cc in (ys, ap (λ z. z ∷ ys) same)
   begins (z ∷ xs) ys x at = begins xs ys x at
 
--- a value that was written leaves the list sound
+-- a write of a value leaves the list sound
 sound-written : {K V S : Type 0} (eq : K → K → Bool) (m : Keyed K V S) (n : Node) (w : V) → IsKeyed eq m
     → IsKeyed eq (with_value_at m n w)
 sound-written eq m n w sound =
@@ -42,7 +43,7 @@ pub called-at : {F K V : Type 0} (g : Mut F (Bor K × (MutBor V × Unit {0})) (B
     → CalledAtPair g f k.now v.now b w.now f'
 called-at g c = record { key = _; value = _; shows = (refl, refl); left = _; called = c; leaves = refl }
 
--- the calls up to the place p kept what stands before it, and left the closure as f
+-- the calls up to the place p kept the entries before it, and left the closure as f
 pub record Retaining {F K V S : Type 0} (eq : K → K → Bool) (T : F → K → V → Bool → V → F → Type 0)
     (Q : F → K → V → Type 0) (start : F) (old : Keyed K V S) (f : F) (m : Keyed K V S)
     (p : Option Node) : Type 0 where
@@ -91,7 +92,7 @@ module _ {F K V S : Type 0} {eq : K → K → Bool} {T : F → K → V → Bool 
   )
 
   module _ {f : F} {m : Keyed K V S} {p : Option Node} (found : Retaining eq T Q start old f m p) where
-    -- at the guard
+    -- the place is the guard
     pub retained-all : p ≡ None → RetainsInOrder T start (state_of old) (state_of m) f
     retained-all end =
         let none = nil_from_length found.left
@@ -103,7 +104,7 @@ module _ {F K V S : Type 0} {eq : K → K → Bool} {T : F → K → V → Bool 
           keeps = found.keeps;
         }
 
-    -- at the pair of n
+    -- the place is n, with the pair (k, v)
     module _ {n : Node} {k : K} {v : V} (here : p ≡ Some n)
         (at : slice_get (entries_of m) (place_number m.nodes (Some n)) ≡ Some (k, v)) where
       place : place_number m.nodes (Some n) ≡ length found.done
@@ -166,7 +167,7 @@ module _ {F K V S : Type 0} {eq : K → K → Bool} {T : F → K → V → Bool 
         next-now = place-now q ∙ next.number
             ∙ following-within (length m.nodes) (place_number m.nodes (Some n)) inside ∙ ap suc place
 
-        -- it kept the pair
+        -- the closure kept the pair
         pub pair-kept : b ≡ true → Retaining eq T Q start old f' wrote q
             × (length wrote.nodes - place_number wrote.nodes q < length m.nodes - place_number m.nodes p)
         pair-kept keep =
@@ -194,7 +195,7 @@ module _ {F K V S : Type 0} {eq : K → K → Bool} {T : F → K → V → Bool 
             } in
             (kept, omega (arith, many-left kept, many-left found, ap length rest.1))
 
-        -- it did not, and n left
+        -- the closure did not, and n was removed
         pub pair-dropped : {new : Keyed K V S} → b ≡ false
             → RemovesNode wrote new (place_number wrote.nodes (Some n))
             → IsKeyed eq new → Retaining eq T Q start old f' new q

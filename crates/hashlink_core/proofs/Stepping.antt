@@ -1,5 +1,5 @@
--- The ring and the table stay in step: the table keeps the nodes of the entries, through an entry that is put
--- in, one that is taken out, one that is renewed, and where none is left.
+-- Ring and table stay in step: the table has the nodes of the entries after an entry is added, removed or
+-- replaced, and after all are removed.
 use Rattle.hashlink_core.proofs.Names.{◌≡◌, ℕ, suc, Bool, List, [], ◌∷◌, Some, refl, ap, sym, ◌∙◌, map, arith}
 use Rattle.hashlink_core.proofs.Names.{◌+◌, ◌-◌, ◌≤◌, true, length, ap₂, subst, IsEquivalence, IsDistinct}
 use Rattle.hashlink_core.proofs.Names.{lookup, keys_of, values_of, slice_get, remove, Contains, IsPermutation}
@@ -32,7 +32,7 @@ once-permuted : (ks js : List (Hashed Node)) → IsPermutation ks js → OnceEac
 once-permuted ks js same =
     IsDistinct-IsPermutation same_node same_node_equiv.symm _ _ (IsPermutation-map (λ k. k.node) ks js same)
 
--- what comes after k is not k
+-- no element after k is k
 not-again : (k j : Hashed Node) (ks : List (Hashed Node)) → OnceEach (k ∷ ks) → Contains ks j → k ≡ j → ⊥
 not-again k j ks once c same =
     let long = length-map ks (λ (k : Hashed Node). k.node) in
@@ -75,7 +75,7 @@ after-first k ks js a same =
 
 -- ---- the ring and the table
 
--- what a removal took out of a table was in it
+-- what a removal took out of a table was in the table
 pub was-kept : (t u : Contents Node) (number : ℕ) (n : Node) → IsPermutation t.nodes (kept number n ∷ u.nodes)
     → Keeps t number n
 was-kept t u number n left =
@@ -89,7 +89,7 @@ nodes-numbered (e ∷ es) = ap (λ ns. e.0 ∷ ns) (nodes-numbered es)
 
 module _ {K V : Type 0} {eq : K → K → Bool} {hash : K → ℕ} {r : Ring K V} {t : Contents Node}
     (step : IsInStep eq hash r t) where
-  -- the number of an entry is its key's short hash
+  -- the number of an entry is the short hash of its key
   pub number-at : (i : ℕ) (n : Node) (h : Held K V) → slice_get r.entries i ≡ Some (n, h)
       → h.number ≡ short (hash h.key)
   number-at i n h at =
@@ -112,7 +112,7 @@ module _ {K V : Type 0} {eq : K → K → Bool} {hash : K → ℕ} {r : Ring K V
         (mapped-at (λ (e : Node × Held K V). kept e.1.number e.0) r.entries entry-in.0 (n, h)
         (at-element r.entries (n, h) entry-in)))
 
-  -- each node of the table is in the ring, and its entry has this number
+  -- each node of the table is in the ring, and its entry has the same number
   pub listed : (number : ℕ) (n : Node) → Keeps t number n
       → (h : Held K V) × (lookup (same_node n) r.entries ≡ Some h) × (h.number ≡ number)
   listed number n there =
@@ -156,7 +156,7 @@ module _ {K V : Type 0} where
       (y.0, y.1, ap (λ e. e.1) y.2 ∙ x.2)
 
 module _ {K V : Type 0} {eq : K → K → Bool} (laws : IsEquivalence eq) {hash : K → ℕ} where
-  -- no entry, in the ring or in the table
+  -- no entry in the ring, and none in the table
   pub step-none : (r : Ring K V) (t : Contents Node) → r.entries ≡ [] → t.nodes ≡ []
       → length r.free ≤ t.room
       → IsInStep eq hash r t
@@ -169,7 +169,7 @@ module _ {K V : Type 0} {eq : K → K → Bool} (laws : IsEquivalence eq) {hash 
     fits = omega (arith, fits, ap length none);
   }
 
-  -- the same entries and nodes, with room for each
+  -- the same entries and nodes, with room for all
   pub step-same : (r s : Ring K V) (t u : Contents Node) → s.entries ≡ r.entries
       → IsPermutation t.nodes u.nodes
       → length r.entries + length s.free ≤ u.room → IsInStep eq hash r t → IsInStep eq hash s u
@@ -182,7 +182,7 @@ module _ {K V : Type 0} {eq : K → K → Bool} (laws : IsEquivalence eq) {hash 
     fits = omega (arith, fits, ap length same);
   }
 
-  -- the entry h of n went in, in the ring at i and in the table under its number
+  -- the entry h of n was added, to the ring at i and to the table under its number
   pub step-in : (r s : Ring K V) (t u : Contents Node) (n : Node) (h : Held K V) (i : ℕ)
       → IsInStep eq hash r t → NonePasses (eq h.key) (pairs_in r.entries)
       → NonePasses (same_node n) r.entries → s.entries ≡ insert r.entries i (n, h)
@@ -208,7 +208,7 @@ module _ {K V : Type 0} {eq : K → K → Bool} (laws : IsEquivalence eq) {hash 
         fits = omega (arith, step.fits, ready, long, free, room);
       }
 
-  -- the entry h of n, which stands at j
+  -- the entry h of n, which is at j
   module _ (r s : Ring K V) (t : Contents Node) (n : Node) (h : Held K V) (j : ℕ)
       (step : IsInStep eq hash r t)
       (at : slice_get r.entries j ≡ Some (n, h)) where
@@ -224,7 +224,7 @@ module _ {K V : Type 0} {eq : K → K → Bool} (laws : IsEquivalence eq) {hash 
     once = once-permuted _ _ numbered-first
         (subst (IsDistinct same_node) (sym (nodes-numbered r.entries)) step.apart)
 
-    -- left the ring, and its node the table
+    -- it was removed from the ring, and its node from the table
     pub step-out : (u : Contents Node) → s.entries ≡ remove r.entries j
         → length s.free ≡ length r.free + 1
         → IsPermutation t.nodes (kept h.number n ∷ u.nodes) → u.room ≡ t.room
@@ -250,7 +250,7 @@ module _ {K V : Type 0} {eq : K → K → Bool} (laws : IsEquivalence eq) {hash 
           fits = omega (arith, step.fits, fewer, free, room);
         }
 
-  -- it is g now and stands at i: it was taken out and put in again
+  -- it now is g, at i: it was removed and inserted again
   pub step-renewed : (r s : Ring K V) (t : Contents Node) (n : Node) (h g : Held K V) (j i : ℕ)
       → IsInStep eq hash r t → slice_get r.entries j ≡ Some (n, h)
       → s.entries ≡ insert (remove r.entries j) i (n, g)

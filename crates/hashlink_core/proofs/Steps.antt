@@ -10,10 +10,10 @@ use Rattle.hashlink_model.proofs.Splits.{splits, stands_from_place, place_of-her
 use Rattle.hashlink_model.proofs.Splits.{lookup_entry-none, lookup_entry-here}
 use Rattle.hashlink_model.proofs.Finds.{lookup_is}
 
--- ---- what a place says of look-ups
+-- ---- what the place of a key tells about lookups
 
 module _ {K V : Type 0} (test : K → Bool) (es : List (K × V)) where
-  -- without a place no key passes
+  -- if there is no place, no key passes
   pub none_passes_from_place : place_of test es ≡ None → NonePasses test es
   none_passes_from_place p =
       elim (splits test es) as (λ _. NonePasses test es) [
@@ -28,7 +28,7 @@ module _ {K V : Type 0} (test : K → Bool) (es : List (K × V)) where
   pub lookup_entry-unplaced : place_of test es ≡ None → lookup_entry test es ≡ None
   lookup_entry-unplaced p = lookup_entry-none test es (none_passes_from_place p)
 
-  -- at the place of a key stands what a look-up finds
+  -- a lookup finds the entry at the key's place
   pub lookup_entry-place : (j : ℕ) → place_of test es ≡ Some j → lookup_entry test es ≡ slice_get es j
   lookup_entry-place j p =
       let s = stands_from_place test es j p in
@@ -40,13 +40,13 @@ module _ {K V : Type 0} (test : K → Bool) (es : List (K × V)) where
       ≡ option_map (λ e. e.1) (slice_get es j)
   lookup-place j p = lookup_is test es ∙ ap (option_map (λ e. e.1)) (lookup_entry-place j p)
 
--- a value that stands at a place is one of a pair
+-- a value at a place is that of a pair
 pub some_from_part : {K V : Type 0} (o : Option (K × V)) (v : V) → option_map (λ e. e.1) o ≡ Some v
     → (e : K × V) × (o ≡ Some e)
 some_from_part None v p = absurd (cc)
 some_from_part (Some e) v p = (e, refl)
 
--- ---- two changes in a row
+-- ---- two changes in sequence
 
 module _ {K V S : Type 0} where
   pub changes_twice : (a b c : MapState K V S) (es fs : List (K × V)) (m n : ℕ) → Changes a b es m

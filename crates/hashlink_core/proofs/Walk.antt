@@ -1,4 +1,4 @@
--- A walk along a ring, by where it stands at both ends.
+-- An iterator along a ring, by its places at both ends.
 use Rattle.std.specs.Iterator.{MakesProgress, at_most}
 use Rattle.std.proofs.Common.{length-append}
 use Rattle.hashlink_core.proofs.Names.{◌≡◌, ℕ, zero, suc, ◌+◌, ◌-◌, ◌<◌, ◌≢◌, true, false, cond, List}
@@ -9,18 +9,18 @@ use Rattle.hashlink_core.proofs.Names.{ShowsInReverse, from_front, from_back, ta
 use Rattle.hashlink_core.proofs.Names.{slice_get_within, get_or_from_slice_get, preceding_place, place_or_end}
 use Rattle.hashlink_core.proofs.Names.{Node, Held, same_node, next_place, prev_place, pair_of, Holds}
 use Rattle.hashlink_core.proofs.Names.{pairs_in, place_number, drop-at, place_or_end-cons, place_or_end-most}
-use Rattle.hashlink_core.proofs.Names.{node-at, around, following-within}
+use Rattle.hashlink_core.proofs.Names.{node-at, around, following-within, IfNone, IsEntries}
 use Rattle.hashlink_core.specs.Walk.{pairs_from, StandsBetween}
 use Rattle.hashlink_core.proofs.Neighbours.{distinct-left, next-number, prev-number, before-guard, before-suc}
 
--- each run of a walk shows what was left, in order from the front and in reverse from the back
+-- each run of an iterator returns the entries left: in order from the front, in reverse from the back
 pub in-order : {A X : Type 0} (shows : A → X) → ShowsInOrder shows
 in-order shows = from_front (TakesFirst shows) shows (λ s. s) (λ s t h. ap length h.0) (λ s x t h. h)
 
 pub in-reverse : {A X : Type 0} (shows : A → X) → ShowsInReverse shows
 in-reverse shows = from_back (TakesLast shows) shows (λ s. s) (λ s t h. ap length h.0) (λ s x t h. h)
 
--- a step that leaves fewer comes to an end
+-- a step that leaves fewer entries makes progress to the end
 pub progress : {A X : Type 0} {s t : List X} (x : A) → length t < length s
     → MakesProgress (λ _. Unit {0}) (λ l. at_most (length l)) s (Some x) t
 progress x fewer = record { on = λ _. (tt, tt, fewer); keeps = tt; rests = λ _. tt }
@@ -30,7 +30,7 @@ pub progress-back : {A X : Type 0} (shows : A → X) {s t : List X} (x : A) → 
 progress-back shows {t = t} x is = progress x (omega (arith, ap length is, length-append t (shows x ∷ [])))
 
 module _ {X : Type 0} where
-  -- no more than that are taken, so the place matters only where there are some
+  -- if none are taken, the place does not matter
   take-from : (xs : List X) (n i j : ℕ) → (0 < n → i ≡ j) → take n (drop i xs) ≡ take n (drop j xs)
   take-from xs zero i j same = refl
   take-from xs (suc n) i j same = ap (λ m. take (suc n) (drop m xs)) (same (omega arith))
@@ -42,7 +42,7 @@ module _ {X : Type 0} where
   slice_get-drop (y ∷ xs) (suc i) j zero is = absurd (omega (arith, is))
   slice_get-drop (y ∷ xs) (suc i) j (suc at) is = slice_get-drop xs i j at (omega (arith, is))
 
-  -- a node that stands before the guard is of the list
+  -- a node whose index is below the guard's is in the list
   pub within-holds : (es : List (Node × X)) (n : Node) → place_number es (Some n) < length es → Holds es n
   within-holds [] n lt = absurd (omega (arith, lt))
   within-holds (e ∷ es) n lt =
@@ -57,19 +57,57 @@ pairs_in-last [] n h = refl
 pairs_in-last (e ∷ es) n h = ap (λ ps. pair_of e.1 ∷ ps) (pairs_in-last es n h)
 
 module _ {X : Type 0} (es : List (Node × X)) where
-  -- the node that stands where a place does that is not the guard
+  -- the node of a place that is not the guard
   beside-number : (o : Option Node) (q : Node) (i : ℕ) → IfSome o (λ m. q ≡ m) → place_number es o ≡ i
       → i < length es → place_number es (Some q) ≡ i
   beside-number None q i same number lt = absurd (omega (arith, number, lt))
   beside-number (Some m) q i same number lt = ap (λ n. place_number es (Some n)) same ∙ number
 
-  -- the node of a place, where it is the guard's only if there is no node
-  node-number : (o : Option Node) (z : Node) (i : ℕ) → place_number es o ≡ i → (length es ≡ i → i ≡ 0)
+  -- the index of a node that the list does not have is the guard's
+  absent-number : (q : Node) → lookup (same_node q) es ≡ None → place_number es (Some q) ≡ length es
+  absent-number q none =
+      ⊎_elim (λ lt. absurd (cc (sym (within-holds es q lt) ∙ ap is_some none)))
+      (λ le. omega (arith, le, place_or_end-most same_node es q))
+      (cases_lt (place_number es (Some q)) (length es))
+
+  same-place-number : (o : Option Node) (q : Node) (i : ℕ) → IfSome o (λ m. q ≡ m)
+      → IfNone o (lookup (same_node q) es ≡ None) → place_number es o ≡ i → place_number es (Some q) ≡ i
+  same-place-number None q i same absent number = absent-number q absent ∙ number
+  same-place-number (Some m) q i same absent number = ap (λ n. place_number es (Some n)) same ∙ number
+
+  module _ (d : IsEntries same_node es) (n q : Node) (there : Holds es n) where
+    within : place_number es (Some n) < length es
+    within = (node-at es n there).1.within
+
+    -- the index of the node after n
+    pub after-number : IfSome (next_place (keys_of es) (Some n)) (λ m. q ≡ m)
+        → IfNone (next_place (keys_of es) (Some n)) (lookup (same_node q) es ≡ None)
+        → place_number es (Some q) ≡ suc (place_number es (Some n))
+    after-number same absent =
+        same-place-number (next_place (keys_of es) (Some n)) q _ same absent
+        ((next-number es d (Some n) there).number
+        ∙ following-within (length es) (place_number es (Some n)) within)
+
+    -- the index of the node before n
+    pub before-number : IfSome (prev_place (keys_of es) (Some n)) (λ m. q ≡ m)
+        → 0 < place_number es (Some n) → place_number es (Some q) + 1 ≡ place_number es (Some n)
+    before-number same later =
+        let i = place_number es (Some n) in
+        let more : i ≡ suc (i - 1) = omega (arith, later) in
+        let before : place_number es (Some q) ≡ i - 1 =
+        beside-number (prev_place (keys_of es) (Some n)) q (i - 1) same
+        ((prev-number es d (Some n) there).number ∙ ap (preceding_place (length es)) more
+        ∙ before-suc (length es) (i - 1) (omega (arith, within)))
+        (omega (arith, within, more)) in
+        omega (arith, before, more)
+
+  -- the index of a place's node, or of z at the guard if the list is empty
+  pub node-number : (o : Option Node) (z : Node) (i : ℕ) → place_number es o ≡ i → (length es ≡ i → i ≡ 0)
       → place_number es (Some (unwrap_or o z)) ≡ i
   node-number None z i number none = omega (arith, number, none number, place_or_end-most same_node es z)
   node-number (Some m) z i number none = number
 
--- a walk over all entries
+-- an iterator over all entries
 pub walk-of_all : {K V : Type 0} (es : List (Node × Held K V)) (free : List Node) (q q' : Option Node)
     (z z' first last : Node) (left : ℕ) → IsDistinct same_node (keys_of es ++ free)
     → q ≡ next_place (keys_of es) None → first ≡ unwrap_or q z
@@ -137,16 +175,8 @@ module _ {K V : Type 0} {es : List (Node × Held K V)} {first last : Node} {left
   module _ (free : List Node) (apart : IsDistinct same_node (keys_of es ++ free)) (q : Node)
       (prev : IfSome (prev_place (keys_of es) (Some last)) (λ m. q ≡ m)) where
     prev-last : 1 < left → place_number es (Some q) + 1 ≡ place_number es (Some last)
-    prev-last more =
-        let i = place_number es (Some last) in
-        let later : i ≡ suc (i - 1) = omega (arith, last-number, more) in
-        let before : place_number es (Some q) ≡ i - 1 =
-        beside-number es (prev_place (keys_of es) (Some last)) q (i - 1) prev
-        ((prev-number es (distinct-left (keys_of es) free apart) (Some last) last-holds).number
-        ∙ ap (preceding_place (length es)) later
-        ∙ before-suc (length es) (i - 1) (omega (arith, w.few, last-number)))
-        (omega (arith, w.few, last-number, later)) in
-        omega (arith, before, later)
+    prev-last more = before-number es (distinct-left (keys_of es) free apart) last q last-holds prev
+        (omega (arith, last-number, more))
 
     pub stands-prev : StandsBetween es (Some first) (Some q) (left - 1)
     stands-prev = record {

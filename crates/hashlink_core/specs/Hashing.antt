@@ -1,4 +1,4 @@
--- What the default hashers compute: what std's `FoldHasher` does, from its own start.
+-- The values of the default hashers: those of std's `FoldHasher`, from its own start.
 use Rattle.std.specs.Prelude.{ℕ, List}
 use Rattle.std.specs.Hash.FoldHasher as folding
 use Rattle.hashlink_core.specs.declared.hasher.DefaultHasher.{DefaultHasher}
@@ -8,7 +8,7 @@ use Rattle.hashlink_core.specs.declared.hash_builder.DefaultHashBuilder.{Default
 abbrev pub initial : DefaultHasher
 initial = record { fold = folding.initial }
 
--- the state after the bytes
+-- the state after the bytes were written
 abbrev pub write : DefaultHasher → List ℕ → DefaultHasher
 write h bytes = record { fold = folding.write h.fold bytes }
 

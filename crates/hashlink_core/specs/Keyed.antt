@@ -1,4 +1,4 @@
--- What a contract sees of a keyed list: the entries in order, each with its node, and a map's numbers and
+-- A keyed list, as contracts see it: the entries in order, each with its node, and a map's numbers and
 -- hasher.
 use Rattle.std.specs.Prelude.{◌≡◌, ℕ, Bool, true, List, length, map, Some, IfSome}
 use Rattle.std.specs.Map.{values_of}
@@ -12,8 +12,7 @@ use Rattle.hashlink_nodes.specs.Ring.{Ring, Holds, pair_of}
 use Rattle.hashlink_table.specs.Contents.{Contents}
 use Rattle.hashlink_core.specs.Places.{place_number}
 
--- the pairs with their nodes, how many nodes are spare, for how many there is room, how many links were
--- stored, and the hasher
+-- the pairs with their nodes, the number of free nodes, the room, how many links were stored, and the hasher
 pub record Keyed (K V S : Type 0) : Type 0 where
   pub nodes : List (Node × (K × V))
   pub spare : ℕ
@@ -22,7 +21,7 @@ pub record Keyed (K V S : Type 0) : Type 0 where
   pub hasher : S
 
 module _ {K V : Type 0} where
-  -- the ring's entries without their numbers
+  -- the ring's entries, as pairs with their nodes
   abbrev pub nodes_of : List (Node × Held K V) → List (Node × (K × V))
   nodes_of = map (λ e. (e.0, pair_of e.1))
 
@@ -30,12 +29,12 @@ module _ {K V : Type 0} where
   abbrev pub pairs_in : List (Node × Held K V) → List (K × V)
   pairs_in es = values_of (nodes_of es)
 
-  -- the node is of the list, and stands at the place of the first key that passes the test
+  -- the node is in the list, at the place of the first key that passes the test
   pub record HoldsMatch (test : K → Bool) (nodes : List (Node × (K × V))) (n : Node) : Type 0 where
     pub within : Holds nodes n
     pub place : place_of test (values_of nodes) ≡ Some (place_number nodes (Some n))
 
-  -- it stands at the place of the key
+  -- the node is at the place of the key
   abbrev pub HoldsKey : (K → K → Bool) → List (Node × (K × V)) → K → Node → Type 0
   HoldsKey eq nodes k n = HoldsMatch (eq k) nodes n
 
@@ -43,11 +42,11 @@ module _ {K V : Type 0} where
   abbrev pub PassesAt : (K → Bool) → List (K × V) → ℕ → Type 0
   PassesAt test es j = IfSome (key_at es j) (λ stored. test stored ≡ true)
 
-  -- the key equals the one at the place
+  -- the key equals the key at the place
   abbrev pub EqualsKeyAt : (K → K → Bool) → List (K × V) → ℕ → K → Type 0
   EqualsKeyAt eq es j k = PassesAt (eq k) es j
 
-  -- a pair with another value, and with another key
+  -- the pair with another value, and the pair with another key
   abbrev pub pair_with_value : V → K × V → K × V
   pair_with_value v p = (p.0, v)
 
@@ -70,8 +69,7 @@ module _ {K V S : Type 0} where
   abbrev pub state_of : Keyed K V S → MapState K V S
   state_of m = map_state (entries_of m) m.spare m.room m.link_writes m.hasher
 
-  -- what holds of every keyed list: no two keys are equal, no node stands twice, and there is room for each
-  -- node
+  -- an invariant of keyed lists: no two keys are equal, no node occurs twice, and there is room for each node
   pub record IsKeyed (eq : K → K → Bool) (m : Keyed K V S) : Type 0 where
     pub distinct : IsEntries eq (entries_of m)
     pub apart : IsEntries same_node m.nodes

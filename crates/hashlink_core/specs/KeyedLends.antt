@@ -1,4 +1,4 @@
--- What a keyed list ends as, once a `&mut` to a value has ended.
+-- A keyed list, after a `&mut` to one of its values has ended.
 use Rattle.std.specs.Prelude.{ℕ, Bool, List, Some}
 use Rattle.std.specs.Borrow.{Fml, RattleType, MutBor, Lends}
 use Rattle.std.specs.declared.hash.Hasher as hasher
@@ -9,7 +9,7 @@ use Rattle.hashlink_core.specs.contracts.keyed_list.KeyedList.{the_row}
 use Rattle.hashlink_core.specs.Keyed.{Keyed, pair_with_value}
 use Rattle.hashlink_core.specs.Places.{place_number, renewed_at}
 
--- what a clause has as K.Hash
+-- the value of K.Hash in a clause
 abbrev pub HashMembers : Type 0 → Type 0
 HashMembers K = record { eq : K → K → Bool; hash_input : K → List (List ℕ) }
 
@@ -17,11 +17,11 @@ abbrev pub list_row : (K V S T : RattleType) → HashMembers K.Denot → builder
     → hasher.Ghosts T.Denot → RattleType
 list_row K V S T g b w = the_row K V S T (record { eq = g.eq }) (record { hash_input = g.hash_input }) b w
 
--- a node's row, for the clauses of what keeps one
+-- the row of a node, for clauses about types that have one
 abbrev pub node_row : RattleType
 node_row = node.the_row
 
--- the same list with w as the value of the node's pair
+-- the list with w as the value of the node's pair
 abbrev pub with_value_at : {K V S : Type 0} → Keyed K V S → Node → V → Keyed K V S
 with_value_at m n w = record m {
   nodes = renewed_at (pair_with_value w) m.nodes

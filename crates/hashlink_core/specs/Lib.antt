@@ -1,4 +1,4 @@
--- What the contracts of the keyed list cite.
+-- The definitions that the contracts of the keyed list use.
 pub mod Drained
 pub mod Hashing
 pub mod Keyed

@@ -1,6 +1,6 @@
--- What an `extend` prints that failed.
+-- The text of the error of an `extend`.
 use Rattle.std.specs.Prelude.{ℕ, List, ◌++◌, codes, decimal}
 use Rattle.hashlink_core.specs.declared.extend_error.ExtendError.{ExtendError}
 
 abbrev pub extend_shown : {K V : Type 0} → ExtendError K V → List ℕ
-extend_shown e = codes "no memory for an item, after " ++ decimal e.taken ++ codes " items"
+extend_shown e = codes "memory ran out after " ++ decimal e.taken ++ codes " items"

@@ -1,10 +1,10 @@
--- Which key a hash and a test stand for.
+-- A hash and a test, in place of a key.
 use Rattle.std.specs.Prelude.{◌≡◌, ℕ, Bool, List, Contains}
 use Rattle.std.specs.Borrow.{Bor}
 use Rattle.std.specs.Fn.{Shared}
 
--- the key has the hash, and of the keys that are held the test tells those that are equal to it from the
--- others: it may be called at each of them
+-- the key has the hash; and the test, which may be called on each key of the list, distinguishes the keys
+-- equal to this one from all others
 pub record Tells {K F : Type 0} (calls : Shared F (Bor K × Unit {0}) Bool) (eq : K → K → Bool) (hash : K → ℕ)
     (held : List K) (test : F) (asked : ℕ) (k : K) : Type 0 where
   pub hashed : asked ≡ hash k

@@ -10,23 +10,23 @@ use Rattle.hashlink_core.specs.Keyed.{pairs_in}
 use Rattle.hashlink_table.specs.Contents.{Contents, len_of}
 use Rattle.hashlink_table.specs.declared.hashed.Hashed.{Hashed}
 
--- the hash of a key, by what the builder makes, a hasher's write and finish, and what the key writes
+-- the hash of a key, from the builder's `build`, a hasher's `write` and `finish`, and the key's `input`
 abbrev pub hash_with : {K S H : Type 0} → (S → H) → (H → List ℕ → H) → (H → ℕ)
     → (K → List (List ℕ)) → S → K → ℕ
 hash_with build write finish input s k = finish (fold write (build s) (input k))
 
--- as much of a hash as the table knows
+-- the part of a hash that the table knows
 abbrev pub short : ℕ → ℕ
 short hash = hash % 2 ^ 32
 
 module _ {K V : Type 0} where
-  -- the nodes of the entries, each under its entry's number
+  -- the nodes of the entries, each with its entry's number
   abbrev pub numbered_nodes : List (Node × Held K V) → List (Hashed Node)
   numbered_nodes = map (λ e. record { hash = e.1.number; node = e.0 })
 
-  -- the ring, its pairs and the table together: no two keys are equal, no node stands twice, the number of
-  -- each entry is its key's short hash, the table has the entries' nodes under these numbers and no others,
-  -- and has room for every node, in use and spare
+  -- the ring, its pairs and the table together: no two keys are equal, no node occurs twice, and the number
+  -- of each entry is its key's short hash. The table has exactly the entries' nodes, under their numbers, and
+  -- room for every node, in use or free
   pub record IsInStep (eq : K → K → Bool) (hash : K → ℕ) (r : Ring K V) (t : Contents Node) : Type 0 where
     pub distinct : IsEntries eq (pairs_in r.entries)
     pub apart : IsEntries same_node r.entries

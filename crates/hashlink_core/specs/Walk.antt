@@ -1,15 +1,15 @@
--- How far a walk along the ring has come, from both ends.
+-- The state of an iterator along the ring, from both ends.
 use Rattle.std.specs.Prelude.{◌≡◌, ℕ, ◌+◌, ◌<◌, ◌≤◌, List, length, take, drop, Option}
 use Rattle.hashlink_nodes.specs.declared.node.Node.{Node}
 use Rattle.hashlink_nodes.specs.declared.held.Held.{Held}
 use Rattle.hashlink_core.specs.Keyed.{pairs_in}
 use Rattle.hashlink_core.specs.Places.{place_number}
 
--- so many pairs from a place on
+-- `count` pairs, from a place on
 abbrev pub pairs_from : {K V : Type 0} → List (Node × Held K V) → Option Node → ℕ → List (K × V)
 pairs_from es place count = pairs_in (take count (drop (place_number es place) es))
 
--- a walk with so many entries left stands at the first and at the last of them
+-- an iterator with so many entries left has the first and the last of them as its places
 pub record StandsBetween {X : Type 0} (es : List (Node × X)) (first last : Option Node)
     (left : ℕ) : Type 0 where
   pub few : place_number es first + left ≤ length es

@@ -7,8 +7,7 @@ use crate::iter::Iter;
 use std::cmp::Ordering;
 
 /// Returns whether the iterators have the same number of entries left, and at each place equal keys and equal
-/// values. It takes linear time, up to the first entry that differs, and constant time if one iterator is
-/// longer.
+/// values. It takes linear time, up to the first entry that differs, and constant time if the numbers differ.
 pub fn iter_eq<K: PartialEq, V: PartialEq>(
     mut left: Iter<'_, K, V>,
     mut right: Iter<'_, K, V>,
@@ -27,8 +26,8 @@ pub fn iter_eq<K: PartialEq, V: PartialEq>(
     true
 }
 
-/// Compares the iterators at the first place where their entries do not compare as equal, key before value.
-/// An iterator whose entries are the beginning of the other's is less.
+/// Compares the iterators at the first place at which their entries do not compare as equal, key before
+/// value. An iterator whose entries are the beginning of the other's is less.
 pub fn iter_partial_cmp<K: PartialOrd, V: PartialOrd>(
     mut left: Iter<'_, K, V>,
     mut right: Iter<'_, K, V>,

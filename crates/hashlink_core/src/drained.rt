@@ -1,4 +1,4 @@
-//! The nodes of a keyed list while they are drained.
+//! The nodes of a keyed list during a drain.
 ghost use Rattle.std.specs.Prelude.{◌≡◌, length};
 ghost use Rattle.std.specs.Map.{values_of};
 ghost use Rattle.hashlink_core.specs.Drained.{GivesFirst, GivesLast};
@@ -7,8 +7,8 @@ use crate::iter::Iter;
 use hashlink_nodes::Nodes;
 use std::marker::Model;
 
-/// The nodes that were taken out of a keyed list, with their entries, and the spare ones. Contracts see the
-/// pairs with their nodes, how many nodes are spare, and how many links were stored.
+/// The nodes that were taken out of a keyed list, with their entries, and the free nodes. Contracts see the
+/// pairs with their nodes, the number of free nodes, and how many links were stored.
 #[derive(Drop)]
 pub struct DrainedNodes<K, V> {
     pub(crate) nodes: Nodes<K, V>,
@@ -37,7 +37,7 @@ impl<K, V> DrainedNodes<K, V> {
         Iter::new(&self.nodes)
     }
 
-    /// Removes the first entry and returns it. Its node is then spare.
+    /// Removes the first entry and returns it, or returns `None` if there is none. Its node is then free.
     #[inline]
     pub fn pop_front(&mut self) -> Option<(K, V)>
         ensures { GivesFirst self.old self.new result }
@@ -48,7 +48,7 @@ impl<K, V> DrainedNodes<K, V> {
         Some(self.nodes.spare_first())
     }
 
-    /// Removes the last entry and returns it. Its node is then spare.
+    /// Removes the last entry and returns it, or returns `None` if there is none. Its node is then free.
     #[inline]
     pub fn pop_back(&mut self) -> Option<(K, V)>
         ensures { GivesLast self.old self.new result }

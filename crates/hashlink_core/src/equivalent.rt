@@ -1,4 +1,4 @@
-//! What a lookup takes in place of a key.
+//! The queries that a lookup takes in place of a key.
 ghost use Rattle.std.specs.Prelude.{◌≡◌, Bool, IsTrue};
 ghost use Rattle.std.specs.Box.{boxed_slice_items, boxed_str_bytes};
 ghost use Rattle.std.specs.Hash as fed;
@@ -11,15 +11,16 @@ ghost use Rattle.std.proofs.Common.{ap};
 ghost use Rattle.std.proofs.lemmas.Cmp.{lists_equiv, nat_list_eq_equiv};
 ghost use Rattle.hashlink_model.specs.Entries.{IsKeyTest};
 
+use crate::texts::texts_eq;
 use std::alloc::Allocator;
 use std::boxed::{BoxedSlice, BoxedStr};
 use std::hash::Hash;
 use std::rc::RcStr;
 
-/// A query: what stands for a key in a lookup. It is a `&K` for a `K`, a `&str` for a `String`, or a `&[T]`
-/// for a `Vec<T>`, so that `get(&key)` and `get("text")` are one method. An implementation says which keys a
-/// query matches. It proves that the query is hashed as these keys are, and that they are those which equal
-/// one of them.
+/// A query, which a lookup takes in place of a key: a `&K` for a `K`, a `&str` for a `String`, or a `&[T]`
+/// for a `Vec<T>`. So `get(&key)` and `get("text")` are one method. An implementation states which keys a
+/// query matches. It proves that the query has the same hash as each of them, and that they are exactly the
+/// keys that equal one of them.
 pub trait Equivalent<K: Eq + Hash>: Copy + Hash {
     ghost matches: { Self → K → Bool };
 
@@ -91,7 +92,7 @@ impl<A: Allocator> Equivalent<String<A>> for &str {
     ghost finds_equal = { λ q x y. nat_list_eq_equiv.congr q.now (string_bytes x) (string_bytes y) };
 
     fn equivalent(&self, key: &String<A>) -> bool {
-        *self == key.as_str()
+        texts_eq(*self, key.as_str())
     }
 }
 
@@ -103,7 +104,7 @@ impl<A: Allocator> Equivalent<BoxedStr<A>> for &str {
     ghost finds_equal = { λ q x y. nat_list_eq_equiv.congr q.now (boxed_str_bytes x) (boxed_str_bytes y) };
 
     fn equivalent(&self, key: &BoxedStr<A>) -> bool {
-        *self == key.as_str()
+        texts_eq(*self, key.as_str())
     }
 }
 
@@ -115,7 +116,7 @@ impl<A: Allocator> Equivalent<RcStr<A>> for &str {
     ghost finds_equal = { λ q x y. nat_list_eq_equiv.congr q.now (rc_str_bytes x) (rc_str_bytes y) };
 
     fn equivalent(&self, key: &RcStr<A>) -> bool {
-        *self == key.as_str()
+        texts_eq(*self, key.as_str())
     }
 }
 
@@ -127,6 +128,6 @@ impl<'b> Equivalent<&'b str> for &str {
     ghost finds_equal = { λ q x y. nat_list_eq_equiv.congr q.now x.now y.now };
 
     fn equivalent(&self, key: &&'b str) -> bool {
-        *self == *key
+        texts_eq(*self, *key)
     }
 }

@@ -1,13 +1,13 @@
-//! How many items were inserted before one that was not.
+//! The error of an `extend`: how many items were inserted, and the one that was not.
 use std::alloc::AllocError;
 use std::error::Error;
 use std::fmt;
 
-/// Why not all items were inserted: an allocation for one of them failed. The items before it stay inserted,
-/// this error contains it, and no further item was read.
+/// An allocation for an item of an `extend` failed. The items before it stay inserted, this error contains
+/// it, and no further item was read.
 #[derive(Clone, Copy, Debug, PartialEq, Eq, Hash, Drop)]
 pub struct ExtendError<K, V> {
-    /// The number of items inserted. It stops at `u64::MAX`.
+    /// The number of items inserted, or `u64::MAX` if there were more.
     pub taken: u64,
     /// The pair that was not inserted.
     pub pair: (K, V),
@@ -20,7 +20,7 @@ impl<K, V> fmt::Display for ExtendError<K, V> {
     ghost output = { λ e. Some (extend_shown e) };
 
     fn fmt<W: fmt::Write>(&self, f: &mut fmt::Formatter<W>) -> fmt::Result {
-        write!(f, "no memory for an item, after {} items", self.taken)
+        write!(f, "memory ran out after {} items", self.taken)
     }
 }
 

@@ -3,7 +3,7 @@ use std::hash::{FoldHasher, Hasher};
 
 /// The hasher that maps use unless they are given another: std's `FoldHasher`, from its fixed start.
 ///
-/// It is fast and not cryptographic: whoever picks the keys can make them collide.
+/// It is fast and not cryptographic, so whoever picks the keys can make them collide.
 #[derive(Clone, Copy)]
 pub struct DefaultHasher {
     pub(crate) fold: FoldHasher,

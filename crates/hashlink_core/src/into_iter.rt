@@ -10,12 +10,11 @@ use std::fmt;
 use std::iter::FusedIterator;
 use std::marker::Model;
 
-/// An owning iterator over the entries, from front to back. Contracts see it as the list of the pairs that
-/// are left. A step frees its entry's node. When the iterator is dropped, it drops the pairs that are left,
-/// and frees every node.
+/// An owning iterator over the entries, from front to back. Contracts see it as the list of the pairs left. A
+/// step releases its entry's node. The drop of the iterator drops the pairs left and releases every node.
 #[derive(Drop)]
 pub struct IntoIter<K, V> {
-    // The table is freed before the first step.
+    // The table was dropped before the first step.
     nodes: Nodes<K, V>,
 }
 

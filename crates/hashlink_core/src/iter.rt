@@ -13,11 +13,11 @@ use std::fmt;
 use std::iter::FusedIterator;
 use std::marker::Model;
 
-/// An iterator over the entries, from front to back. Contracts see it as the list of the pairs that are left.
+/// An iterator over the entries, from front to back. Contracts see it as the list of the pairs left.
 #[derive(Drop)]
 pub struct Iter<'a, K, V> {
     nodes: &'a Nodes<K, V>,
-    // The first and the last node left. If none is left, they mean nothing.
+    // The first and the last node left. If none is left, the two mean nothing.
     first: Node,
     last: Node,
     left: usize,

@@ -1,4 +1,4 @@
-//! The keyed list, by places: a place is a node of it, or `None` for the guard, which stands after the last
+//! The keyed list, by places. A place is a node of the list, or `None` for the guard, which is after the last
 //! entry.
 ghost use Rattle.std.specs.Prelude.{◌≡◌, ◌*◌, ◌^◌, ◌<◌, ◌≤◌, ◌↔◌, [], length, max, Ok, Err, IfOk};
 ghost use Rattle.hashlink_core.specs.Keyed.{keyed, entries_of, IsKeyed};
@@ -22,7 +22,7 @@ use std::alloc::Global;
 use std::hash::{BuildHasher, Hash};
 use std::marker::Model;
 
-// What the table knows of a hash, and a node keeps as its number: the lower half of its bits.
+// The part of a hash that the table knows, and that a node has as its number: the lower 32 bits.
 #[inline]
 fn short_hash(hash: u64) -> u32
     ensures { result ≡ short hash }
@@ -30,10 +30,10 @@ fn short_hash(hash: u64) -> u32
     (hash % (1 << 32)) as u32
 }
 
-// Marks a node for a moment: no short hash has this value.
+// The number of a node that is marked for a moment. No short hash has this value.
 const MARKED: usize = 1 << 32;
 
-/// A list of pairs in a ring of nodes, found by a hash table of the nodes. No two keys are equal.
+/// A list of pairs in a ring of nodes, with a hash table of the nodes to find them. No two keys are equal.
 pub struct KeyedList<K: Eq + Hash, V, S: BuildHasher> {
     nodes: Nodes<K, V>,
     table: Table<Node>,
@@ -53,7 +53,8 @@ impl<K: Eq + Hash, V, S: BuildHasher> Model for KeyedList<K, V, S> {
         m.nodes m.table };
 }
 
-// By hand, so that a drop is one call. What is derived is written out wherever a value ends.
+// Written by hand, so that a drop is one call. A derived drop would be inlined at each place that drops a
+// list.
 impl<K: Eq + Hash + Drop, V: Drop, S: BuildHasher + Drop> Drop for KeyedList<K, V, S> {
     fn drop(self) {
         let KeyedList {
@@ -76,7 +77,7 @@ impl<K: Eq + Hash, V, S: BuildHasher> KeyedList<K, V, S> {
         }
     }
 
-    /// Creates an empty list with room for so many entries. For none it does not allocate.
+    /// Creates an empty list with room for `room` entries. If that is 0, it does not allocate.
     pub fn with_room(alloc: Global, room: usize, hash_builder: S) -> Result<Self, TryReserveError>
     where
         S: Drop,
@@ -104,7 +105,7 @@ impl<K: Eq + Hash, V, S: BuildHasher> KeyedList<K, V, S> {
         self.nodes.len()
     }
 
-    /// Returns the number of entries and spare nodes together for which there is room.
+    /// Returns the room: the number of entries and free nodes that the table can have together.
     #[inline]
     pub fn capacity(&self) -> usize
         ensures capacity { result ≡ self.now.room }

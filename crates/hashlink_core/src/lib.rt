@@ -10,6 +10,7 @@ mod hasher;
 mod into_iter;
 mod iter;
 mod keyed_list;
+mod texts;
 
 pub use compare::{iter_cmp, iter_eq, iter_partial_cmp};
 pub use drained::DrainedNodes;

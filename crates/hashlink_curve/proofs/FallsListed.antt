@@ -9,7 +9,7 @@ use Rattle.std.proofs.lemmas.List.Elements.{All-nil, All-cons}
 use Rattle.std.proofs.lemmas.List.Kept.{AllPairs-cons}
 
 module _ (f : ℕ → ℕ) where
-  -- the misses at the item's capacity, which is above c, fewer than at the one before
+  -- the misses at the item's capacity, which is above c, are fewer than at the capacity before
   abbrev FallsAbove : ℕ → ℕ × ℕ → Type 0
   FallsAbove c item = (c < item.0) × (item.1 ≡ f item.0) × (item.1 < f (item.0 - 1))
 
@@ -34,7 +34,7 @@ module _ (f : ℕ → ℕ) where
       let is : f i ≡ cold + sum (drop (i - c) []) = ap f at ∙ h (i - c) in
       omega (arith, ap sum (drop-nil {A = ℕ} (i - c)))
 
-  -- the value at c + 1, and at c
+  -- the values at c + 1 and at c
   first_step : (cold c n : ℕ) (ns : List ℕ) → IsLeft cold c (n ∷ ns)
       → (f (c + 1) ≡ cold + sum ns) × (f c ≡ f (c + 1) + n)
   first_step cold c n ns h =

@@ -1,4 +1,4 @@
--- One more use of a key: which distance it has, and which caches miss it.
+-- One more use of a key: its distance, and the caches that miss it.
 use Rattle.hashlink_curve.proofs.Names.{◌≡◌, ℕ, zero, suc, ◌+◌, ◌≤◌, ◌<◌, Bool, true, false, ◌&&◌, ◌||◌, cond}
 use Rattle.hashlink_curve.proofs.Names.{List, [], ◌∷◌, ◌++◌, length, take, drop, nat_lt, None, Some, refl}
 use Rattle.hashlink_curve.proofs.Names.{sym, ap, ap₂, ◌∙◌, subst, subst₂, arith, append_assoc, length-append}
@@ -23,10 +23,10 @@ use Rattle.hashlink_model.proofs.Distinct.{answers_alike}
 use Rattle.hashlink_curve.specs.Curve.{distance_of}
 use Rattle.hashlink_curve.proofs.Sums.{sum-set-after, sum-set-before, sum-take-le}
 
--- ---- what a cache of c places misses of one use more
+-- ---- the misses of a cache of capacity c for one more use
 
 module _ {K : Type 0} (eq : K → K → Bool) where
-  -- whether a cache of c places holds the key after these uses, and 1 where it does not
+  -- 0 if a cache of capacity c holds the key after these uses, else 1
   abbrev pub missed : ℕ → List K → K → ℕ
   missed c used k = cond (is_member eq used k && nat_lt (reuse_distance eq used k) c) 0 1
 
@@ -49,11 +49,11 @@ module _ {K : Type 0} (eq : K → K → Bool) where
       let a : missed 0 before u ≡ 1 = grind (arith, nat_tests) in
       omega (arith, misses_from-none (before ++ u ∷ []) used)
 
-  -- a cache without a place misses all
+  -- a cache of capacity 0 misses every use
   pub cache_misses-none : (used : List K) → cache_misses eq 0 used ≡ length used
   cache_misses-none used = misses_from-none [] used
 
--- ---- sums from a place on
+-- ---- sums from an index on
 
 sum-take-drop : (ns : List ℕ) (c : ℕ) → sum (take c ns) + sum (drop c ns) ≡ sum ns
 sum-take-drop ns c = sum_by-take-drop (λ (m : ℕ). m) ns c
@@ -93,7 +93,7 @@ list_any-here test xs x ys t =
 
 -- ---- the parts of a curve
 
--- a use of a key that is there can be counted, and what it leaves
+-- a use of a present key can be counted, and leaves this
 pub MovesPast-next : {K : Type 0} (test : K → Bool) (old new : List K) (d : ℕ) (reuses : Vec ℕ Global) (n : ℕ)
     → MovesPast test old new d → IsTallied old reuses.items n → n + 1 < 2 ^ 64
     → CanCount (Some d) reuses × IsTallied new (tallied (Some d) reuses.items) (n + 1)
@@ -133,7 +133,7 @@ module _ {K : Type 0} (eq : K → K → Bool) (laws : IsEquivalence eq) where
   zip_remove k (x ∷ xs) [] z = absurd z
   zip_remove k (x ∷ xs) (y ∷ ys) z = grind (arith, answers_alike eq laws k x y z.0, z, zip_remove k xs ys z.1)
 
-  -- the last key that is equal to k stands at the same place of both
+  -- the last key that is equal to k is at the same index of both lists
   zip_behind : (k : K) (xs : List K) (x : K) (ys us : List K) (u : K) (vs : List K)
       → Alike (xs ++ x ∷ ys) (us ++ u ∷ vs) → eq k x ≡ true → eq k u ≡ true
       → is_member eq ys k ≡ false → is_member eq vs k ≡ false
@@ -146,9 +146,9 @@ module _ {K : Type 0} (eq : K → K → Bool) (laws : IsEquivalence eq) where
       absurd (true≢false (sym (list_any-here (eq k) xs x ys t) ∙ zip_member k (xs ++ x ∷ ys) vs z.1 ∙ m))
   zip_behind k (a ∷ xs) x ys (b ∷ us) u vs z t s n m = zip_behind k xs x ys us u vs z.1 t s n m
 
-  -- ---- the curve after one use more
+  -- ---- the curve after one more use
 
-  -- a use of a key, by what it returned
+  -- a use of a key, by its result
   pub Counted-next : (used : List K) (old new : CurveState K) (k : K) (d : Option ℕ)
       → Touches eq old.keys new.keys k d → length old.reuses ≡ length old.keys
       → new.reuses ≡ tallied d old.reuses → Counted eq used old
@@ -209,7 +209,7 @@ module _ {K : Type 0} (eq : K → K → Bool) (laws : IsEquivalence eq) where
         sym (ap (λ b. cond b (Some (reuse_distance eq used k)) None) used_before ∙ ap Some distance),
       )
 
-  -- it can be counted, and what it leaves of the parts
+  -- the use can be counted, and leaves these parts
   pub Touches-next : (old new : List K) (k : K) (d : Option ℕ) (reuses : Vec ℕ Global) (n : ℕ)
       → Touches eq old new k d → IsTallied old reuses.items n → n + 1 < 2 ^ 64
       → vec_len reuses < vec_capacity reuses
@@ -241,7 +241,7 @@ module _ {K : Type 0} (eq : K → K → Bool) (laws : IsEquivalence eq) where
   zip_last (x ∷ xs) [] k q t z = (sym (answers_alike eq laws x k q t) ∙ z.0, z.1)
   zip_last (x ∷ xs) (u ∷ us) k q t z = (z.0, zip_last xs us k q t z.1)
 
-  -- a use of a key is one of each that equals it
+  -- a use of a key is a use of each key that equals it
   pub Counts-alike : (used : List K) (old new : CurveState K) (k q : K) (d : Option ℕ) → eq k q ≡ true
       → Counts eq used old new k d → Counts eq used old new q d
   Counts-alike used old new k q d t h counted =

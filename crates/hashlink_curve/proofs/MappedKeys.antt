@@ -1,4 +1,4 @@
--- The curve of keys that are seen as something else, by which they are told apart.
+-- The curve of mapped keys, if the map keeps keys distinct.
 use Rattle.hashlink_curve.proofs.Names.{◌≡◌, ℕ, ◌+◌, Bool, true, ◌&&◌, ◌||◌, cond, List, [], ◌∷◌, ◌++◌}
 use Rattle.hashlink_curve.proofs.Names.{length, drop, nat_lt, ◌-◌, refl, sym, ap, ap₂, ◌∙◌, subst, arith, sum}
 use Rattle.hashlink_curve.proofs.Names.{AllZip, after_last, is_member, unique_keys, map-append, length-map}

@@ -1,4 +1,4 @@
--- What the proofs of this crate import again and again.
+-- What many proofs of this crate import.
 pub use Rattle.hashlink_core.specs.Keyed.{entries_of, state_of}
 pub use Rattle.hashlink_curve.specs.Curve.{Counted, Counts, CurveState, ListsFalls, falls_from, misses_at}
 pub use Rattle.hashlink_curve.specs.Curve.{CanCount, IsTallied, tallied}

@@ -1,4 +1,4 @@
--- Keys at rising places: what a use of one finds, and new places for all.
+-- Keys at rising places: what a use of a key finds, and new places for all keys.
 use Rattle.hashlink_curve.proofs.Names.{◌≡◌, ℕ, suc, ◌+◌, ◌-◌, ◌≤◌, ◌<◌, Bool, true, false, cond, List, []}
 use Rattle.hashlink_curve.proofs.Names.{◌∷◌, ◌++◌, length, None, Some, refl, sym, ap, ap₂, ◌∙◌, subst, arith}
 use Rattle.hashlink_curve.proofs.Names.{append_assoc, length-append, get_or, ◌||◌, nat_eq, nat_lt}
@@ -71,7 +71,7 @@ module _ {K : Type 0} where
       let one = count_by-cons (λ p. nat_lt p e.1) x.1 (values_of (xs ++ e ∷ ys)) in
       grind (arith, nat_tests, one, count_before (x.1 + 1) xs e ys next r.1)
 
-  -- the place after all is free
+  -- the place after all keys is free
   none_at : (low : ℕ) (es : List (K × ℕ)) (next : ℕ) → Rises low es next
       → count_by (nat_eq next) (values_of es) ≡ 0
   none_at low [] next r = refl
@@ -102,7 +102,7 @@ module _ {K : Type 0} where
 -- ---- a use of a key
 
 module _ {K : Type 0} (eq : K → K → Bool) (laws : IsEquivalence eq) where
-  -- the entry of a key that is there, and what the marks say of its place
+  -- the entry of a present key, and the marks at and before its place
   pub record Found (es : List (K × ℕ)) (row : List ℕ) (next : ℕ) (k : K) (place : ℕ) : Type 0 where
     pub front : List (K × ℕ)
     pub key : K
@@ -152,14 +152,14 @@ module _ {K : Type 0} (eq : K → K → Bool) (laws : IsEquivalence eq) where
         marked = omega arith;
       }
 
-  -- the same of the key that passed a test and moved last
+  -- the same for the key that passed a test and moved last
   pub found_match : (test : K → Bool) (es new : List (K × ℕ)) (row : List ℕ) (next place w : ℕ)
       → IsPlaced eq es row next → lookup test es ≡ Some place → (m : MovesLast eq test es new w)
       → Found es row next m.key place
   found_match test es new row next place w p l m =
       found es row next m.key place p (subst (λ t. lookup t es ≡ Some place) m.tells l)
 
-  -- the key goes last, with the next place, at which a mark is set
+  -- the key is put last, at the next place, where a mark is set
   pub placed_last : (es new : List (K × ℕ)) (row after : List ℕ) (next : ℕ) (k : K) → Rises 0 es next
       → Marked row (values_of es) → new ≡ es ++ (k, next) ∷ [] → IsEntries eq new
       → ((xs ys : List ℕ) → Marked row (xs ++ ys) → Marked after (xs ++ next ∷ ys)) → next < length after
@@ -188,7 +188,7 @@ module _ {K : Type 0} (eq : K → K → Bool) (laws : IsEquivalence eq) where
     others_rise =
         rises_middle 0 f.front (f.key, place) f.back next (subst (λ zs. Rises 0 zs next) f.is p.rises)
 
-    -- after it the key is the last, at the next place
+    -- afterwards the key is the last, at the next place
     pub found_moves : (new : List (K × ℕ)) (past : ℕ) → new ≡ put eq es k next (length es)
         → past ≡ length es - 1 - length f.front
         → MovesPast (eq k) (keys_of es) (keys_of new) past
@@ -208,7 +208,7 @@ module _ {K : Type 0} (eq : K → K → Bool) (laws : IsEquivalence eq) where
           count = omega arith;
         }
 
-    -- once its mark is moved to the next place
+    -- after its mark was moved to the next place
     pub found_placed : (new : List (K × ℕ)) (after : List ℕ) → new ≡ put eq es k next (length es)
         → IsEntries eq new
         → ((xs ys : List ℕ) → Marked row (xs ++ place ∷ ys) → Marked after ((xs ++ ys) ++ next ∷ []))
@@ -235,7 +235,8 @@ module _ {K : Type 0} (eq : K → K → Bool) (laws : IsEquivalence eq) where
         last = ap keys_of n ∙ keys_of-append es ((k, next) ∷ []);
       }
 
--- what passed the test and moved last, with w written through what was lent, was put last
+-- the entry that passed the test and moved last, and into which w was written through the loan, is an entry
+-- that was put last
 pub moves_last : {K S : Type 0} (eq : K → K → Bool) → IsEquivalence eq → (test : K → Bool)
     → IsKeyTest eq test → (old new : MapState K ℕ S) (v w : ℕ)
     → IsEntries eq old.entries → lookup test old.entries ≡ Some v
@@ -258,7 +259,7 @@ moves_last eq laws test tells old new v w d at s =
           ∙ sym (put_back eq es k w);
     }
 
--- ---- new places for all
+-- ---- new places for all keys
 
 abbrev pub numbered : {K : Type 0} → ℕ → List (K × ℕ) → List (K × ℕ)
 numbered n [] = []
@@ -285,7 +286,7 @@ module _ {K : Type 0} where
   numbered-rises n m [] e = omega arith
   numbered-rises n m (x ∷ es) e = (omega arith, numbered-rises (n + 1) m es (omega arith))
 
-  -- so many entries got their place and went last
+  -- this many entries got their new place and moved last
   pub record Renumbers (eq : K → K → Bool) (old es : List (K × ℕ)) (row : List ℕ) (place : ℕ) : Type 0 where
     pub done : List (K × ℕ)
     pub left : List (K × ℕ)
@@ -305,7 +306,7 @@ module _ {K : Type 0} where
         free_at (numbered 0 r.done) place row (numbered-rises 0 place r.done (omega (arith, r.count)))
         r.marked l
 
-    -- what is first, and what is left behind it
+    -- the first entry, and the entries after it
     Renumbers-next : place < length old → (e : K × ℕ) × (left : List (K × ℕ)) × (r.left ≡ e ∷ left)
     Renumbers-next l = by r.left (omega (arith, both, r.count))
       where
@@ -313,7 +314,7 @@ module _ {K : Type 0} where
         by [] l = absurd (omega arith)
         by (z ∷ zs) l = (z, zs, refl)
 
-    -- all have got one
+    -- all entries got a new place
     pub Renumbers-end : place ≡ length old → length old ≤ length row
         → IsPlaced eq es row (length es) × (keys_of es ≡ keys_of old) × (length es ≡ length old)
     Renumbers-end e fits =

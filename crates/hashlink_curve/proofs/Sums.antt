@@ -1,4 +1,4 @@
--- What stands before a place, by the rows of sums, and a change at a place.
+-- The sum before a place, by the rows of sums, and a change at a place.
 use Rattle.std.proofs.lemmas.Bool.{cases_lt}
 use Rattle.std.proofs.Common.{◌≡◌, ℕ, zero, suc, ◌+◌, ◌-◌, ◌*◌, ◌/◌, ◌^◌, ◌<◌, ◌≤◌, Bool}
 use Rattle.std.proofs.Common.{List, [], ◌∷◌, ◌++◌, length, take, drop, get_or, set, replicate, refl, sym, ap}
@@ -19,7 +19,7 @@ use Rattle.hashlink_curve.specs.Marks.{changed, CanChange}
 
 -- ---- sums of the first entries
 
--- the first b are the first a, and those from there on
+-- the first b entries are the first a and those from there on
 sum-range : (row : List ℕ) (a b : ℕ) → a ≤ b
     → sum (slice_range row a b) + sum (take a row) ≡ sum (take b row)
 sum-range row a b l =
@@ -53,7 +53,7 @@ module _ (row sums : List ℕ) (h : HasSums row sums) (x : ℕ) (l : x < length 
   has_block : x / 64 < length sums
   has_block = let a = h.all in omega arith
 
-  -- a block has no less than each of its entries
+  -- the sum of a block is at least each of its entries
   block_covers : get_or row x 0 ≤ get_or sums (x / 64) 0
   block_covers =
       let b = has_block in
@@ -138,7 +138,7 @@ rows_changed row (sums ∷ above) h x less more v l enough is =
           (omega arith),
     )
 
--- ---- rows of zeros, the last of so many entries
+-- ---- rows of zeros, the last with a given number of entries
 
 abbrev pub OpenRows : List ℕ → List (List ℕ) → ℕ → Type 0
 OpenRows row [] width = row ≡ replicate width 0
@@ -179,7 +179,7 @@ OpenRows-end row above width places zeros few h l =
           (All-replicate (λ marks. marks ≤ 1) places 0 (omega arith));
     }
 
--- ---- how many marks stand before a place
+-- ---- the number of marks before a place
 
 pub count_by-cons : {X : Type 0} (p : X → Bool) (x : X) (xs : List X)
     → count_by p (x ∷ xs) ≡ cond (p x) 1 0 + count_by p xs
@@ -214,7 +214,7 @@ count_by-middle p xs x ys =
     let add = sum_by-append (λ y. cond (p y) 1 0) xs in
     omega (arith, count_by-cons p x ys, add (x ∷ ys), add ys)
 
--- marks are no more than places
+-- there are no more marks than places
 sum-marks : (row : List ℕ) (above : List (List ℕ)) → AreSummed row above → sum row < 2 ^ 62
 sum-marks row above s =
     omega (arith, sum_by-le (λ (m : ℕ). m) 1 row s.one)
@@ -232,7 +232,7 @@ length-changed : (node less more : ℕ) (rows : List (List ℕ))
 length-changed node less more [] = refl
 length-changed node less more (row ∷ above) = ap suc (length-changed (node / 64) less more above)
 
--- what is read, of what was lent, to count the marks before a place
+-- the parts of the lent rows that are read to count the marks before a place
 pub record Read (row lent : List ℕ) (lents : List (Vec ℕ Global)) (x : ℕ) : Type 0 where
   pub within : HasNode (x / 64) (rows_of lents)
   pub fits : sum (take x row) < 2 ^ 64
@@ -252,7 +252,7 @@ reads row lent seen rows lents x s is l e es =
       sums = rows_sum row above s.rows x (omega arith);
     })
 
--- after a change of an entry, and of the sums above it, which are written back
+-- after a change of an entry and of the sums above it, which are written back
 pub AreSummed-changed : (row : List ℕ) (rows now : List (Vec ℕ Global)) (x less more v len : ℕ)
     → AreSummed row (rows_of rows) → len ≡ length rows → x < length row → less ≤ get_or row x 0
     → v + less ≡ get_or row x 0 + more → v ≤ 1

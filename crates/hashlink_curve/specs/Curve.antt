@@ -1,4 +1,4 @@
--- What a curve of misses has counted of a history.
+-- What a miss curve has counted for a history.
 use Rattle.std.specs.Prelude.{◌≡◌, ℕ, ◌+◌, ◌-◌, ◌^◌, ◌<◌, ◌≤◌, Bool, true, false, nat_eq, List, [], ◌∷◌, ◌++◌}
 use Rattle.std.specs.Prelude.{length, drop, sum, All, AllPairs, Contains, IsTrue, Option, None, Some}
 use Rattle.std.specs.Prelude.{if◌then◌else◌, set, slice_index, Vec, vec_len, vec_capacity}
@@ -7,37 +7,37 @@ use Rattle.std.specs.List.{AllZip, list_any}
 use Rattle.std.specs.Set.{is_member, unique_keys}
 use Rattle.hashlink_history.specs.History.{reuse_distance, cache_misses}
 
--- the keys in the order of their last uses, each once, and at each distance how many uses had it
+-- the keys in the order of their last uses, each once, and the number of uses at each distance
 pub record CurveState (K : Type 0) : Type 0 where
   pub keys : List K
   pub reuses : List ℕ
 
--- what a cache of c places missed: the first use of each key, and each later one at a distance of c or more
+-- the misses of a cache of capacity c: the first use of each key, and each later use at a distance of c or
+-- more
 abbrev pub misses_at : {K : Type 0} → CurveState K → ℕ → ℕ
 misses_at s c = length s.keys + sum (drop c s.reuses)
 
--- from the capacity c on, at which capacities the misses fall, with the misses there, where `cold` are never
--- hits and the list has the uses at each distance from c on
+-- the capacities above c at which the misses fall, with the misses there. `cold` uses never hit, and the list
+-- has the number of uses at each distance from c on
 abbrev pub falls_from : ℕ → ℕ → List ℕ → List (ℕ × ℕ)
 falls_from cold c [] = []
 falls_from cold c (n ∷ ns) =
     if nat_eq n 0 then falls_from cold (c + 1) ns else ((c + 1, cold + sum ns) ∷ falls_from cold (c + 1) ns)
 
--- each capacity at which the misses are fewer than at the one before, from the smallest on, with the misses
--- there
+-- each capacity at which the misses are fewer than at the one before, in rising order, with the misses there
 pub record ListsFalls {K : Type 0} (s : CurveState K) (items : List (ℕ × ℕ)) : Type 0 where
   pub each : All (λ item. (0 < item.0) × (item.1 ≡ misses_at s item.0) × (item.1 < misses_at s (item.0 - 1)))
       items
   pub every : (c : ℕ) → misses_at s (c + 1) < misses_at s c → Contains items (c + 1, misses_at s (c + 1))
   pub rising : AllPairs (λ a b. a.0 < b.0) items
 
--- where none of the keys passes the test, a key may be made, and each that may be made passes
+-- if no key passes the test, a key may be made, and each key that may be made passes
 abbrev pub CanMakeMatch : {K : Type 0} → (K → Bool) → Type 0 → (K → Type 0) → List K → Type 0
 CanMakeMatch test Callable Made keys =
     list_any test keys ≡ false → Callable × ((k : _) → Made k → IsTrue (test k))
 
 module _ {K : Type 0} (eq : K → K → Bool) where
-  -- how many other keys were used since the last use of k, or none where it was not used
+  -- the number of other keys used since the last use of k, or none if k was not used
   abbrev pub distance_of : List K → K → Option ℕ
   distance_of used k = if is_member eq used k then Some (reuse_distance eq used k) else None
 
@@ -46,12 +46,12 @@ module _ {K : Type 0} (eq : K → K → Bool) where
     pub keys : AllZip (λ a b. eq a b ≡ true) s.keys (unique_keys eq used)
     pub misses : (c : ℕ) → misses_at s c ≡ cache_misses eq c used
 
-  -- a use of the key k more was counted, and what it returned is the distance
+  -- one more use of the key k was counted, and its distance was returned
   abbrev pub Counts : List K → CurveState K → CurveState K → K → Option ℕ → Type 0
   Counts used old new k distance =
       Counted used old → Counted (used ++ k ∷ []) new × (distance ≡ distance_of used k)
 
-  -- a use of the key that passes the test, by what it returned: no key passes and nothing changed, or one
+  -- a use of the key that passes the test, by its result: either no key passes and nothing changed, or one
   -- does, and a use of it was counted
   abbrev pub CountsMatch : (K → Bool) → CurveState K → CurveState K → Option ℕ → Type 0
   CountsMatch test old new None = (list_any test old.keys ≡ false) × (new ≡ old)
@@ -59,24 +59,23 @@ module _ {K : Type 0} (eq : K → K → Bool) where
       IsTrue (list_any test new.keys)
       × ((used : List K) (k : K) → IsTrue (test k) → Counts used old new k (Some others))
 
--- what the parts of a curve say of each other: a place for each distance that there may be, and how many uses
--- there were
+-- how the parts of a curve belong together: a count for each possible distance, and the number of uses
 pub record IsTallied {K : Type 0} (keys : List K) (reuses : List ℕ) (accesses : ℕ) : Type 0 where
   pub distances : length reuses ≡ length keys
   pub all : accesses ≡ length keys + sum reuses
   pub fits : accesses < 2 ^ 64
 
--- the uses at each distance after one more at this distance, or with a place for one distance more
+-- the number of uses at each distance, after one more use at this distance, or with one more distance
 abbrev pub tallied : Option ℕ → List ℕ → List ℕ
 tallied None reuses = reuses ++ 0 ∷ []
 tallied (Some d) reuses = set reuses d (slice_index reuses d + 1)
 
--- there is room for a place more, or the distance has one, and its count may grow
+-- there is room for one more count, or the distance has a count that may grow
 abbrev pub CanCount : Option ℕ → Vec ℕ Global → Type 0
 CanCount None reuses = vec_len reuses < vec_capacity reuses
 CanCount (Some d) reuses = (d < length reuses.items) × (slice_index reuses.items d + 1 < 2 ^ 64)
 
--- what is left of the curve: the uses at each distance from the capacity on are among those that it misses
+-- the rest of the curve: the uses at each distance from the capacity on are among those that it misses
 pub record Falling (reuses : List ℕ) (capacity misses : ℕ) : Type 0 where
   pub among : sum reuses ≤ misses
   pub fits : capacity + length reuses < 2 ^ 63

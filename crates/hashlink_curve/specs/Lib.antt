@@ -1,4 +1,4 @@
--- What the contracts of the curve cite, beside `hashlink_model`.
+-- What the contracts of the curve use, besides `hashlink_model`.
 pub mod Curve
 pub mod Marks
 pub mod Recency

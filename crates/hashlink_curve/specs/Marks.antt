@@ -1,4 +1,5 @@
--- Marks at the places of a row, and above it the rows of sums, each of the blocks of 64 of the one below.
+-- Marks at the places of a row, and the rows of sums above it. Each row of sums has the sums of the blocks of
+-- 64 entries of the row below.
 use Rattle.std.specs.Prelude.{◌≡◌, ℕ, ◌+◌, ◌-◌, ◌*◌, ◌/◌, ◌^◌, ◌<◌, ◌≤◌, List, [], ◌∷◌, length, take, sum}
 use Rattle.std.specs.Prelude.{nat_eq, slice_index, slice_range, All, map, set, Vec, ⊤}
 use Rattle.std.specs.declared.alloc.Global.{Global}
@@ -7,11 +8,11 @@ use Rattle.std.specs.List.{count_by}
 abbrev pub rows_of : List (Vec ℕ Global) → List (List ℕ)
 rows_of rows = map (λ row. row.items) rows
 
--- a place has as many marks as it stands in the list
+-- a place has as many marks as it has occurrences in the list
 pub record Marked (row places : List ℕ) : Type 0 where
   pub each : (x : ℕ) → x < length row → slice_index row x ≡ count_by (nat_eq x) places
 
--- each number is the sum of a block of the row, and each block has one
+-- each number is the sum of a block of the row, and each block has a sum
 pub record HasSums (row sums : List ℕ) : Type 0 where
   pub each : (j : ℕ) → j ≤ length sums → sum (take j sums) ≡ sum (take (64 * j) row)
   pub all : length row ≤ 64 * length sums
@@ -26,18 +27,18 @@ pub record AreSummed (row : List ℕ) (above : List (List ℕ)) : Type 0 where
   pub small : length row < 2 ^ 62
   pub one : All (λ marks. marks ≤ 1) row
 
--- what stands before a node: in its own block, and in the blocks before
+-- the sum before a node: in its own block, and in the blocks before
 abbrev pub sum_before : ℕ → List (List ℕ) → ℕ
 sum_before node [] = 0
 sum_before node (row ∷ above) =
     sum (slice_range row (64 * (node / 64)) node) + sum_before (node / 64) above
 
--- the node, and that of its block, and so on, is within its row
+-- the node is within its row, so is the node of its block, and so on
 abbrev pub HasNode : ℕ → List (List ℕ) → Type 0
 HasNode node [] = ⊤
 HasNode node (row ∷ above) = (node < length row) × HasNode (node / 64) above
 
--- at the node, and at that of its block, and so on, `less` goes and `more` comes
+-- at the node, at the node of its block, and so on, `less` is subtracted and `more` is added
 abbrev pub changed : ℕ → ℕ → ℕ → List (List ℕ) → List (List ℕ)
 changed node less more [] = []
 changed node less more (row ∷ above) =

@@ -1,4 +1,4 @@
--- The keys of a history, each once, in the order of their last uses; and each with its place in a row of
+-- The keys of a history, each once, in the order of their last uses, and each with its place in a row of
 -- marks.
 use Rattle.std.specs.Prelude.{◌≡◌, ℕ, ◌+◌, ◌≤◌, Bool, true, false, List, [], ◌∷◌, ◌++◌, length, Option, None}
 use Rattle.std.specs.Prelude.{Some}
@@ -13,7 +13,7 @@ abbrev pub Rises : {K : Type 0} → ℕ → List (K × ℕ) → ℕ → Type 0
 Rises low [] next = low ≤ next
 Rises low (e ∷ es) next = (low ≤ e.1) × Rises (e.1 + 1) es next
 
--- the entries have rising places, at which the marks stand
+-- the entries have rising places, at which the marks are
 pub record IsPlaced {K : Type 0} (eq : K → K → Bool) (es : List (K × ℕ)) (row : List ℕ)
     (next : ℕ) : Type 0 where
   pub distinct : IsEntries eq es
@@ -21,7 +21,8 @@ pub record IsPlaced {K : Type 0} (eq : K → K → Bool) (es : List (K × ℕ)) 
   pub marked : Marked row (values_of es)
   pub within : next ≤ length row
 
--- the entry whose key passes the test goes last, with the place `next`. The keys that pass equal its key
+-- the entry whose key passes the test moves last, to the place `next`. A key passes exactly if it is equal to
+-- its key
 pub record MovesLast {K : Type 0} (eq : K → K → Bool) (test : K → Bool) (old new : List (K × ℕ))
     (next : ℕ) : Type 0 where
   pub key : K
@@ -29,7 +30,7 @@ pub record MovesLast {K : Type 0} (eq : K → K → Bool) (test : K → Bool) (o
   pub entries : new ≡ put eq old key next (length old)
 
 module _ {K : Type 0} where
-  -- a key that passes the test is there and moves last, past so many others
+  -- a key passes the test and moves last, past this many others
   pub record MovesPast (test : K → Bool) (old new : List K) (others : ℕ) : Type 0 where
     pub front : List K
     pub key : K
@@ -41,23 +42,23 @@ module _ {K : Type 0} where
     pub moved : new ≡ (front ++ back) ++ key ∷ []
     pub count : others ≡ length back
 
-  -- no key passes the test, and none moves
+  -- no key passes the test, and no key moves
   pub record PassesNone (test : K → Bool) (old new : List K) : Type 0 where
     pub absent : list_any test old ≡ false
     pub unchanged : new ≡ old
 
-  -- a use of the key that passes the test, if one does, by what it returns
+  -- a use of the key that passes the test, if one does, by its result
   abbrev pub TouchesMatch : (K → Bool) → List K → List K → Option ℕ → Type 0
   TouchesMatch test old new None = PassesNone test old new
   TouchesMatch test old new (Some others) = MovesPast test old new others
 
 module _ {K : Type 0} (eq : K → K → Bool) where
-  -- a key that was absent goes last
+  -- a key that was absent is added last
   pub record GoesLast (old new : List K) (k : K) : Type 0 where
     pub absent : is_member eq old k ≡ false
     pub last : new ≡ old ++ k ∷ []
 
-  -- a use of a key, by what it returns
+  -- a use of a key, by its result
   abbrev pub Touches : List K → List K → K → Option ℕ → Type 0
   Touches old new k None = GoesLast old new k
   Touches old new k (Some others) = MovesPast (eq k) old new others

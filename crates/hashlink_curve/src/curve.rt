@@ -1,4 +1,4 @@
-//! The curve of misses.
+//! The miss curve.
 ghost use Rattle.std.specs.Prelude.{◌≡◌, ◌≤◌, ◌<◌, ◌^◌, ℕ, List, [], length, drop, sum, Ok, IfOk, IsOk};
 ghost use Rattle.std.specs.Prelude.{IfErr, OnErr, OnOk, IsTrue};
 ghost use Rattle.std.specs.List.{list_any};
@@ -35,7 +35,8 @@ impl<K: Eq + Hash, S: BuildHasher> Model for MissCurve<K, S> {
 }
 
 impl<K: Eq + Hash> MissCurve<K, DefaultHashBuilder> {
-    /// Creates the curve of no use at all, whose keys are hashed with `DefaultHasher`. It does not allocate.
+    /// Creates the curve of an empty history, whose keys are hashed with `DefaultHasher`. It does not
+    /// allocate.
     pub fn new(alloc: Global) -> Self
         ensures { Counted K.eq [] result }
     {
@@ -44,8 +45,8 @@ impl<K: Eq + Hash> MissCurve<K, DefaultHashBuilder> {
 }
 
 impl<K: Eq + Hash, S: BuildHasher> MissCurve<K, S> {
-    /// Creates the curve of no use at all, whose keys are hashed with `hash_builder`. It does not allocate.
-    /// No answer depends on the hasher.
+    /// Creates the curve of an empty history, whose keys are hashed with `hash_builder`. It does not
+    /// allocate. No result depends on the hasher.
     pub fn with_hasher(alloc: Global, hash_builder: S) -> Self
         ensures { Counted K.eq [] result }
     {
@@ -59,7 +60,7 @@ impl<K: Eq + Hash, S: BuildHasher> MissCurve<K, S> {
     /// Records a use of the key. Returns how many other keys were used since its last use, or `None` at its
     /// first use.
     ///
-    /// It takes logarithmic time on average. If memory runs out, and after 2 to the power of 64 less 1 uses,
+    /// It takes logarithmic time on average. If memory runs out, or after 2 to the power of 64 less 1 uses,
     /// it returns the key in `Err` and nothing changes.
     pub fn record(&mut self, key: K) -> Result<Option<usize>, K>
     where
@@ -79,11 +80,11 @@ impl<K: Eq + Hash, S: BuildHasher> MissCurve<K, S> {
         Ok(distance)
     }
 
-    /// Does the same as `record` for a key that the query matches. If none is recorded yet, `make` has to be
-    /// callable, and is called once: what it returns has to be a key that the query matches, and is recorded.
+    /// Does the same as `record` for a key that the query matches. If no such key is recorded yet, `make` has
+    /// to be callable, and is called once. The key that it returns has to match the query, and is recorded.
     ///
     /// It takes as long as `record`, and hashes the key a second time if it is a new one. If memory runs out,
-    /// if `make` fails, and after 2 to the power of 64 less 1 uses, it returns `AllocError` and nothing
+    /// if `make` fails, or after 2 to the power of 64 less 1 uses, it returns `AllocError` and nothing
     /// changes.
     pub fn record_with<Q: Equivalent<K>, F: FnOnce() -> Result<K, AllocError>>(
         &mut self,
@@ -109,8 +110,8 @@ impl<K: Eq + Hash, S: BuildHasher> MissCurve<K, S> {
         Ok(distance)
     }
 
-    /// Does the same as `record` for the key that the query matches, and returns `None` and changes nothing
-    /// if none is recorded yet.
+    /// Does the same as `record` for the key that the query matches. If no such key is recorded yet, it
+    /// returns `None` and changes nothing.
     fn record_match<Q: Equivalent<K>>(&mut self, query: Q) -> Result<Option<usize>, AllocError>
     where
         K: Drop,
@@ -128,10 +129,10 @@ impl<K: Eq + Hash, S: BuildHasher> MissCurve<K, S> {
         Ok(Some(others))
     }
 
-    /// Returns how many of the recorded uses a cache of this capacity misses that is empty at first. It takes
-    /// a step for each distinct key beyond `capacity`, and does not allocate.
+    /// Returns how many of the recorded uses miss in a cache of this capacity that is empty at first. It
+    /// takes a step for each distinct key beyond `capacity`, and does not allocate.
     pub fn misses(&self, capacity: usize) -> u64
-        // The same as the cache of the model, and so as any cache whose contract names it.
+        // The same as the misses of the model's cache, and so of any cache whose contract names it.
         ensures counted { (used : List K) → Counted K.eq used self.now → result
             ≡ cache_misses K.eq capacity used }
         ensures exact { result ≡ misses_at self.now capacity }
@@ -160,7 +161,7 @@ impl<K: Eq + Hash, S: BuildHasher> MissCurve<K, S> {
         self.recency.len()
     }
 
-    /// Returns an iterator over the capacities at which the curve falls, from the smallest on, each with the
+    /// Returns an iterator over the capacities at which the curve falls, in rising order, each with the
     /// misses there. It takes constant time and does not allocate. The iterator takes a step for each
     /// distinct key in all.
     pub fn falls(&self) -> Falls<'_>
@@ -171,8 +172,8 @@ impl<K: Eq + Hash, S: BuildHasher> MissCurve<K, S> {
     }
 }
 
-/// Returns the curve of these keys, used in turn. It costs a `record` for each key. If memory runs out, it
-/// returns `AllocError`, and nothing is left of the curve.
+/// Returns the curve of the given keys, used in order. It costs a `record` for each key. If memory runs out,
+/// it returns `AllocError`, and nothing is left of the curve.
 pub fn miss_curve<K: Eq + Hash + Copy>(
     alloc: Global,
     keys: &[K],
@@ -189,7 +190,7 @@ pub fn miss_curve<K: Eq + Hash + Copy>(
     Ok(curve)
 }
 
-/// Counts a use at this distance. A new key has none, and brings a place for one distance more.
+/// Counts a use at this distance. A new key has no distance, and adds a count for one more distance.
 fn count_use(reuses: &mut Vec<u64>, distance: Option<usize>)
     requires countable { CanCount distance reuses.old }
     ensures { reuses.new.items ≡ tallied distance reuses.old.items }
@@ -200,7 +201,7 @@ fn count_use(reuses: &mut Vec<u64>, distance: Option<usize>)
     }
 }
 
-/// Returns the sum of the counts from this place on.
+/// Returns the sum of the counts from this index on.
 fn sum_from(counts: &[u64], place: usize) -> u64
     requires { sum (drop place counts.now) < 2 ^ 64 }
     ensures { result ≡ sum (drop place counts.now) }

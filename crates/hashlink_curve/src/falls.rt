@@ -1,12 +1,12 @@
-//! Where a curve of misses falls.
+//! The capacities at which a miss curve falls.
 ghost use Rattle.std.specs.Prelude.{◌≡◌, ◌-◌, ◌^◌, ◌≤◌, ◌<◌, length, sum};
 ghost use Rattle.std.specs.Iterator.{at_most, YieldsFirst};
 ghost use Rattle.hashlink_curve.specs.Curve.{falls_from};
 
 use std::marker::Model;
 
-/// An iterator over the capacities at which a curve falls, from the smallest on, each with the misses there.
-/// Contracts see it as the list of the items that are left.
+/// An iterator over the capacities at which a curve falls, in rising order, each with the misses there.
+/// Contracts see it as the list of the items not yet returned.
 #[derive(Drop)]
 pub struct Falls<'a> {
     reuses: &'a [u64],

@@ -1,4 +1,4 @@
-//! `MissCurve`: how often caches of every capacity miss, from one pass over the keys that are used.
+//! `MissCurve`: how often caches of every capacity miss, computed in one pass over the used keys.
 #![tactic(auto)]
 
 mod curve;

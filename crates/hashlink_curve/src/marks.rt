@@ -1,4 +1,4 @@
-//! Marks at places, and how many stand before a place.
+//! Marks at places, and the number of marks before a place.
 ghost use Rattle.std.specs.Prelude.{◌≡◌, ℕ, ◌+◌, ◌-◌, ◌/◌, ◌<◌, ◌≤◌, ◌^◌, List, [], ◌∷◌, ◌++◌, IfOk, nat_lt};
 ghost use Rattle.std.specs.Prelude.{slice_index, length, set, sum};
 ghost use Rattle.std.specs.List.{count_by};
@@ -10,11 +10,11 @@ use std::marker::Model;
 /// The greatest number of places.
 const MOST_PLACES: usize = 1 << 60;
 
-/// So many entries of a row have one sum.
+/// The number of entries of a row that have one sum.
 const BLOCK: usize = 64;
 
-/// Marks at places. Above the row of places is a row of sums, each of a block of 64 places, above it one of
-/// the sums of its blocks, and so on up to a row of one block.
+/// Marks at places. Above the row of places is a row of sums, one for each block of 64 places. Above it is a
+/// row of the sums of its blocks, and so on up to a row of one block.
 #[derive(Drop)]
 pub(crate) struct Marks {
     row: Vec<u8>,
@@ -33,7 +33,7 @@ impl Model for Marks {
 }
 
 impl Marks {
-    /// Creates a row without a place. It does not allocate.
+    /// Creates a row without places. It does not allocate.
     pub(crate) fn new(alloc: Global) -> Self
         ensures unmarked { Marked result [] }
         ensures none { length result ≡ 0 }
@@ -44,7 +44,7 @@ impl Marks {
         }
     }
 
-    /// Creates a row of so many places with no mark.
+    /// Creates a row of this many places without a mark.
     pub(crate) fn with_places(alloc: Global, places: usize) -> Result<Self, AllocError>
         ensures unmarked { IfOk result (λ marks. Marked marks []) }
         ensures exact { IfOk result (λ marks. length marks ≡ places) }
@@ -91,7 +91,7 @@ impl Marks {
     }
 
     /// Moves the mark at `place`, which has to have one, to the place `to`, which has to have none. Returns
-    /// the number of marks that stood before it. It takes at most 65 steps for each row.
+    /// the number of marks before `place`. It takes at most 65 steps for each row.
     pub(crate) fn move_mark(&mut self, place: usize, to: usize) -> usize
         requires within { (place < length self.old) × (to < length self.old) }
         requires marked { 0 < slice_index self.old place }
@@ -109,7 +109,7 @@ impl Marks {
         before
     }
 
-    /// Takes `less` marks from the place, and adds `more`. It takes a step for each row.
+    /// Subtracts `less` marks from the place, and adds `more`. It takes a step for each row.
     fn change_at(&mut self, place: usize, less: u8, more: u8)
         requires within { place < length self.old }
         requires enough { less ≤ slice_index self.old place }
@@ -143,8 +143,8 @@ fn sum_of(numbers: &[usize]) -> usize
     numbers.iter().sum()
 }
 
-/// Returns the sum of what stands before the node in the first of the rows, of which each has the sums of
-/// the blocks of the one before.
+/// Returns the sum before the node in the first row. Each further row has the sums of the blocks of the row
+/// before.
 fn sum_before(rows: &[Vec<usize>], node: usize) -> usize
     requires within { HasNode node (rows_of rows.now) }
     requires fits { sum_before node (rows_of rows.now) < 2 ^ 64 }
@@ -157,7 +157,7 @@ fn sum_before(rows: &[Vec<usize>], node: usize) -> usize
     sum_of(&row[BLOCK * next..node]) + sum_before(above, next)
 }
 
-/// Takes `less` from the node in the first of the rows, adds `more`, and does the same in the rows above.
+/// Subtracts `less` from the node in the first row, adds `more`, and does the same in the rows above.
 fn change(rows: &mut [Vec<usize>], node: usize, less: usize, more: usize)
     requires { CanChange node less more (rows_of rows.old) }
     ensures { rows_of rows.new ≡ changed node less more (rows_of rows.old) }

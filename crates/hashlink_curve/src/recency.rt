@@ -12,7 +12,7 @@ use std::hash::{BuildHasher, Hash};
 use std::marker::Model;
 
 /// Keys in the order of their last uses. Each key has a place, and the places increase in that order. A mark
-/// is at the place of each key. So the marks after a place are the keys that were used since.
+/// is at the place of each key. So the marks after a key's place belong to the keys used since.
 #[derive(Drop)]
 pub(crate) struct Recency<K: Eq + Hash, S: BuildHasher> {
     places: LinkedHashMap<K, usize, S>,
@@ -57,8 +57,8 @@ impl<K: Eq + Hash, S: BuildHasher> Recency<K, S> {
     /// Makes the key the last. Returns how many keys were used since its last use, or `None` at its first
     /// use.
     ///
-    /// It takes logarithmic time, except that now and then each key is given a new place. If memory runs out,
-    /// it returns the key in `Err` and nothing changes.
+    /// It takes logarithmic time, except that from time to time each key gets a new place. If memory runs
+    /// out, it returns the key in `Err` and nothing changes.
     pub(crate) fn touch(&mut self, key: K) -> Result<Option<usize>, K>
     where
         K: Drop,
@@ -90,7 +90,7 @@ impl<K: Eq + Hash, S: BuildHasher> Recency<K, S> {
         }
     }
 
-    /// Makes the key that the query matches the last, if it is there, and returns how many keys were used
+    /// Makes the key that the query matches the last, if it is present, and returns how many keys were used
     /// since its last use. It returns `None` if no key matches.
     ///
     /// It takes as long as `touch`. If memory runs out, nothing changes.
@@ -140,8 +140,8 @@ fn move_last<K: Eq + Hash, S: BuildHasher, Q: Equivalent<K>>(
     Some(old)
 }
 
-/// Makes sure that the place `next` is free, if need be by new places for all keys. If memory runs out,
-/// nothing changes.
+/// Makes sure that the place `next` is free, if necessary by giving every key a new place. If memory runs
+/// out, nothing changes.
 fn free_place<K: Eq + Hash + Drop, S: BuildHasher>(
     alloc: Global,
     places: &mut LinkedHashMap<K, usize, S>,
@@ -161,11 +161,11 @@ fn free_place<K: Eq + Hash + Drop, S: BuildHasher>(
     Ok(())
 }
 
-/// With more keys than this no row is built, since there could be no memory for it.
+/// With more keys than this no row is built, because there could be no memory for it.
 const MOST_KEYS: usize = 1 << 55;
 
-/// So many places are built for each key, so that keys move to new places that much more rarely than they
-/// are used.
+/// The number of places that are built for each key. So keys get new places this many times less often than
+/// they are used.
 const PLACES: usize = 16;
 
 /// Moves the keys to the places from 0 on, in their order, and builds a row with their marks and many more

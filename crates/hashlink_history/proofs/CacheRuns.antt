@@ -1,4 +1,4 @@
--- What caches hold and answer along calls in a row.
+-- What caches hold, and what they return, along several calls.
 use Rattle.std.proofs.Common.{◌≡◌, ℕ, ◌≤◌, Bool, false, ◌&&◌, List, [], ◌∷◌, ◌++◌, length, nat_lt, is_some}
 use Rattle.std.proofs.Common.{Option, refl, ap, arith, append_assoc, append-nil, true≢false, true, le_refl}
 use Rattle.std.specs.Cmp.{IsEquivalence}
@@ -36,7 +36,7 @@ module _ {K V : Type 0} (eq : K → K → Bool) where
   answers-append c es (x ∷ xs) ys =
       ap (λ os. answer_to eq es x ∷ os) (answers-append c (after_event eq c es x) xs ys)
 
-  -- ---- how long the list is
+  -- ---- the length of the list
 
   without_shorter : (es : List (K × V)) (k : K) → length (without eq es k) ≤ length es
   without_shorter [] k = le_refl 0
@@ -72,7 +72,7 @@ module _ {K V : Type 0} (eq : K → K → Bool) (laws : IsEquivalence eq) where
   -- ---- two caches that get the same calls
 
   module _ (c d : ℕ) (fewer : c ≤ d) where
-    -- what stays true of the two along the calls
+    -- what stays true for both along the calls
     pub record Alike (R : K × V → K × V → Type 0) (small large : List (K × V)) : Type 0 where
       pub unequal : IsEntries eq large
       pub within : length small ≤ c
@@ -85,7 +85,7 @@ module _ {K V : Type 0} (eq : K → K → Bool) (laws : IsEquivalence eq) where
       end = record { front = []; back = []; is = refl; alike = tt };
     }
 
-    -- the calls that are allowed, of which a use has to keep the smaller an end of the larger
+    -- the allowed calls; after an allowed use the smaller cache has to stay an end of the larger one
     module _ (R : K × V → K × V → Type 0) (equal : (p q : K × V) → R p q → eq p.0 q.0 ≡ true)
         (again : (p q : K) (v : V) → eq p q ≡ true → R (p, v) (q, v)) (Allowed : CacheEvent K V → Type 0)
         (uses : (k : K) (v : V) → Allowed (Use k v) → (small large : List (K × V)) → Alike R small large
@@ -126,7 +126,7 @@ module _ {K V : Type 0} (eq : K → K → Bool) (laws : IsEquivalence eq) where
             (alike_after small large e n.0 a),
       )
 
-    -- from two empty caches, by keys alone: every call is allowed
+    -- two caches that start empty, by their keys only: every call is allowed
     key_uses : (k : K) (v : V) → Unit {0} → (small large : List (K × V)) → Alike (SameKey eq) small large
         → IsEndOf (SameKey eq) (cache_use eq small c k v) (cache_use eq large d k v)
     key_uses k v _ small large a = end-cache_use eq laws c d k v small large a.unequal fewer a.within a.end
@@ -144,7 +144,7 @@ module _ {K V : Type 0} (eq : K → K → Bool) (laws : IsEquivalence eq) where
         (λ k small large a. end-finds eq laws (SameKey eq) (λ p q r. r) k small large a.end) [] [] events
         (recursion_from_All _ events (λ _ _ _. tt)) (start (SameKey eq))
 
-    -- by keys and values: all but uses
+    -- by keys and values: all calls except uses
     pub entries_along : (events : List (CacheEvent K V)) → NoUse events
         → IsEndOf (SameEntry eq) (after_events eq c [] events) (after_events eq d [] events)
     entries_along events n =

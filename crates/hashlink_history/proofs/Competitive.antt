@@ -1,5 +1,5 @@
--- The misses of a cache against those of any schedule, from nothing on: the cache is filled up with keys that
--- nobody asks for.
+-- The misses of a cache compared with the misses of any schedule, both starting empty. For the proof the
+-- cache is padded with keys that are never used.
 use Rattle.std.proofs.Common.{◌≡◌, ℕ, zero, suc, ◌+◌, ◌-◌, ◌*◌, ◌≤◌, ◌<◌, Bool, true, false, cond, ◌||◌, ◌&&◌}
 use Rattle.std.proofs.Common.{List, [], ◌∷◌, ◌++◌, map, length, take, drop, nat_lt, nat_eq, refl, sym, ap}
 use Rattle.std.proofs.Common.{ap₂, ◌∙◌, ◌⊎◌, inl, inr, arith, append_assoc, length-append, length-take}
@@ -24,7 +24,7 @@ use Rattle.hashlink_history.proofs.Pursued.{full_misses, pursued}
 use Rattle.std.proofs.lemmas.List.{length-map, map-append}
 use Rattle.std.proofs.Math.Seq.{drop-nil}
 
--- ---- keys, and numbers beside them that no history has
+-- ---- keys, and numbers besides them that no history has
 
 module _ {K : Type 0} (eq : K → K → Bool) where
   abbrev pub padded_eq : K ⊎ ℕ → K ⊎ ℕ → Bool
@@ -127,7 +127,7 @@ module _ {K : Type 0} (eq : K → K → Bool) where
   misses_real before (k ∷ used) (after ∷ held) =
       ap₂ (λ b n. cond b 0 1 + n) (member_real before k) (misses_real after used held)
 
-  -- ---- a cache filled up to c keys
+  -- ---- a cache padded to c keys
 
   abbrev pub filled : ℕ → List K → List (K ⊎ ℕ)
   filled c ks = padding K (c - length ks) ++ real ks
@@ -171,7 +171,7 @@ module _ {K : Type 0} (eq : K → K → Bool) (laws : IsEquivalence eq) where
       ∙ sym (map-append (λ x. inl x) ks (k ∷ []))
       ∙ ap (λ n. padding K n ++ real (ks ++ k ∷ [])) (sym full_after)
 
-  -- one use: the filled cache takes the step that the recent keys take
+  -- one use: the padded cache takes the step that the recent keys take
   filled_step : (c : ℕ) (used : List K) (k : K) (b : Bool) → 1 ≤ c
       → is_member eq (recent_keys eq c used) k ≡ b
       → (distinct_count eq used < c) ⊎ (c ≤ distinct_count eq used)
@@ -230,7 +230,8 @@ module _ {K : Type 0} (eq : K → K → Bool) (laws : IsEquivalence eq) where
       (recursion_from_All _ (padding K h) (All-is_member (padded_equiv eq laws) (padding K h))) in
       omega (arith, ranks-at_most (padded_eq eq) (padding K h) (take n (padding K c)) 0, ap triangle long)
 
-  -- however a schedule of h places replaces, the cache's misses are at most c / (c - h + 1) times as many
+  -- whatever replacement policy a schedule of capacity h uses, the cache misses at most c / (c - h + 1) times
+  -- as often
   pub competitive : (c h : ℕ) → 1 ≤ h → h ≤ c → (used : List K) (held : List (List K))
       → Schedule eq h used held → (c - h + 1) * cache_misses eq c used ≤ c * misses eq used held
   competitive c h p l used held s =
@@ -255,7 +256,7 @@ module _ {K : Type 0} (eq : K → K → Bool) (laws : IsEquivalence eq) where
       ends a b m n d e f t r h1 h2 h3 h4 h5 = rw (h1, ← h2, ← h3) (omega arith)
 
 module _ {K V : Type 0} (eq : K → K → Bool) (laws : IsEquivalence eq) where
-  -- the uses that a cache misses are those that the history says
+  -- a cache misses the uses that the history implies
   pub missed_uses-held : (c : ℕ) (used : List K) (es pairs : List (K × V)) → HoldsRecent eq c used es
       → missed_uses eq c es pairs ≡ cache_misses_from eq c used (keys_of pairs)
   missed_uses-held c used es [] h = refl

@@ -1,4 +1,4 @@
--- A smaller cache's entries stay an end of a larger one's, whatever both are given.
+-- A smaller cache's entries stay an end of a larger one's, whatever calls both get.
 use Rattle.std.proofs.Common.{◌≡◌, ℕ, zero, suc, ◌+◌, ◌-◌, ◌≤◌, ◌<◌, Bool, true, List, [], ◌∷◌, ◌++◌, length}
 use Rattle.std.proofs.Common.{drop, is_some, Option, None, Some, refl, sym, ap, ◌∙◌, inl, inr, subst, subst₂}
 use Rattle.std.proofs.Common.{arith, append_assoc, lt_irrefl}
@@ -55,7 +55,7 @@ module _ {K V : Type 0} (eq : K → K → Bool) (laws : IsEquivalence eq) (R : K
 
   -- ---- one step of either
 
-  -- a key that stands in front is no longer behind
+  -- a key in the front part is not in the part behind it
   none_behind : (k : K) (small large : List (K × V)) (e : IsEndOf R small large) → IsEntries eq large
       → Stands (eq k) e.front → NonePasses (eq k) e.back
   none_behind k small large e d s =
@@ -105,7 +105,7 @@ module _ {K V : Type 0} (eq : K → K → Bool) (laws : IsEquivalence eq) (R : K
       sym (laws.congr k (stored_key eq small k) (stored_key eq large k) (stored_key-equal eq laws k small))
       ∙ stored_key-equal eq laws k large
 
-  -- ---- what is dropped in front
+  -- ---- entries that are dropped from the front
 
   drop_small_by : (small large front back : List (K × V)) → large ≡ front ++ back → AllZip R small back
       → IsEndOf R (drop 1 small) large
@@ -162,7 +162,7 @@ module _ {K V : Type 0} (eq : K → K → Bool) (laws : IsEquivalence eq) (R : K
       end-last_large (cache_put eq small c k v) (put eq large k v (length large)) d
       (dropped (end-put k v v small large u r e)) (omega arith)
 
-  -- what the smaller one has, the larger one has too
+  -- if the smaller cache has a key, so has the larger one
   pub end-finds : (k : K) (small large : List (K × V)) → IsEndOf R small large
       → is_some (lookup (eq k) small) ≡ true → is_some (lookup (eq k) large) ≡ true
   end-finds k small large e s = elim (splits (eq k) large) [
@@ -175,7 +175,7 @@ module _ {K V : Type 0} (eq : K → K → Bool) (laws : IsEquivalence eq) (R : K
   ]
 
 module _ {K V : Type 0} (eq : K → K → Bool) (laws : IsEquivalence eq) where
-  -- ---- by keys alone
+  -- ---- by keys only
 
   module _ (c d : ℕ) (k : K) (v : V) (small large : List (K × V)) (u : IsEntries eq large) (fewer : c ≤ d)
       (within : length small ≤ c) (e : IsEndOf (SameKey eq) small large) where

@@ -1,4 +1,4 @@
--- The peak of a run as the run goes on, and the nodes of a map along a run, which stay within it.
+-- How the peak of a run grows along it, and that the nodes of a map stay within it.
 use Rattle.std.proofs.Common.{◌≡◌, ℕ, ◌≤◌, max, le_refl, Bool, List, [], ◌∷◌, ◌++◌, length, Option, Result}
 use Rattle.std.proofs.Common.{Ok, refl, sym, ap, ◌∙◌, subst, arith}
 use Rattle.hashlink_model.specs.Entries.{put}

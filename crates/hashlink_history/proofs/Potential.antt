@@ -1,5 +1,5 @@
--- How far a cache is from a schedule: the sum of the ranks, from 1 for the oldest, of the keys that the cache
--- holds and the schedule does not.
+-- The distance of a cache from a schedule: the sum of the ranks, from 1 for the oldest, of the keys that the
+-- cache holds and the schedule does not.
 use Rattle.std.proofs.Common.{◌≡◌, ℕ, zero, suc, ◌+◌, ◌*◌, ◌≤◌, Bool, true, false, ◌&&◌, cond, List, [], ◌∷◌}
 use Rattle.std.proofs.Common.{◌++◌, length, filter, refl, ap, ◌∙◌, arith, le_refl, zero-le}
 use Rattle.std.specs.Cmp.{IsEquivalence}
@@ -15,12 +15,12 @@ triangle zero = 0
 triangle (suc n) = suc n + triangle n
 
 module _ {X : Type 0} (eq : X → X → Bool) where
-  -- how many of the list are not in `held`
+  -- how many keys of the list are not in `held`
   abbrev pub outside : List X → List X → ℕ
   outside held [] = 0
   outside held (x ∷ xs) = cond (is_member eq held x) 0 1 + outside held xs
 
-  -- the sum of the ranks of those, where the first has the rank n + 1
+  -- the sum of the ranks of such keys, if the first key has the rank n + 1
   abbrev pub ranks : ℕ → List X → List X → ℕ
   ranks n held [] = 0
   ranks n held (x ∷ xs) = cond (is_member eq held x) 0 (n + 1) + ranks (n + 1) held xs
@@ -37,13 +37,13 @@ module _ {X : Type 0} (eq : X → X → Bool) where
       let more : n + 1 + length xs ≡ n + suc (length xs) = omega arith in
       omega (arith, ranks-append (n + 1) held xs ys, ap (λ m. ranks m held ys) more)
 
-  -- what is held adds nothing
+  -- a held key adds nothing
   pub ranks-held : (n : ℕ) (held xs : List X) → AllByRecursion (λ x. is_member eq held x ≡ true) xs
       → ranks n held xs ≡ 0
   ranks-held n held [] a = refl
   ranks-held n held (x ∷ xs) a = rw a.0 (omega (arith, ranks-held (n + 1) held xs a.1))
 
-  -- between the least and the greatest that so many ranks sum to
+  -- the least and the greatest sum of this many ranks
   pub ranks-at_most : (held xs : List X) (n : ℕ) → ranks n held xs ≤ n * length xs + triangle (length xs)
   ranks-at_most held [] n = zero-le
   ranks-at_most held (x ∷ xs) n = grind (arith, ranks-at_most held xs (n + 1))
@@ -59,7 +59,7 @@ module _ {X : Type 0} (eq : X → X → Bool) where
       grind (arith, none, one, ranks-at_least held xs (n + 1))
 
 module _ {X : Type 0} (eq : X → X → Bool) (laws : IsEquivalence eq) where
-  -- ---- how many are outside
+  -- ---- how many keys are outside
 
   outside-filter : (held xs : List X) → outside eq held xs + length (filter (is_member eq held) xs)
       ≡ length xs
@@ -74,7 +74,7 @@ module _ {X : Type 0} (eq : X → X → Bool) (laws : IsEquivalence eq) where
   kept_members held xs q = is_member-filter laws (is_member eq held) q
       (λ x t. is_member-equal eq laws held q x t) xs
 
-  -- of unequal keys at most as many are held as are held at all
+  -- at most `length held` unequal keys are held
   pub outside-at_least : (held xs : List X) → IsDistinct eq xs → length xs ≤ outside eq held xs + length held
   outside-at_least held xs d =
       let few = length-le_from_is_member laws (filter (is_member eq held) xs) held (kept_distinct held xs d)
@@ -85,7 +85,7 @@ module _ {X : Type 0} (eq : X → X → Bool) (laws : IsEquivalence eq) where
   unfolding IsDistinct
   one_more k zs m d = (none_from_is_member eq laws zs k m, d)
 
-  -- and one fewer where one that is held is not among them
+  -- and one key fewer, if a held key is not among them
   pub outside-one_more : (held xs : List X) (k : X) → IsDistinct eq xs → is_member eq held k ≡ true
       → is_member eq xs k ≡ false → length xs + 1 ≤ outside eq held xs + length held
   outside-one_more held xs k d m n =
@@ -95,9 +95,9 @@ module _ {X : Type 0} (eq : X → X → Bool) (laws : IsEquivalence eq) where
       (λ q e. grind (arith, e, m, is_member-equal eq laws held q k, kept_members held xs q)) in
       omega (arith, outside-filter held xs)
 
-  -- ---- what is held changes
+  -- ---- the held keys change
 
-  -- more is held
+  -- more keys are held
   pub ranks-fewer : (held more xs : List X) (n : ℕ)
       → ((q : X) → is_member eq held q ≡ true → is_member eq more q ≡ true)
       → ranks eq n more xs ≤ ranks eq n held xs
@@ -110,7 +110,7 @@ module _ {X : Type 0} (eq : X → X → Bool) (laws : IsEquivalence eq) where
   others_fewer held more [] x n f a = le_refl 0
   others_fewer held more (y ∷ xs) x n f a = grind (arith, f y a.0, others_fewer held more xs x (n + 1) f a.1)
 
-  -- all but one that was held still is: no more than the greatest rank comes in
+  -- all held keys except one are still held: the sum grows by at most the greatest rank
   pub ranks-all_but_one : (held more xs : List X) (x : X) (n : ℕ)
       → ((q : X) → eq x q ≡ false → is_member eq held q ≡ true → is_member eq more q ≡ true)
       → IsDistinct eq xs → ranks eq n more xs ≤ ranks eq n held xs + (n + length xs)
@@ -124,7 +124,7 @@ module _ {X : Type 0} (eq : X → X → Bool) (laws : IsEquivalence eq) where
 
   -- ---- the cache takes a step, and the key is held
 
-  -- a hit: the key leaves its place and comes last
+  -- a hit: the key leaves its place and becomes the last
   pub ranks-hit : (held xs : List X) (x : X) (ys : List X) (k : X) → is_member eq held x ≡ true
       → is_member eq held k ≡ true → ranks eq 0 held ((xs ++ ys) ++ k ∷ []) ≤ ranks eq 0 held (xs ++ x ∷ ys)
   ranks-hit held xs x ys k m n =
@@ -135,7 +135,7 @@ module _ {X : Type 0} (eq : X → X → Bool) (laws : IsEquivalence eq) where
       let f = ranks-next eq m0 held ys in
       omega (arith, ranks-append eq 0 held xs ys, ranks-append eq 0 held xs (x ∷ ys))
 
-  -- a miss: the oldest leaves, the key comes last, and each of the others that is outside loses one rank
+  -- a miss: the oldest key leaves, the new key becomes the last, and each other key outside loses one rank
   pub ranks-miss : (held : List X) (x : X) (xs : List X) (k : X) → is_member eq held k ≡ true
       → ranks eq 0 held (xs ++ k ∷ []) + outside eq held (x ∷ xs) ≡ ranks eq 0 held (x ∷ xs)
   ranks-miss held x xs k m =

@@ -1,5 +1,5 @@
--- The misses of a cache that always has c keys are bounded by those of any schedule, by steps of the two side
--- by side.
+-- The misses of a cache that always has c keys are bounded by the misses of any schedule, by comparing their
+-- steps one by one.
 use Rattle.std.proofs.Common.{◌≡◌, ℕ, ◌+◌, ◌-◌, ◌*◌, ◌≤◌, Bool, true, false, cond, List, [], ◌∷◌, ◌++◌, drop}
 use Rattle.std.proofs.Common.{length, refl, sym, ap, ◌∙◌, arith, length-append}
 use Rattle.std.specs.Cmp.{IsEquivalence}
@@ -19,7 +19,7 @@ sums : (a l m r s t u c p q : ℕ) → a * l + s ≤ r → r ≤ t + p → a * m
 sums a l m r s t u c p q h1 h2 h3 n h4 = omega arith
 
 module _ {X : Type 0} (eq : X → X → Bool) (laws : IsEquivalence eq) where
-  -- a full cache after a use: the key comes last, and where it is new the first leaves
+  -- a full cache after a use: the key becomes the last, and if it is new, the first key leaves
   abbrev pub full_step : List X → X → List X
   full_step xs k = cond (is_member eq xs k) (remove_key (eq k) xs ++ k ∷ []) (drop 1 xs ++ k ∷ [])
 

@@ -1,5 +1,5 @@
--- A cache that always has c keys against a schedule of h places: the bound on its misses, from any two
--- states.
+-- A cache that always has c keys, compared with a schedule of capacity h: the bound on its misses, from any
+-- two states.
 use Rattle.std.proofs.Common.{◌≡◌, ℕ, zero, suc, ◌+◌, ◌≤◌, ◌<◌, Bool, true, false, ◌||◌, cond, List, [], ◌∷◌}
 use Rattle.std.proofs.Common.{◌++◌, length, refl, sym, ap, ◌⊎◌, inl, inr, arith, true≢false, zero-le}
 use Rattle.std.proofs.Common.{not-suc-le-zero, le_of_suc-le-suc}
@@ -19,7 +19,7 @@ triangle_mono (suc m) zero l = absurd (not-suc-le-zero l)
 triangle_mono (suc m) (suc n) l = omega (arith, triangle_mono m n (le_of_suc-le-suc l))
 
 module _ {X : Type 0} (eq : X → X → Bool) (laws : IsEquivalence eq) where
-  -- ---- a key taken out
+  -- ---- a removed key
 
   removed_other : (x q : X) (xs : List X) → eq x q ≡ false → is_member eq (remove_key (eq x) xs) q
       ≡ is_member eq xs q
@@ -40,7 +40,7 @@ module _ {X : Type 0} (eq : X → X → Bool) (laws : IsEquivalence eq) where
       elim (eq x y) as (λ b. IsDistinct eq (cond b xs (y ∷ remove_key (eq x) xs)))
       [ true ↦ d.1 | false ↦ (none, removed_distinct x xs d.1) ]
 
-  -- ---- where a key stands
+  -- ---- the place of a key
 
   pub record KeyAt (xs : List X) (k : X) (us : List X) (x : X) (vs : List X) : Type 0 where
     pub is : xs ≡ us ++ x ∷ vs
@@ -67,7 +67,7 @@ module _ {X : Type 0} (eq : X → X → Bool) (laws : IsEquivalence eq) where
       let none = is_member_from_none eq laws xs y d.0 in
       grind (arith, none, removed_gone xs k d.1, is_member-equal eq laws xs k y)
 
-  -- ---- a list that is held in step with the schedule: all that the schedule holds, and no more than it may
+  -- ---- a list that follows the schedule: it holds all keys that the schedule holds, and no more than it may
   -- hold
 
   pub record Follows (h : ℕ) (scheduled held : List X) : Type 0 where
@@ -75,7 +75,7 @@ module _ {X : Type 0} (eq : X → X → Bool) (laws : IsEquivalence eq) where
     pub unequal : IsDistinct eq held
     pub covers : (q : X) → is_member eq scheduled q ≡ true → is_member eq held q ≡ true
 
-  -- what it is after the key k, and how much farther it may be from a cache
+  -- the list after the key k, and how much its distance from a cache may grow
   pub record FollowsOn (h : ℕ) (after held : List X) (k : X) (next : List X) : Type 0 where
     pub follows : Follows h after next
     pub has : is_member eq next k ≡ true
@@ -90,7 +90,7 @@ module _ {X : Type 0} (eq : X → X → Bool) (laws : IsEquivalence eq) where
       let same = is_member-equal eq laws before q y in
       grind (arith, a.0, m, same, scheduled_before h before k after a.1 q, answers_alike eq laws k q y)
 
-  -- one that is held and not among `after`, or all of them are
+  -- either a held key is not in `after`, or all held keys are
   abbrev Lacks : List X → List X → Type 0
   Lacks after held = ((x : X) × (is_member eq held x ≡ true) × (is_member eq after x ≡ false))
       ⊎ ((q : X) → is_member eq held q ≡ true → is_member eq after q ≡ true)
@@ -109,7 +109,7 @@ module _ {X : Type 0} (eq : X → X → Bool) (laws : IsEquivalence eq) where
     covered : (q : X) → is_member eq after q ≡ true → (eq k q || is_member eq held q) ≡ true
     covered q e = grind (arith, scheduled_before h before k after s.others q e, f.covers q)
 
-    -- it has the key already
+    -- the list has the key already
     follow_there : is_member eq held k ≡ true → FollowsOn h after held k held
     follow_there m =
         let covers : (q : X) → is_member eq after q ≡ true → is_member eq held q ≡ true
@@ -120,7 +120,7 @@ module _ {X : Type 0} (eq : X → X → Bool) (laws : IsEquivalence eq) where
           near = λ xs d. omega arith;
         }
 
-    -- there is a place for it
+    -- there is room for the key
     follow_room : is_member eq held k ≡ false → length held < h → FollowsOn h after held k (k ∷ held)
     follow_room n l =
         let covers : (q : X) → is_member eq after q ≡ true → is_member eq (k ∷ held) q ≡ true
@@ -131,7 +131,7 @@ module _ {X : Type 0} (eq : X → X → Bool) (laws : IsEquivalence eq) where
           near = λ xs d. omega (arith, ranks-fewer eq laws held (k ∷ held) xs 0 (λ q m. grind (arith, m)));
         }
 
-    -- one that the schedule no longer holds leaves for it
+    -- a key that the schedule no longer holds leaves for it
     follow_swap : (x : X) → is_member eq held k ≡ false → is_member eq held x ≡ true
         → is_member eq after x ≡ false → FollowsOn h after held k (k ∷ remove_key (eq x) held)
     follow_swap x n m o =
@@ -154,7 +154,7 @@ module _ {X : Type 0} (eq : X → X → Bool) (laws : IsEquivalence eq) where
           near = λ xs d. rw n (omega (arith, ranks-all_but_one eq laws held (k ∷ next) xs x 0 kept d));
         }
 
-    -- no room for all: the schedule would hold one key more than its places
+    -- no room for all: the schedule would hold one key more than its capacity
     too_many : is_member eq held k ≡ false → h ≤ length held
         → ((q : X) → is_member eq held q ≡ true → is_member eq after q ≡ true) → ⊥
     too_many n l all =

@@ -1,5 +1,5 @@
--- The keys of a history, each once, in the order of their last use; and that a cache of c places holds the
--- last c of them.
+-- The keys of a history, each once, in the order of their last uses. A cache of capacity c holds the last c
+-- of them.
 use Rattle.std.proofs.lemmas.Slice.Zip.{AllZip-long}
 use Rattle.std.proofs.Common.{◌≡◌, ℕ, ◌+◌, ◌-◌, ◌≤◌, ◌<◌, Bool, true, false, not, ◌&&◌, cond, List, [], ◌∷◌}
 use Rattle.std.proofs.Common.{◌++◌, length, take, drop, nat_lt, refl, sym, ap, ap₂, ◌∙◌, ◌⊎◌, inl, inr, subst}
@@ -19,7 +19,7 @@ use Rattle.hashlink_model.proofs.Distinct.{each-right}
 use Rattle.hashlink_model.proofs.Members.{is_member-equal, is_member-append, none_from_is_member}
 use Rattle.hashlink_model.proofs.Members.{is_member_from_none}
 
--- ---- lists that are alike at each place
+-- ---- lists whose items are related at each index
 
 module _ {A B : Type 0} (R : A → B → Type 0) where
   pub zip_push : (xs : List A) (ys : List B) (x : A) (y : B) → AllZip R xs ys → R x y
@@ -69,7 +69,7 @@ module _ {K : Type 0} (eq : K → K → Bool) (laws : IsEquivalence eq) where
       elim (is_member eq xs x) as (λ b. is_member eq xs x ≡ b → IsDistinct eq (cond b us (x ∷ us)))
       [ true ↦ λ m. rest | false ↦ λ m. (none (is_member-unique xs x ∙ m), rest) ] refl
 
-  -- one more use: the key leaves its place and comes last
+  -- one more use: the key leaves its place and becomes the last
   pub unique_keys-push : (xs : List K) (k : K)
       → unique_keys eq (xs ++ k ∷ []) ≡ remove_key (eq k) (unique_keys eq xs) ++ k ∷ []
   unique_keys-push [] k = refl
@@ -100,7 +100,7 @@ module _ {K : Type 0} (eq : K → K → Bool) (laws : IsEquivalence eq) where
         | false ↦ λ e. ([], u, used, record { is = refl; equal = grind (arith, m, e); after = none e })
       ] refl
 
-  -- what was used after it is unique too
+  -- the keys used after it are unique too
   pub unique_keys-last : (k : K) (xs : List K) (x : K) (ys : List K) → eq k x ≡ true
       → AllByRecursion (λ y. eq k y ≡ false) ys
       → (us : List K) × (unique_keys eq (xs ++ x ∷ ys) ≡ us ++ x ∷ unique_keys eq ys)
@@ -122,7 +122,7 @@ module _ {K : Type 0} (eq : K → K → Bool) (laws : IsEquivalence eq) where
       let apart : eq k x ≡ false = grind (arith, none, is_member-equal eq laws ys k x) in
       (apart, distinct_apart k xs ys d.1 m)
 
-  -- ---- the last c of them, and those before
+  -- ---- the last c keys, and the keys before
 
   abbrev pub older_keys : ℕ → List K → List K
   older_keys c used = take (distinct_count eq used - c) (unique_keys eq used)
@@ -164,7 +164,7 @@ module _ {K : Type 0} (eq : K → K → Bool) (laws : IsEquivalence eq) where
       ∙ ap (λ zs. zs ++ k ∷ []) (remove_key-left k (older_keys c used) (recent_keys eq c used) m)
       ∙ append_assoc (remove_key (eq k) (older_keys c used)) (recent_keys eq c used) (k ∷ [])
 
-  -- of one that is not: where there are c already, the first of them leaves
+  -- one more use of a key that is not among them: if there are c keys already, the first leaves
   pub recent_keys-full : (c : ℕ) (used : List K) (k : K) → is_member eq (recent_keys eq c used) k ≡ false
       → c ≤ distinct_count eq used
       → recent_keys eq c (used ++ k ∷ []) ≡ drop 1 (recent_keys eq c used ++ k ∷ [])
@@ -230,7 +230,7 @@ module _ {K : Type 0} (eq : K → K → Bool) (laws : IsEquivalence eq) where
       (subst (AllByRecursion (λ y. eq k y ≡ false)) (sym (take-append-drop (length ys - c) ys))
       (none_from_is_member eq laws ys k m))) ∙ sym (le-ltb (length ys) c l)
 
-  -- those of which fewer than c others were used since
+  -- the keys since whose last use fewer than c other keys were used
   pub is_recent : (c : ℕ) (used : List K) (k : K)
       → is_member eq (recent_keys eq c used) k ≡ (is_member eq used k && nat_lt (reuse_distance eq used k) c)
   is_recent c used k = by (is_member eq used k) refl

@@ -1,5 +1,5 @@
--- A cache of c places holds the last c keys that were used, and a key exactly while fewer than c others were
--- used since.
+-- A cache of capacity c holds the last c used keys. So it holds a key exactly as long as fewer than c others
+-- were used since.
 use Rattle.std.proofs.Common.{◌≡◌, ℕ, ◌-◌, Bool, true, false, ◌&&◌, List, [], ◌∷◌, ◌++◌, length, nat_lt}
 use Rattle.std.proofs.Common.{is_some, None, Some, refl, sym, ap, subst₂, ◌∙◌, inl, inr, subst, arith}
 use Rattle.std.proofs.Common.{length-append}
@@ -42,7 +42,7 @@ module _ {K V : Type 0} (eq : K → K → Bool) (laws : IsEquivalence eq) where
 
   -- ---- one more use
 
-  -- of a key that is held: it comes last, with whatever value
+  -- a use of a held key: it becomes the last, with any value
   pub held_back : (c : ℕ) (used : List K) (es : List (K × V)) (k : K) (v w : V) → HoldsRecent eq c used es
       → lookup (eq k) es ≡ Some w → HoldsRecent eq c (used ++ k ∷ []) (put eq es k v (length es))
   held_back c used es k v w h l =
@@ -54,7 +54,7 @@ module _ {K V : Type 0} (eq : K → K → Bool) (laws : IsEquivalence eq) where
       (zip_removed k es (recent_keys eq c used) h)
       (laws.symm (stored_key eq es k) k ∙ stored_key-equal eq laws k es))
 
-  -- of one that is not: it comes last, and where there are c already the first leaves
+  -- a use of a key that is not held: it becomes the last, and if there are c keys already, the first leaves
   held_new : (c : ℕ) (used : List K) (es : List (K × V)) (k : K) (v : V) → HoldsRecent eq c used es
       → lookup (eq k) es ≡ None → HoldsRecent eq c (used ++ k ∷ []) (front_evicted (es ++ (k, v) ∷ []) c)
   held_new c used es k v h l =
@@ -98,7 +98,7 @@ module _ {K V : Type 0} (eq : K → K → Bool) (laws : IsEquivalence eq) where
         | Some w ↦ λ l. subst R (sym (moved-there eq es k (length es) w l)) (held_back c used es k w w h l)
       ] refl
 
-  -- a key is held exactly where it was used and fewer than c others were used since
+  -- a key is held exactly if it was used and fewer than c others were used since
   pub held_exactly : (c : ℕ) (used : List K) (es : List (K × V)) (k : K) → HoldsRecent eq c used es
       → is_some (lookup (eq k) es) ≡ (is_member eq used k && nat_lt (reuse_distance eq used k) c)
   held_exactly c used es k h = found_is_member k es (recent_keys eq c used) h ∙ is_recent eq laws c used k

@@ -1,11 +1,11 @@
--- Calls of a cache in a row, none of them refused: what it holds after them, and what it answered to each.
+-- Several calls of a cache, none of them refused: what it holds after them, and what each call returned.
 use Rattle.std.specs.Prelude.{◌≡◌, ℕ, Bool, true, false, List, [], ◌∷◌, Option}
 use Rattle.std.specs.List.{AllByRecursion}
 use Rattle.std.specs.Map.{lookup}
 use Rattle.hashlink_model.specs.Entries.{without}
 use Rattle.hashlink_model.specs.Cache.{cache_put, cache_use}
 
--- one call, with its key, and with its value where it has one
+-- one call, with its key, and with its value if it has one
 pub data CacheEvent (K V : Type 0) : Type 0 where
   Insert Use : K → V → CacheEvent K V
   Remove Peek : K → CacheEvent K V
@@ -44,7 +44,7 @@ module _ {K V : Type 0} where
   used_keys (Peek k ∷ events) = used_keys events
 
   module _ (eq : K → K → Bool) where
-    -- what a call answers: the value that its key has when it comes
+    -- what a call returns: the value that its key has before it
     abbrev pub answer_to : List (K × V) → CacheEvent K V → Option V
     answer_to es e = lookup (eq (key_of e)) es
 
@@ -56,7 +56,7 @@ module _ {K V : Type 0} where
       after_event es (Remove k) = without eq es k
       after_event es (Peek k) = es
 
-      -- the entries after each call in turn, and the answers
+      -- the entries after all calls, and the results
       abbrev pub after_events : List (K × V) → List (CacheEvent K V) → List (K × V)
       after_events es [] = es
       after_events es (e ∷ events) = after_events (after_event es e) events

@@ -1,24 +1,24 @@
--- When the entries of a smaller cache are an end of a larger one's.
+-- The entries of a smaller cache as an end of a larger one's.
 use Rattle.std.specs.Prelude.{◌≡◌, Bool, true, List, ◌++◌, Option, Some, is_some}
 use Rattle.std.specs.List.{AllZip}
 
 module _ {K V : Type 0} (eq : K → K → Bool) where
-  -- equal keys; and the same value besides
+  -- equal keys; the same with the same value
   abbrev pub SameKey : K × V → K × V → Type 0
   SameKey p q = eq p.0 q.0 ≡ true
 
   abbrev pub SameEntry : K × V → K × V → Type 0
   SameEntry p q = (eq p.0 q.0 ≡ true) × (p.1 ≡ q.1)
 
--- the entries of `large` are some in front, and then as many as `small` has, each alike by R
+-- `large` has some entries in front, and then as many as `small`, each related by R to the one of `small`
 pub record IsEndOf {K V : Type 0} (R : K × V → K × V → Type 0) (small large : List (K × V)) : Type 0 where
   pub front : List (K × V)
   pub back : List (K × V)
   pub is : large ≡ front ++ back
   pub alike : AllZip R small back
 
--- the answers of the two caches to one call: where the smaller one found something the larger one did, and it
--- found the same
+-- the results of the two caches for one call: if the smaller one found a value, the larger one found one too;
+-- and it found the same value
 abbrev pub AlsoFinds : {V : Type 0} → Option V → Option V → Type 0
 AlsoFinds small large = is_some small ≡ true → is_some large ≡ true
 

@@ -1,4 +1,4 @@
--- The definitions at keys and values that are numbers, for rows that they compute to.
+-- The definitions at keys and values that are numbers, for rows that the prover computes.
 use Rattle.std.specs.Prelude.{ℕ, List, [], Option, nat_eq}
 use Rattle.hashlink_model.specs.Cache as cache
 use Rattle.hashlink_model.specs.Numbers.{Pairs}

@@ -1,4 +1,4 @@
-//! Rows and laws of histories.
+//! Worked examples and theorems of histories.
 ghost use Rattle.std.specs.Prelude.{◌≡◌, ℕ, ◌+◌, ◌-◌, ◌*◌, ◌≤◌, max, Bool, ◌&&◌, Some, None};
 ghost use Rattle.std.specs.Prelude.{Result, List, [], ◌∷◌, ◌++◌, length, is_some, nat_eq, nat_lt};
 ghost use Rattle.std.specs.Cmp.{IsEquivalence};
@@ -19,8 +19,8 @@ pub fn others_are_counted_once()
     ensures just_used { numbers.reuse_distance (1 ∷ 2 ∷ []) 2 ≡ 0 }
 {}
 
-/// A schedule of two places for the keys 1, 2, 3, 1, 2, 3 that misses four times; one that always evicts the
-/// least recently used key misses all six.
+/// A schedule of capacity 2 for the keys 1, 2, 3, 1, 2, 3 that misses four times. A schedule that always
+/// evicts the least recently used key misses all six.
 pub fn a_schedule_that_misses_four_times()
     ensures schedule { Schedule nat_eq 2 (1 ∷ 2 ∷ 3 ∷ 1 ∷ 2 ∷ 3 ∷ [])
         ((1 ∷ []) ∷ (1 ∷ 2 ∷ []) ∷ (1 ∷ 3 ∷ []) ∷ (1 ∷ 3 ∷ []) ∷ (2 ∷ 3 ∷ []) ∷ (2 ∷ 3 ∷ []) ∷ []) }
@@ -32,7 +32,8 @@ pub fn a_schedule_that_misses_four_times()
         ≡ 6 }
 {}
 
-/// A cache of two places misses all six of those keys, and of 1, 2, 3, 2, 3, 2, 3 the first three.
+/// A cache of capacity 2 misses all six of the keys 1, 2, 3, 1, 2, 3, and the first three of 1, 2, 3, 2, 3,
+/// 2, 3.
 pub fn how_often_a_cache_misses()
     ensures in_turn { numbers.cache_misses 2 (1 ∷ 2 ∷ 3 ∷ 1 ∷ 2 ∷ 3 ∷ []) ≡ 6 }
     ensures two_of_three { numbers.cache_misses 2 (1 ∷ 2 ∷ 3 ∷ 2 ∷ 3 ∷ 2 ∷ 3 ∷ []) ≡ 3 }
@@ -40,8 +41,8 @@ pub fn how_often_a_cache_misses()
         ≡ 6 }
 {}
 
-/// A cache of c places that is given inserts and uses holds the last c keys used, each once, up to equality
-/// and in the order of their last use.
+/// A cache of capacity c that gets inserts and uses holds the last c used keys, each once, up to equality and
+/// in the order of their last uses.
 pub fn a_cache_holds_the_recent_keys<K, V>()
     ensures start { (eq : K → K → Bool) (c : ℕ) → HoldsRecent eq {V = V} c [] [] }
     ensures insert { (eq : K → K → Bool) → IsEquivalence eq
@@ -52,29 +53,29 @@ pub fn a_cache_holds_the_recent_keys<K, V>()
         → HoldsRecent eq c (used ++ k ∷ []) (cache_use eq es c k v) }
 {}
 
-/// Such a cache holds a key exactly where it was used and fewer than c others were used since.
+/// Such a cache holds a key exactly if it was used and fewer than c others were used since.
 pub fn a_key_is_held_while_few_others_are_used<K, V>()
     ensures { (eq : K → K → Bool) → IsEquivalence eq → (c : ℕ) (used : List K) (es : List (K × V)) (k : K)
         → HoldsRecent eq c used es
         → is_some (lookup (eq k) es) ≡ (is_member eq used k && nat_lt (reuse_distance eq used k) c) }
 {}
 
-/// The uses that a cache misses are those that its history says, by keys alone.
+/// The uses that a cache misses follow from its history, which has only the keys.
 pub fn missed_uses_by_history<K, V>()
     ensures { (eq : K → K → Bool) → IsEquivalence eq → (c : ℕ) (pairs : List (K × V))
         → missed_uses eq c [] pairs ≡ cache_misses eq c (keys_of pairs) }
 {}
 
-/// No rule of replacement with h places, even one that knows the future, misses fewer than `(c - h + 1) / c`
-/// of what the cache of c places misses.
+/// No replacement policy of capacity h, even one that knows the future, misses less than `(c - h + 1) / c`
+/// times as often as the cache of capacity c.
 pub fn no_schedule_beats_the_cache_by_more<K>()
     ensures { (eq : K → K → Bool) → IsEquivalence eq → (c h : ℕ) → 1 ≤ h → h ≤ c
         → (used : List K) (held : List (List K)) → Schedule eq h used held
         → (c - h + 1) * cache_misses eq c used ≤ c * misses eq used held }
 {}
 
-/// Calls of caches of one and of two places: what each returns, and what is held after them. A key that was
-/// removed comes back only by an insert.
+/// Calls of caches of capacities 1 and 2: what each call returns, and what the caches hold afterwards. A
+/// removed key returns only by an insert.
 pub fn calls_of_caches_in_a_row()
     ensures small { numbers.answers 1 (Insert 1 10 ∷ Insert 2 20 ∷ Remove 2 ∷ Peek 1 ∷ Insert 1 11 ∷ [])
         ≡ None ∷ None ∷ Some 20 ∷ None ∷ None ∷ [] }
@@ -92,7 +93,7 @@ pub fn calls_of_caches_in_a_row()
         ≡ None ∷ Some 10 ∷ None ∷ None ∷ Some 20 ∷ [] }
 {}
 
-/// Calls may come in two parts, keep the keys pairwise unequal, and never pass the capacity.
+/// Calls may be split into two parts, keep the keys pairwise unequal, and never exceed the capacity.
 pub fn calls_in_two_parts<K, V>()
     ensures held { (eq : K → K → Bool) (c : ℕ) (es : List (K × V)) (xs ys : List (CacheEvent K V))
         → after_events eq c es (xs ++ ys) ≡ after_events eq c (after_events eq c es xs) ys }
@@ -107,8 +108,8 @@ pub fn calls_in_two_parts<K, V>()
         → length (after_events eq c es events) ≤ n }
 {}
 
-/// Without removals a cache holds after any calls the last c of the keys used, and a call finds something
-/// exactly where its key was used before and fewer than c others were used since.
+/// Without removals a cache holds, after any calls, the last c used keys. A call finds a value exactly if its
+/// key was used before and fewer than c others were used since.
 pub fn calls_by_their_history<K, V>()
     ensures held { (eq : K → K → Bool) → IsEquivalence eq → (c : ℕ) (events : List (CacheEvent K V))
         → NoRemoval events

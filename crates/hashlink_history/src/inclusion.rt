@@ -1,4 +1,4 @@
-//! Laws of two caches, of which one is no larger than the other, that are given the same steps.
+//! Theorems on two caches, of which one is no larger than the other, that get the same steps.
 ghost use Rattle.std.specs.Prelude.{◌≡◌, ℕ, ◌≤◌, Bool, true, List, [], Some, length, is_some};
 ghost use Rattle.std.specs.Cmp.{IsEquivalence};
 ghost use Rattle.std.specs.List.{AllZip};
@@ -8,7 +8,7 @@ ghost use Rattle.hashlink_model.specs.Cache.{cache_put, cache_use};
 ghost use Rattle.hashlink_history.specs.Inclusion.{IsEndOf, SameKey, SameEntry, AlsoFinds, FindsTheSame};
 ghost use Rattle.hashlink_history.specs.CacheRuns.{CacheEvent, NoUse, after_events, answers};
 
-/// Inserts, uses and removals keep the keys of the smaller cache, up to equality, an end of the larger one's.
+/// Inserts, uses and removals keep the keys of the smaller cache an end of the larger one's, up to equality.
 pub fn steps_keep_an_end_of_the_keys<K, V>()
     ensures insert { (eq : K → K → Bool) → IsEquivalence eq → (c d : ℕ) (k : K) (v : V)
         (small large : List (K × V))
@@ -26,7 +26,7 @@ pub fn steps_keep_an_end_of_the_keys<K, V>()
         → is_some (lookup (eq k) large) ≡ true }
 {}
 
-/// Without uses the values agree too, and what the smaller cache returns the larger one returns.
+/// Without uses the values agree too, and the larger cache returns what the smaller one returns.
 pub fn inserts_and_removals_keep_an_end_of_the_entries<K, V>()
     ensures insert { (eq : K → K → Bool) → IsEquivalence eq → (c d : ℕ) (k : K) (v : V)
         (small large : List (K × V))
@@ -41,8 +41,7 @@ pub fn inserts_and_removals_keep_an_end_of_the_entries<K, V>()
 {}
 
 /// Two caches that start empty and get the same calls: the keys of the smaller one are, up to equality, an
-/// end of the larger one's, and each call that finds something in the smaller one finds something in the
-/// larger one.
+/// end of the larger one's. Each call that finds a value in the smaller one finds a value in the larger one.
 pub fn any_calls_keep_an_end_of_the_keys<K, V>()
     ensures keys { (eq : K → K → Bool) → IsEquivalence eq → (c d : ℕ) → c ≤ d
         → (events : List (CacheEvent K V))

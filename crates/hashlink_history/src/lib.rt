@@ -1,5 +1,5 @@
-//! The theory of caches over traces, and of the nodes that a run needs, tried by rows that it computes to and
-//! by its laws. Each function has an empty body: its contract is the statement.
+//! The theory of caches over traces, and of the nodes that a run needs, with worked examples and theorems.
+//! Each function has an empty body: its contract is the theorem.
 #![tactic(auto)]
 
 pub mod history;

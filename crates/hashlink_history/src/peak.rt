@@ -1,4 +1,4 @@
-//! Rows and laws of the nodes that a run needs at most.
+//! Worked examples and theorems of the nodes that a run needs at most.
 ghost use Rattle.std.specs.Prelude.{◌≡◌, ℕ, ◌+◌, ◌≤◌, max, Bool, Option, Result, Ok, List, [], ◌∷◌, ◌++◌};
 ghost use Rattle.std.specs.Prelude.{length};
 ghost use Rattle.hashlink_model.specs.Cache.{CacheState, CacheInserts};
@@ -7,7 +7,7 @@ ghost use Rattle.hashlink_model.specs.MapState.{MapState, node_count, KeepsNodes
 ghost use Rattle.hashlink_model.specs.Steps.{Clears, Shrinks};
 ghost use Rattle.hashlink_history.specs.Peak.{Passed, Length, Shrunk, peak, PassesInTurn, Passes};
 
-/// The most nodes that a run needs, and that a shrink starts anew.
+/// The most nodes that a run needs. A shrink starts this anew.
 pub fn a_shrink_starts_the_peak_anew()
     ensures passed { peak 0 (Length 1 ∷ Length 2 ∷ Length 1 ∷ Length 2 ∷ []) ≡ 2 }
     ensures shrunk { peak 0 (Length 4 ∷ Length 1 ∷ Shrunk 1 ∷ Length 2 ∷ []) ≡ 2 }
@@ -15,14 +15,14 @@ pub fn a_shrink_starts_the_peak_anew()
     ensures from_five_shrunk { peak 5 (Length 1 ∷ Shrunk 1 ∷ Length 3 ∷ []) ≡ 3 }
 {}
 
-/// A length that a run passes raises the peak to it, and a shrink starts it at the length there.
+/// A length that a run passes raises the peak to it, and a shrink sets the peak to the length there.
 pub fn the_peak_grows_with_the_run()
     ensures length { (n m : ℕ) (passed : List Passed) → peak n (passed ++ Length m ∷ [])
         ≡ max (peak n passed) m }
     ensures shrink { (n m : ℕ) (passed : List Passed) → peak n (passed ++ Shrunk m ∷ []) ≡ m }
 {}
 
-/// Each step passes the length that it leads to, or is a shrink at its length; along steps in a row a map
+/// Each step passes the length to which it leads, or is a shrink at its length. Along several steps a map
 /// never has more nodes than their peak.
 pub fn nodes_stay_within_the_peak<K, V, S, E>()
     ensures kept { (old new : MapState K V S) → KeepsNodes old new → Passes old
@@ -39,8 +39,7 @@ pub fn nodes_stay_within_the_peak<K, V, S, E>()
         → node_count new ≤ 2 }
 {}
 
-/// An insert that succeeds passes two lengths: that of the map's insert, and that after all entries above the
-/// capacity were evicted.
+/// An insert that succeeds passes two lengths: that after the map's insert, and that after the evictions.
 pub fn lengths_that_a_cache_insert_passes<K, V, S>()
     ensures { (eq : K → K → Bool) (old new : CacheState K V S) (k : K) (v : V) (w : Option V)
         → CacheInserts eq old new k v (Ok w)

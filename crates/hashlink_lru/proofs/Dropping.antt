@@ -1,4 +1,4 @@
--- Entries that are dropped from the front one by one.
+-- Entries are dropped from the front one by one.
 use Rattle.std.specs.Prelude.{◌≡◌, ℕ, ◌+◌, List, [], ◌∷◌, length, Option, None, Some}
 use Rattle.std.proofs.Common.{refl, ap, sym, subst, ◌∙◌, drop, drop-drop, arith, le_refl}
 use Rattle.std.proofs.lemmas.Option.{none-some}

@@ -1,4 +1,4 @@
--- What a cache ends as, from what the map inside ends as.
+-- The state in which a cache ends, from the state in which its map ends.
 use Rattle.std.specs.Prelude.{◌≡◌, ℕ, Bool, Option, None, Some, OnSome, length}
 use Rattle.std.specs.Option.{option_map_or}
 use Rattle.std.proofs.Common.{ap, sym, ◌∙◌, subst, arith}
@@ -16,13 +16,13 @@ pub on_some : {A : Type 0} (r : Option A) {P Q : Type 0} → (P → Q) → OnSom
 on_some None f p = tt
 on_some (Some x) f p = f p
 
--- an eviction that led to the map that is lent then
+-- an eviction that led to the map that was then lent
 pub evicted : {K V S : Type 0} {old : MapState K V S} (cap : ℕ) {left lent : Keyed K V S} → left ≡ lent
     → EvictsFront old (state_of left) cap
     → EvictsFront old (state_of lent) cap
 evicted {old = old} cap same s = subst (λ m. EvictsFront old (state_of m) cap) same s
 
--- a step of the cache, and that it keeps a bound beyond the capacity
+-- a step of the cache, which keeps every bound on the entries beyond the capacity
 module _ {K V S : Type 0} (test : K → Bool) (old new : CacheState K V S) where
   gets_entries : (r : Option V) → CacheGetsMatch test old new r
       → new.map.entries ≡ moved_match test old.map.entries (length old.map.entries)

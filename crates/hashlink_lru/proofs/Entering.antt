@@ -1,4 +1,4 @@
--- What an entry of the map says of the cache that made room before. Assumes nothing.
+-- What an entry of the map shows for the cache that made room before. Assumes nothing.
 use Rattle.std.proofs.Common.{◌≡◌, Bool, refl, sym, subst}
 use Rattle.hashlink_model.specs.Cache.{CacheState, EntersCache, EvictsFront}
 use Rattle.hashlink_model.specs.Entries.{IsEntries}
@@ -7,7 +7,7 @@ use Rattle.hashlink_model.specs.MapState.{MapState}
 
 module _ {K V S : Type 0} (eq : K → K → Bool) (lent : MapState K V S) (k : K) (e : EntryState K V S)
     (is : e ≡ entry_of eq lent k) where
-  -- the cache is entered where the map that room was made in is
+  -- the entry enters the cache if it enters the map after room was made
   pub enters : (old : CacheState K V S) → EvictsFront old.map lent old.cap → EntersCache eq old k e
   enters old evicts = subst (EntersCache eq old k) (sym is) (record { evicts = evicts; entry = refl })
 

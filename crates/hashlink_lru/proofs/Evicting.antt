@@ -16,7 +16,7 @@ use Rattle.hashlink_model.proofs.Puts.{put_back, put_back_absent}
 use Rattle.hashlink_model.proofs.Splits.{none_from_lookup, remove_entry-none, stands_from_lookup}
 use Rattle.hashlink_lru.specs.Evicted.{evicted_by}
 
--- ---- the first of a list
+-- ---- the first entry of a list
 
 module _ {X : Type 0} where
   pub first_of-some : (xs : List X) (x : X) → first_of xs ≡ Some x → xs ≡ x ∷ drop 1 xs
@@ -27,7 +27,7 @@ module _ {X : Type 0} where
   first_of-none [] f = refl
   first_of-none (x ∷ xs) f = absurd (none-some x (sym f))
 
--- ---- the others than the key's own entry
+-- ---- the entries other than the key's own
 
 module _ {K V : Type 0} (test : K → Bool) (es : List (K × V)) where
   others-absent : is_some (lookup test es) ≡ false → remove_entry test es ≡ es
@@ -63,7 +63,7 @@ module _ {K V : Type 0} (test : K → Bool) (es : List (K × V)) where
     evicted-absent_full a l =
         evicted-full (omega (arith, ap length (others-absent a))) ∙ ap first_of (others-absent a)
 
-    -- a key that is there
+    -- a present key
     pub evicted-there_room : is_some (lookup test es) ≡ true → length es ≤ cap
         → evicted_by test es cap ≡ None
     evicted-there_room f l = evicted-room (omega (arith, others-there f))
@@ -87,7 +87,7 @@ module _ {K V : Type 0} (eq : K → K → Bool) (es : List (K × V)) (cap : ℕ)
   pub long : length All ≡ length (without eq es k) + 1
   long = let a = length-append (without eq es k) (Last ∷ []) in ap length split ∙ a
 
-  -- what is named fills a place that the insert needs
+  -- if an entry is named, the other entries fill the capacity, and it is the first of them
   pub named : (e : K × V) → evicted_by (eq k) es cap ≡ Some e
       → (cap ≤ length (without eq es k)) × (first_of (without eq es k) ≡ Some e)
   named e n =
@@ -95,7 +95,7 @@ module _ {K V : Type 0} (eq : K → K → Bool) (es : List (K × V)) (cap : ℕ)
       (λ full. (full, sym (evicted-full (eq k) es cap full) ∙ n))
       (cases_lt (length (without eq es k)) cap)
 
-  -- it stands first, and the insert keeps only an end of what comes after it
+  -- it is the first entry, and the insert keeps only an end of the others
   pub named_parts : (e : K × V) → evicted_by (eq k) es cap ≡ Some e
       → (rest : List (K × V)) × (All ≡ e ∷ rest) × (cap < length All)
       × (last_entries All cap ≡ drop (length All - cap - 1) rest)
@@ -115,7 +115,7 @@ module _ {K V : Type 0} (eq : K → K → Bool) (es : List (K × V)) (cap : ℕ)
       let parted = sym (take-append-drop d p.0) ∙ ap (λ zs. take d p.0 ++ zs) (sym p.3) in
       (take d p.0, p.1 ∙ ap (λ zs. e ∷ zs) parted)
 
-  -- where none is named there is a place
+  -- if no entry is named, there is room
   pub unnamed : evicted_by (eq k) es cap ≡ None → 1 ≤ cap → last_entries All cap ≡ All
   unnamed n one =
       let others = without eq es k in
@@ -126,7 +126,7 @@ module _ {K V : Type 0} (eq : K → K → Bool) (es : List (K × V)) (cap : ℕ)
       (cases_lt (length others) cap) in
       last_entries-within All cap fits
 
--- ---- the same of a cache
+-- ---- the same for a cache
 
 module _ {K V S : Type 0} (eq : K → K → Bool) (old new : CacheState K V S) (k : K) (v : V) where
   abbrev Put : List (K × V)
@@ -139,7 +139,7 @@ module _ {K V S : Type 0} (eq : K → K → Bool) (old new : CacheState K V S) (
       let f = named_first eq old.map.entries old.cap k v e n in
       (f.0, f.1 ∙ ap (λ zs. e ∷ f.0 ++ zs) (sym (inserts_entries eq old new k v w s)))
 
-  -- of a cache within its capacity
+  -- for a cache within its capacity
   pub evicts_alone : (w : Option V) (e : K × V) → CacheInserts eq old new k v (Ok w)
       → evicted_by (eq k) old.map.entries old.cap ≡ Some e → IsWithin old 0
       → old.map.entries ++ (k, v) ∷ [] ≡ e ∷ new.map.entries

@@ -1,4 +1,4 @@
--- Items that go into a cache one after another.
+-- Items are inserted into a cache one after another.
 use Rattle.std.specs.Prelude.{◌≡◌, ℕ, Bool, List, [], ◌∷◌, Option, Result, Ok, Err, IsOk}
 use Rattle.std.proofs.Common.{ap, ap₂, sym, subst, ◌∙◌}
 use Rattle.hashlink_model.specs.Cache.{CacheState, IsWithin, cache_extended}
@@ -29,7 +29,7 @@ module _ {K V S : Type 0} (eq : K → K → Bool) where
   extended_within old new (p ∷ items) n s i =
       extended_within s.0 new items n s.3 (within-inserts old s.0 n eq p.0 p.1 (Ok s.1) s.2 i)
 
-  -- an insert that is not refused leaves none too many
+  -- after an insert that succeeds, no entry is beyond the capacity
   pub inserted_fits : (old new : CacheState K V S) (p : K × V) (r : Result (Option V) (K × V))
       → InsertsPairIn eq old new p r → IsOk r
       → IsWithin new 0

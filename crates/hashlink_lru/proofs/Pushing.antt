@@ -1,4 +1,4 @@
--- An insert that hands out the pair that leaves.
+-- An insert that returns the pair that leaves.
 use Rattle.std.specs.Prelude.{◌≡◌, ℕ, zero, suc, ◌-◌, ◌<◌, Bool, List, [], ◌∷◌, length, take}
 use Rattle.std.specs.Prelude.{Option, None, Some, MatchOption, Ok}
 use Rattle.std.specs.Map.{lookup}
@@ -22,7 +22,7 @@ first_of-take (suc n) (x ∷ xs) l = refl
 -- ---- the pair that leaves
 
 module _ {K V S : Type 0} (eq : K → K → Bool) (old new : CacheState K V S) (k : K) (v : V) where
-  -- what a push of an absent key hands out
+  -- what a push of an absent key returns
   pub pushes_named : (out : Option (K × V)) (e : K × V) → Pushes eq old new k v (Ok out)
       → evicted_by (eq k) old.map.entries old.cap ≡ Some e → lookup (eq k) old.map.entries ≡ None
       → out ≡ Some e
@@ -54,7 +54,7 @@ module _ {K V S : Type 0} (eq : K → K → Bool) (old new : CacheState K V S) (
             (put_entries eq old.map between k v (lookup (eq k) old.map.entries) s));
       }
 
--- the map's insert of a key that is there, at its entry
+-- the map's insert of a present key, at its entry
 pub put_at : {K V S : Type 0} (eq : K → K → Bool) (old new : MapState K V S) (k : K) (j : ℕ)
     → place_of (eq k) old.entries ≡ Some j → (v w : V) → InsertsValue old new j v w
     → Inserts eq old new k v (length old.entries) (Ok (lookup (eq k) old.entries))

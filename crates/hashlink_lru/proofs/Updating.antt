@@ -1,4 +1,4 @@
--- What a look-up finds once a value was written that a use lent.
+-- What a look-up finds after a value that a use lent was written.
 use Rattle.std.specs.Prelude.{◌≡◌, Bool, max, length, Option, None, Some, MatchOption}
 use Rattle.std.specs.Cmp.{IsEquivalence}
 use Rattle.std.specs.Map.{lookup, set_value}

@@ -1,4 +1,4 @@
--- A use of a key that may be absent, and what is written through the value that it lends, which stands last.
+-- A use of a key that may be absent, and a write through the value that it lends, which is the last one.
 use Rattle.std.specs.Prelude.{◌≡◌, ℕ, suc, ◌+◌, ◌-◌, ◌<◌, ◌≤◌, max, Bool, List, [], ◌∷◌, ◌++◌, length, take}
 use Rattle.std.specs.Prelude.{drop, Option, None, Some, MatchOption, Result, Ok, IsOk, slice_get}
 use Rattle.std.specs.Borrow.{MutBor}
@@ -27,14 +27,14 @@ use Rattle.hashlink_map.proofs.AtNode.{adds-rewritten-at}
 use Rattle.hashlink_lru.specs.Cached.{FitsAndWritesLast, FitsUnless, MovesOrMakes, PutsNewIn, UsesAndWrites}
 use Rattle.hashlink_lru.specs.Cached.{StaysWithinOne}
 
--- ---- the last of a list
+-- ---- the last entry of a list
 
 last-is : {X : Type 0} (xs : List X) (x : X) → last_of (xs ++ x ∷ []) ≡ Some x
 last-is xs x =
     let n : length (xs ++ x ∷ []) - 1 ≡ length xs = omega (arith, length-append xs (x ∷ [])) in
     rw (n, slice_get_here xs x []) refl
 
--- of an end it is that of the list
+-- an end of a list has the same last entry
 last-end : {X : Type 0} (xs ys : List X) → 1 ≤ length ys → last_of (xs ++ ys) ≡ last_of ys
 last-end [] ys p = refl
 last-end (x ∷ xs) ys p =
@@ -62,7 +62,7 @@ module _ {K V S : Type 0} (eq : K → K → Bool) (laws : IsEquivalence eq) (old
   abbrev most : ℕ
   most = max old.cap 1
 
-  -- the others that were not dropped, before what is put last
+  -- the other entries that were not dropped; the new entry follows them
   abbrev kept : List (K × V)
   kept = drop (length old.map.entries + 1 - most) old.map.entries
 
@@ -80,7 +80,7 @@ module _ {K V S : Type 0} (eq : K → K → Bool) (laws : IsEquivalence eq) (old
   stands_last : mid.map.entries ≡ kept ++ (k, v) ∷ []
   stands_last = s.map.fits.entries ∙ ap (λ zs. last_entries zs most) went_last ∙ kept_last v
 
-  -- what is written there is put in
+  -- a value that is written there is the one that was inserted
   put_written : (w : V)
       → PutsNewIn eq old (record mid { map = with_value mid.map (length mid.map.entries - 1) w }) k w
   put_written w =
@@ -132,7 +132,7 @@ module _ {K V S : Type 0} (eq : K → K → Bool) (laws : IsEquivalence eq) (old
   hit_last : last_of mid.map.entries ≡ Some hit_entry
   hit_last = ap last_of (gets_hit eq old mid k v s) ∙ last-is (without eq old.map.entries k) hit_entry
 
-  -- what is written there is written by `get_mut`
+  -- a value that is written there is written as by `get_mut`
   hit_written : IsEntries eq old.map.entries → (w : V)
       → CacheGetsAndWrites eq old (record mid { map = with_value mid.map (length mid.map.entries - 1) w }) k w
   hit_written d w =
@@ -165,7 +165,7 @@ module _ {K V S : Type 0} (eq : K → K → Bool) (Makes : V → Type 0) (old : 
       ap (λ es. option_map (λ e. e.1) (last_of es)) end_is
       ∙ ap (option_map (λ e. e.1)) (last-is (without eq old.entries k) (stored_key eq old.entries k, m.0))
 
-  -- so its value is the one that is lent
+  -- so its value is the lent one
   pub lent_value : (v : V) → Some v ≡ option_map (λ e. e.1) (last_of new.entries)
       → UnwrapsOrElse (lookup (eq k) old.entries) Makes v
   lent_value v at =
@@ -174,14 +174,14 @@ module _ {K V S : Type 0} (eq : K → K → Bool) (Makes : V → Type 0) (old : 
   pub some_lent : None ≡ option_map (λ e. e.1) (last_of new.entries) → ⊥
   some_lent none = none-some m.0 (none ∙ last_is)
 
--- the map's step, from what a call says that lent the value
+-- the map's step, from the clauses of a call that lent the value
 pub moved_or_made : {K V S E : Type 0} (eq : K → K → Bool) (Makes : V → Type 0) (old new : MapState K V S)
     (k : K) (r : Result (MutBor V) E) (v : MutBor V) → r ≡ Ok v
     → UnwrapsOrElse (lookup (eq k) old.entries) Makes v.now → (IsOk r → PutsLast eq old new k v.now)
     → MovesOrMakes eq Makes old new k
 moved_or_made eq Makes old new k r v is made puts = (v.now, made, puts (subst IsOk (sym is) refl))
 
--- what fits has the same last entry
+-- a cache fitted to its capacity has the same last entry
 pub same_last : {K V S : Type 0} (n : ℕ) (old new : CacheState K V S) → FitsUnless n old new
     → last_of new.map.entries ≡ last_of old.map.entries
 same_last n old new =

@@ -1,4 +1,4 @@
--- Caches compared, and what they feed a hasher: by their entries in order and their capacities.
+-- Comparisons of caches, by their entries in order and their capacities, and what they feed a hasher.
 use Rattle.std.specs.Prelude.{◌≡◌, ◌&&◌, Bool, true, List, nat_eq}
 use Rattle.std.specs.Cmp.{IsEquivalence, IsPartialEquivalence, and_equiv, and_per, nat_eq_equiv, on_equiv}
 use Rattle.std.specs.Cmp.{on_per, partial_equiv_from_equiv, second_so}
@@ -7,11 +7,11 @@ use Rattle.hashlink_lru.specs.Cached.{map_of}
 use Rattle.hashlink_lru.specs.declared.cache.LruCache.{LruCache}
 
 module _ {K V S T : Type 0} where
-  -- whether two caches have equal capacities, and equal entries at each place
+  -- whether two caches have equal capacities, and equal entries at each index
   abbrev pub caches_eq : (K → K → Bool) → (V → V → Bool) → LruCache K V S T → LruCache K V S T → Bool
   caches_eq eqk eqv c d = nat_eq c.capacity d.capacity && maps_eq eqk eqv c.map d.map
 
-  -- what a cache feeds a hasher: what its map does
+  -- a cache feeds a hasher what its map feeds it
   abbrev pub cache_hash_input : {W : Type 0} → (K → List W) → (V → List W) → LruCache K V S T → List W
   cache_hash_input hashk hashv c = map_hash_input hashk hashv c.map
 

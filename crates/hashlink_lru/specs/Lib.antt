@@ -1,5 +1,6 @@
--- What the contracts of the cache cite, beside `hashlink_model`.
+-- What the contracts of the cache use, besides `hashlink_model`.
 pub mod Cached
 pub mod Compared
+pub mod Drain
 pub mod Evicted
 pub mod Lends

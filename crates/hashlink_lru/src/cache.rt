@@ -1,5 +1,5 @@
-//! The cache: a map and a capacity. A clause sees it as the map's state and the capacity. The front of the
-//! map is the least recently used entry.
+//! The cache: a map and a capacity. A contract sees the map's state and the capacity. The front of the map is
+//! the least recently used entry.
 ghost use Rattle.std.specs.Prelude.{◌≡◌, ◌-◌, ◌^◌, ◌<◌, ◌↔◌, length, IsTrue};
 ghost use Rattle.hashlink_model.specs.Entries.{IsEntries};
 ghost use Rattle.hashlink_lru.specs.Cached.{empty_cache};
@@ -19,10 +19,10 @@ use std::alloc::Global;
 use std::hash::{BuildHasher, Hash};
 
 /// A hash map that holds up to a given number of entries, its capacity. The entries are in the order of their
-/// last uses. To make room for a new entry, it evicts the front, which is the least recently used.
+/// last uses. To make room for a new entry, it evicts the front, which is the least recently used entry.
 #[derive(Drop)]
 pub struct LruCache<K: Eq + Hash, V, S: BuildHasher = DefaultHashBuilder> {
-    map: LinkedHashMap<K, V, S>,
+    pub(crate) map: LinkedHashMap<K, V, S>,
     capacity: usize,
 }
 
@@ -59,7 +59,7 @@ impl<K: Eq + Hash, V, S: BuildHasher> LruCache<K, V, S> {
         }
     }
 
-    /// Returns the allocator of the cache, which is the one that it was made with. It takes constant time.
+    /// Returns the allocator that the cache was made with. It takes constant time.
     pub fn allocator(&self) -> Global {
         self.map.allocator()
     }

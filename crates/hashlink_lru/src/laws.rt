@@ -1,5 +1,5 @@
 //! What many items leave in a cache, and what an insert evicts. The functions have empty bodies: their
-//! contracts are the statements.
+//! contracts are the theorems.
 ghost use Rattle.std.specs.Prelude.{◌≡◌, ℕ, ◌+◌, ◌<◌, ◌≤◌, Bool, List, [], ◌∷◌, ◌++◌, length};
 ghost use Rattle.std.specs.Prelude.{Option, None, Some, Result, Ok, Err};
 ghost use Rattle.std.specs.Map.{lookup};
@@ -13,10 +13,10 @@ ghost use Rattle.hashlink_map.specs.EntryLends.{PutsLast};
 ghost use Rattle.hashlink_lru.specs.Cached.{InsertsPairIn};
 ghost use Rattle.hashlink_lru.specs.Evicted.{evicted_by, Pushes};
 
-/// Items that are inserted one after another leave what an insert of each in turn leaves, at the same
-/// capacity. So do the items before one that is not inserted because memory runs out. A cache of at most n
-/// entries beyond its capacity stays so. Once an item is inserted it has none beyond its capacity, however
-/// many it had.
+/// Items that are inserted one after another leave the entries that an insert for each leaves, at the same
+/// capacity. The same holds for the items before one that is not inserted because memory runs out. A cache of
+/// at most n entries beyond its capacity stays so. Once an item is inserted, no entry is beyond the capacity,
+/// however many were.
 pub fn what_many_items_leave<K, V, S>()
     ensures entries { (eq : K → K → Bool) (old new : CacheState K V S) (items : List (K × V))
         → AcceptsAll (InsertsPairIn eq) old items new
@@ -35,7 +35,7 @@ pub fn what_many_items_leave<K, V, S>()
         → IsWithin new 0 }
 {}
 
-/// An insert that succeeds evicts first the entry that `evicted_by` names, and a push of an absent key
+/// An insert that succeeds first evicts the entry that `evicted_by` names, and a push of an absent key
 /// returns that entry. In a cache within its capacity it is the only one that leaves. If `evicted_by` names
 /// none, an insert into a cache of a capacity above 0 evicts none.
 pub fn what_an_insert_evicts<K, V, S>()
@@ -59,8 +59,8 @@ pub fn what_an_insert_evicts<K, V, S>()
 {}
 
 /// A raw entry of a cache first evicts the front if there are more entries than the capacity. So one insert
-/// through it stays within a bound above the capacity, be its key absent or there. If an entry was evicted,
-/// its node is spare, and the insert of an absent key cannot fail.
+/// through it stays within a bound above the capacity, whether its key is absent or present. If an entry was
+/// evicted, its node is free, and the insert of an absent key cannot fail.
 pub fn what_a_raw_entry_of_a_cache_lets_in<K, V, S, A>()
     ensures found { (old : CacheState K V S) (roomy : MapState K V S) → EvictsFront old.map roomy old.cap
         → (n : ℕ) → IsWithin old n

@@ -4,12 +4,14 @@
 
 mod cache;
 mod debug;
+mod drain;
 mod emptied;
 pub mod laws;
 
 pub use cache::LruCache;
+pub use drain::Drain;
 pub use hashlink_map::{
-    DefaultHashBuilder, DefaultHasher, Drain, Entry, Equivalent, ExtendError, IntoIter, Iter,
-    IterMut, Keys, OccupiedEntry, RawEntryBuilder, RawEntryBuilderMut, RawEntryMut,
-    RawOccupiedEntryMut, RawVacantEntryMut, TryInsertError, VacantEntry, Values,
+    DefaultHashBuilder, DefaultHasher, Entry, Equivalent, ExtendError, IntoIter, Iter, IterMut,
+    Keys, OccupiedEntry, RawEntryBuilder, RawEntryBuilderMut, RawEntryMut, RawOccupiedEntryMut,
+    RawVacantEntryMut, TryInsertError, VacantEntry, Values,
 };

@@ -1,9 +1,9 @@
--- What an entry's answers say.
+-- What the results of an entry's calls state.
 use Rattle.hashlink_map.proofs.Names.{◌≡◌, Option, Some, refl, sym, ap, subst, Result, Ok, Err, IfOk, IfErr}
 use Rattle.hashlink_map.proofs.Names.{OnErr, unwrap_or, MutBor, UnwrapsOrElse}
 
 module _ {V E : Type 0} where
-  -- the value that stands is lent
+  -- the value now in the entry is lent
   pub or_default : (r : Result (MutBor V) E) (o : Option V) (d : V) → IfOk r (λ v. o ≡ Some v.now)
       → IfOk r (λ v. v.now ≡ unwrap_or o d)
   or_default (Ok v) o d h = sym (ap (λ x. unwrap_or x d) h)
@@ -14,7 +14,7 @@ module _ {V E : Type 0} where
   or_made (Ok v) o P h = subst (λ x. UnwrapsOrElse x P v.now) (sym h) refl
   or_made (Err e) o P h = tt
 
-  -- it is no refusal
+  -- the call was not refused
   pub no_refusal : (r : Result (MutBor V) E) (P : Type 0) → OnErr r ⊥ → OnErr r P
   no_refusal (Ok v) P h = tt
   no_refusal (Err e) P h = absurd h

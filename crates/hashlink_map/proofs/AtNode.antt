@@ -1,4 +1,4 @@
--- Where a node stands after a step at it, and steps in a row.
+-- The place of a node after a step at it, and several steps in sequence.
 use Rattle.hashlink_map.proofs.Names
 use Names.{[], ◌∷◌, ap₂, ◌++◌, length-append, ◌≡◌, ℕ, ◌+◌, ◌-◌, ◌≤◌, Bool, true, List, length, None, Some}
 use Names.{refl, sym, ap, subst, ◌∙◌, arith, slice_get, insert, remove, unwrap_or, Result, Ok, Err, IfOk}
@@ -15,7 +15,7 @@ use Rattle.hashlink_core.proofs.Edits.{length-inserted, length-removed, slice_ge
 use Rattle.hashlink_core.proofs.Edits.{place_left-before, place_left-past, passes-at}
 
 module _ {K V S : Type 0} {eq : K → K → Bool} (laws : IsEquivalence eq) where
-  -- ---- a step at a node that is held
+  -- ---- a step at a node that the map has
 
   module _ (old new : Keyed K V S) (sound : IsKeyed eq new) (n : Node) (held : Holds old.nodes n) where
     pub stood : (e : K × V) × IsNodeAt old.nodes n e
@@ -67,7 +67,7 @@ module _ {K V S : Type 0} {eq : K → K → Bool} (laws : IsEquivalence eq) wher
         moved-to 0 0 (place_left-past (place_number old.nodes (Some n)) 0 (omega arith))
         (omega (arith, stood.1.within))
 
-    -- with its pair renewed
+    -- with a new pair
     pub stays-renewed : (f : K × V → K × V) → ((k : K) → eq k stood.0.0 ≡ true → eq k (f stood.0).0 ≡ true)
         → new.nodes ≡ renewed_at f old.nodes (place_number old.nodes (Some n))
         → StaysHeld eq old new n (place_number old.nodes (Some n))
@@ -79,7 +79,7 @@ module _ {K V S : Type 0} {eq : K → K → Bool} (laws : IsEquivalence eq) wher
         ∙ slice_get-inserted (remove old.nodes j) j (n, f stood.0) (omega (arith, fewer, below)))
         same
 
-    -- a key that equals the one held equals what the held one equals
+    -- a key that equals the stored one equals whatever the stored one equals
     pub same-keys : (key : K) → EqualsKeyAt eq (entries_of old) (place_number old.nodes (Some n)) key
         → (k : K) → eq k stood.0.0 ≡ true
         → eq k key ≡ true
@@ -88,13 +88,13 @@ module _ {K V S : Type 0} {eq : K → K → Bool} (laws : IsEquivalence eq) wher
         laws.symm k key ∙ laws.congr key stood.0.0 k (equals-stored eq old n key held h)
         ∙ laws.symm stood.0.0 k ∙ t
 
--- ---- steps in a row
+-- ---- steps in sequence
 
 module _ {K V S : Type 0} {eq : K → K → Bool} (a b c : Keyed K V S) (n : Node) where
   pub stays_twice : (p q : ℕ) → StaysHeld eq a b n p → StaysHeld eq b c n q → StaysHeld eq a c n q
   stays_twice p q s t = record { within = t.within; place = t.place; keys = λ k h. t.keys k (s.keys k h) }
 
--- ---- a pair that goes last
+-- ---- a pair that is put last
 
 module _ {K V S : Type 0} {eq : K → K → Bool} (laws : IsEquivalence eq)
     (old new : Keyed K V S) (k : K) (v : V) (absent : place_of (eq k) (entries_of old) ≡ None) where
@@ -126,7 +126,7 @@ module _ {K V S : Type 0} {eq : K → K → Bool} (laws : IsEquivalence eq)
         ∙ sym (length-values_of old.nodes)
     pushed-place (Err p) added = tt
 
--- what was written as the value of a pair that went last
+-- what was written as the value of a pair that was put last
 module _ {K V S : Type 0} {eq : K → K → Bool} (laws : IsEquivalence eq) (old mid : MapState K V S)
     (k : K) (v : V) where
   last-written : (es : List (K × V)) (w : V)
@@ -182,7 +182,7 @@ module _ {K V S : Type 0} {eq : K → K → Bool} (laws : IsEquivalence eq) (old
       adds-rewritten-at laws old (state_of new) k v j (state_of (with_value_at new n w)) w s place
       (ap (λ es. record (state_of new) { entries = es }) (values-renewed_value new.nodes j w))
 
-  -- and what stands there before it is written
+  -- and the pair at its place before that
   added-pair : AddsEntry eq old (state_of new) k v (length old.entries)
       → place_number new.nodes (Some n) ≡ length old.entries
       → slice_get (entries_of new) (place_number new.nodes (Some n)) ≡ Some (k, v)
@@ -210,7 +210,7 @@ module _ {K V S : Type 0} {eq : K → K → Bool} (laws : IsEquivalence eq) (old
       (ap (λ p. p.0) (sym same), ap (λ p. p.1) (sym same))
 
 module _ {K V : Type 0} where
-  -- the entry that moved to the end stands last
+  -- the entry that moved to the end is the last
   pub last-moved : (es : List (K × V)) (j : ℕ) (e : K × V) → slice_get es j ≡ Some e
       → slice_get (moved_at es j (length es)) (length es - 1) ≡ Some e
   last-moved es j e at =
@@ -262,7 +262,7 @@ module _ {K V S : Type 0} (eq : K → K → Bool) (old : MapState K V S) (mid : 
         };
       }
 
-  -- the value that stood there
+  -- the value at its old place
   stood-there : (v : V) × (value_at old.entries j ≡ Some v)
   stood-there =
       let s = stands_from_place (eq k) old.entries j p in
@@ -287,7 +287,7 @@ module _ {K V S : Type 0} (eq : K → K → Bool) (old : MapState K V S) (mid : 
         ∙ sym (ap₂ value_at s.entries place)
         ∙ at
 
--- the key object that the list holds for a key that is there, and for one that is absent
+-- the key object that the list has for a key: for one that is present, and for one that is absent
 module _ {K V : Type 0} (eq : K → K → Bool) (es : List (K × V)) (k : K) where
   pub stored-there : (j : ℕ) → place_of (eq k) es ≡ Some j → (s : K) → key_at es j ≡ Some s
       → s ≡ stored_key eq es k

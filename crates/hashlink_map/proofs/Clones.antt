@@ -1,4 +1,4 @@
--- What is made of clones of a map's pairs.
+-- Facts about clones of a map's pairs.
 use Rattle.hashlink_map.proofs.Names.{◌≡◌, Bool, true, List, [], ◌∷◌, ◌++◌, refl, ap, ap₂, ◌∙◌, IfOk, OnErr}
 use Rattle.hashlink_map.proofs.Names.{MatchResult, IsEquivalence, entries_eq, IsEntries, extended, MadeFrom}
 use Rattle.hashlink_map.proofs.Names.{InsertsPair, MapState, empty_map, clone_is_equal, extended-own}
@@ -6,7 +6,7 @@ use Rattle.hashlink_map.proofs.Names.{accepts_entries, ArePairClones, IsOfPairCl
 use Rattle.std.proofs.Common.{Result, Ok, Err}
 
 module _ {K V : Type 0} (clones-key : K → K → Type 0) (clones-value : V → V → Type 0) where
-  -- one clone more
+  -- one more clone
   pub cloned_another : (xs ys : List (K × V)) (x y : K × V) → ArePairClones clones-key clones-value xs ys
       → clones-key x.0 y.0
       → clones-value x.1 y.1
@@ -16,7 +16,7 @@ module _ {K V : Type 0} (clones-key : K → K → Type 0) (clones-value : V → 
   cloned_another (a ∷ xs) [] x y z k v = absurd z
   cloned_another (a ∷ xs) (b ∷ ys) x y z k v = (z.0, cloned_another xs ys x y z.1 k v)
 
-  -- where clones have a property of their source, so have those of pairs
+  -- if clones have a property of their source, so have the clones of pairs
   clones_weaken : (P : K → K → Type 0) (Q : V → V → Type 0) → ((x y : K) → clones-key x y → P x y)
       → ((x y : V) → clones-value x y → Q x y) → (xs ys : List (K × V))
       → ArePairClones clones-key clones-value xs ys
@@ -56,7 +56,7 @@ module _ {K V : Type 0} (clones-key : K → K → Type 0) (clones-value : V → 
         ∙ ap (extended eq []) (clones_same f g es clones z)
         ∙ extended-own eq laws es distinct
 
-  -- what std's trait says of a clone, by its answer, of what holds a map
+  -- the clause of std's trait about a clone, by its result, for what contains a map
   pub clone_by_answer : {S M E : Type 0} (eq : K → K → Bool) (H : S → Type 0) (sure : Type 0)
       (es : List (K × V)) (view : M → MapState K V S) (r : Result M E)
       → IfOk r (λ m. (s : S) × H s × (clones : List (K × V)) × ArePairClones clones-key clones-value es clones

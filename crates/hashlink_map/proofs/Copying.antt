@@ -1,4 +1,4 @@
--- What an iterator of copies gave and read, said of the items that it copied.
+-- From what an iterator of copies gave and read to the items that it copied.
 use Rattle.hashlink_map.proofs.Names.{◌≡◌, List, [], ◌∷◌, map, Option, None, Some, refl, ap, ap₂, sym, subst}
 use Rattle.hashlink_map.proofs.Names.{Called, Mut, Yields, Map, GivesAll, GivesSome, ReadsAll, ReadsSome}
 use Rattle.std.specs.Iterator.Adapters.{map_source, map_callee, map_steps}
@@ -6,7 +6,7 @@ use Rattle.std.specs.Iterator.Adapters.{map_source, map_callee, map_steps}
 module _ {It Raw Item Given : Type 0} (nexts : It → Option Raw → It → Type 0) (f : Raw → Item)
     (becomes : Given → It → Type 0)
     (given : Given) (P : List Item → Type 0) where
-  -- a step of the copies is a step of their source, and gives what `f` makes of the item
+  -- a step of the copies is a step of their source, and gives f of the item
   module _ {Copies : Type 0} (steps : Copies → Option Item → Copies → Type 0) (source : Copies → It)
       (none : (s t : Copies) → steps s None t → nexts (source s) None (source t))
       (some : (s t : Copies) (x : Item) → steps s (Some x) t

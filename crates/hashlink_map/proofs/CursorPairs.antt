@@ -1,5 +1,5 @@
 -- What a cursor is once a value was written through a key and a value that it lent, and what it lends at its
--- place and at the places beside it. Assumes `Logic`.
+-- place and at the two neighbours. Assumes `Logic`.
 use Rattle.hashlink_map.proofs.Names.{◌≡◌, ℕ, [], ◌∷◌, refl, ap, ◌∙◌, sym, subst, Ura, ent, SProp, id⊢, named}
 use Rattle.hashlink_map.proofs.Names.{Logic, sem, follows_by, such_by, RattleType, OnSome, slice_get, Bor}
 use Rattle.hashlink_map.proofs.Names.{MutBor, follows_if, Node, IsPlace, place_number, node_row}
@@ -19,7 +19,7 @@ use Rattle.hashlink_map.specs.Bounds.{EqGhosts, HashGhosts, HasherGhosts, Builde
 module _ {K V S T : Type 0} {g : EqGhosts K} {h : HashGhosts K} {b : BuilderGhosts S T}
     {w : HasherGhosts T}
     {N : Type 0} {n : NodeGhosts N} (c : CursorMut K V S N T g h b w n) (at : Node) (v : V) where
-  -- whatever shows that its place is still of the list
+  -- whatever proves that its place is still in the list
   pub cursor_with-is : (p : IsPlace (with_value_at c.map.now at v).nodes (cursor_node c))
       → record { map = record c.map { now = with_value_at c.map.now at v }; place = c.place; within = p }
       ≡ cursor_with c at v
@@ -27,7 +27,7 @@ module _ {K V S T : Type 0} {g : EqGhosts K} {h : HashGhosts K} {b : BuilderGhos
       ap (λ q. record (cursor_with c at v) { within = q })
       (IsPlace-prop (with_value_at c.map.now at v).nodes (cursor_node c) p (cursor_with c at v).within)
 
--- the pair of a node is the pair of its place, and at the guard the cursor stays as it was
+-- the pair of a node is the pair of its place; at the guard the cursor stays as it was
 module _ (K V S T : RattleType) {g : EqGhosts K.Denot} {h : HashGhosts K.Denot}
     {b : BuilderGhosts S.Denot T.Denot}
     {w : HasherGhosts T.Denot}
@@ -124,7 +124,7 @@ module _ (K V S T : RattleType) (LK : Laws K) (LV : Laws V) (p : EqGhosts K.Deno
     pair_none = λ κs r. sym (at-guard r.now.map.now);
   }
 
-  -- at the place that `place` numbers
+  -- at the place with the index `place`
   abbrev pub at_place : {M : Type 1} {𝓤 : Ura M} (𝓛 : Logic 𝓤)
       → (CursorState K.Denot V.Denot S.Denot → ℕ)
       → Lending K V LK LV Cursor 𝓛 (at_node 𝓛)

@@ -1,4 +1,4 @@
--- An entry is made, and then its pair is lent. The inserts of raw entries go so. Assumes `Logic`.
+-- An entry is made, and then its pair is lent, as by the inserts of raw entries. Assumes `Logic`.
 use Rattle.hashlink_map.proofs.Names
 use Names.{◌≡◌, ℕ, List, [], ◌∷◌, sym, subst, Ura, Fml, Lft, flft, SProp, ent, sep, ex, emp, id⊢, via, emp∗}
 use Names.{comm∗, fst∗, Fn, Callee, Dict, Val, Model, WpFn, Closed, Logic, sem, ◌⊑◌, Lfts, Shares, Outlives}
@@ -15,7 +15,7 @@ use types.Kit.{Item, Goal, Seq, Soaks, ‵, raw, ◌⊛◌, some, later, ◌$◌
 use types.Kit.{join, fjoin, pick, await, updating, now, use0, use1, use2, done}
 use Rattle.hashlink_map.specs.Bounds.{EqGhosts, HashGhosts, HasherGhosts, BuilderGhosts}
 
--- a value of R is returned, and Q holds of it
+-- a value of R is returned, and Q holds for it
 abbrev pub then_with : {M : Type 1} {𝓤 : Ura M} (𝓛 : Logic 𝓤) → RattleType → (Val → SProp 𝓤) → Val → SProp 𝓤
 then_with {𝓤 = 𝓤} 𝓛 R Q v = 𝓛.H.⇛ (sep 𝓤 (fact 𝓤 (Good (layout R) v)) (Q v))
 
@@ -27,7 +27,7 @@ module _ {M : Type 1} {𝓤 : Ura M} {𝓛 : Logic 𝓤} {J : Type 0} {Γ : List
       use1 𝓛 (later (raw (fact 𝓤 (Good (layout R) v)) ⊛ raw (Q v))) (id⊢ 𝓤 (then_with 𝓛 R Q v)) $ await t z $
       split t $ heard t (Good (layout R) v) k
 
--- the lifetimes that the second call takes, of those of the first, and the tokens of the others
+-- the lifetimes that the second call takes from the first one's, and the tokens of the others
 module _ {M : Type 1} {𝓤 : Ura M} (𝓛 : Logic 𝓤) where
   pub record Passed (n : ℕ) : Type 2 where
     pub five : Lfts n → Lfts 5
@@ -69,9 +69,8 @@ module _ {M : Type 1} (𝓤 : Ura M) (K V S T : RattleType) (LK : Laws K) (LV : 
   abbrev pub Lent_at : RattleType
   Lent_at = Answer K V LK LV κ
 
-  -- the map, what it is once a value was written or after a refusal, and what the first call says beside
-  -- that,
-  -- and the two in turn
+  -- the map; what it is once a value was written, or after a refusal; what else the first call states; and
+  -- the two calls in sequence
   pub record Entering : Type 2 where
     pub map : MutBor (Keyed K.Denot V.Denot S.Denot)
     pub Written : Bor K.Denot × MutBor V.Denot → V.Denot → Keyed K.Denot V.Denot S.Denot → Type 0
@@ -157,7 +156,7 @@ module _ {M : Type 1} (𝓤 : Ura M) (𝓛 : Logic 𝓤) (𝓜 : Model 𝓤 𝓛
           use0 𝓛 (raw (fact 𝓤 (Good (layout R) v₂))) (fact_i 𝓤 (Good (layout R) v₂) (emp 𝓤) good) $
           join ! $ now ! $ done !)))))
 
-      -- the first call's answer goes into the second call
+      -- the first call's result is passed to the second call
       goes_on : (L : Type 0) (last : L → Fml) (v : Val)
           → ent 𝓤 (sep 𝓤 (𝓛.H.⇛ (ex 𝓤 (λ (x : (Made κs).Denot). sep 𝓤
           (sep 𝓤 Alive (sem 𝓛 ((Made κs).own_val x (v ∷ []))))
@@ -179,7 +178,7 @@ module _ {M : Type 1} (𝓤 : Ura M) (𝓛 : Logic 𝓤) (𝓜 : Model 𝓤 𝓛
           (id⊢ 𝓤 (𝓛.H.⇛ (ex 𝓤 Answered))) $
           await ! tt $ pick ! (λ x. split ! $ move ! (1 ∷ []) $ pick ! (λ ls. split ! $ drop ! $ split ! $
           move ! (1 ∷ []) $ use1 𝓛 (raw (fact 𝓤 (s.Facts x))) (s.hears x) $ heard ! (s.Facts x) (λ facts.
-          -- [how the map rests; the tokens and the entry; what the next call asks]
+          -- [how the map rests; the tokens and the entry; what the next call requires]
           move ! (1 ∷ []) $ split ! $ use1 𝓛 (raw (toks 𝓛 5 κs qs) ⊛ raw Others) apart $ split ! $
           move ! (2 ∷ []) $ peeks ! R (Is R) (shows 𝓛 R) x (v ∷ []) (λ is.
           let good : Good (layout R) v =
@@ -195,7 +194,7 @@ module _ {M : Type 1} (𝓤 : Ura M) (𝓛 : Logic 𝓤) (𝓜 : Model 𝓤 𝓛
           use0 𝓛 (raw (fact 𝓤 (Good (layout R) v))) (fact_i 𝓤 (Good (layout R) v) (emp 𝓤) good) $
           join ! $ now ! $ done !))))
 
-    -- a function whose parameters go to the first call as they are
+    -- a function whose parameters are passed to the first call unchanged
     module _ (n : ℕ) (l : Passed 𝓛 n) (O : List (Outlives n)) (ss : List (Slot n)) (ks : Kepts ss)
         (hs : Stays ss ks)
         (bounds : (κs : Lfts n) → AllOutlive n O κs

@@ -1,4 +1,4 @@
--- Std's `extend` and `from_iter`, out of what the calls say of their items.
+-- Std's `extend` and `from_iter`, from what the calls state about their items.
 use Rattle.hashlink_map.proofs.Names.{◌≡◌, ℕ, List, [], ◌∷◌, ◌++◌, map, length, get_or, Option, refl, ap, ap₂}
 use Rattle.hashlink_map.proofs.Names.{sym, subst, arith, true≢false, Yields, Drains, DrainsIf, IsErr, IfOk}
 use Rattle.hashlink_map.proofs.Names.{OnErr, MatchResult, ⊤, AcceptsAll, StopsAt, StopsAtLast, MapState}
@@ -7,7 +7,7 @@ use Rattle.std.proofs.Common.{drop, Result, Ok, Err}
 
 module _ {It Raw : Type 0} (nexts : It → Option Raw → It → Type 0) where
   module _ {Item : Type 0} (fs : List Raw → List Item) where
-    -- what came up to the last item came out too, and is what the items before that one were made of
+    -- the items up to the last were read too, and those before it are made from the items before that one
     abbrev pub CutsLast : Type 0
     CutsLast =
         (s t : It) (raw : List Raw) (before : List Item) (item : Item) → fs raw ≡ before ++ item ∷ []
@@ -47,7 +47,7 @@ module _ {It Raw : Type 0} (nexts : It → Option Raw → It → Type 0) where
       stopped_at_last r taken back read =
           on_err r _ (read.0, read.1, read.2, read.3, read.4, (taken, back, read.5))
 
-  -- what was made of the items up to `None`, by its answer
+  -- what was made from the items up to `None`, by its result
   pub made_by_answer : {Given S M E : Type 0} (becomes : Given → It → Type 0) (H : S → Type 0)
       (P : List Raw → S → M → Type 0) (given : Given) (r : Result M E)
       → IfOk r (λ m. (s : S) × H s × ReadsAll becomes nexts given (λ raw. P raw s m))
@@ -64,7 +64,7 @@ module _ {It Raw : Type 0} (nexts : It → Option Raw → It → Type 0) where
       )
   made_by_answer becomes H P given (Err e) made = tt
 
-  -- of the items themselves
+  -- for the items themselves
   pub cuts_item : CutsLast (λ raw. raw)
   cuts_item s t [] [] item e y = let long = ap length e in absurd (omega arith)
   cuts_item s t (x ∷ raw) [] item e y = ([], refl, s, refl)
@@ -77,7 +77,7 @@ module _ {It Raw : Type 0} (nexts : It → Option Raw → It → Type 0) where
         (y.0, y.1, rest.3),
       )
 
-  -- of what is made of each
+  -- for what is made from each
   pub cuts_copy : {Item : Type 0} (f : Raw → Item) → CutsLast (map f)
   cuts_copy f s t [] [] item e y = let long = ap length e in absurd (omega arith)
   cuts_copy f s t (x ∷ raw) [] item e y = ([], refl, s, refl)

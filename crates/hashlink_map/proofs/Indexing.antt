@@ -1,4 +1,4 @@
--- A key that is there, by its place.
+-- A key that is present, by its place.
 use Rattle.hashlink_map.proofs.Names.{◌≡◌, ℕ, Bool, is_some, Option, None, Some, length, refl, ap, sym, ◌∙◌}
 use Rattle.hashlink_map.proofs.Names.{true≢false, IsSome, MatchOption, values_of, place_of, with_value_of}
 use Rattle.hashlink_map.proofs.Names.{Keyed, HoldsKey, entries_of, state_of, pair_with_value, with_value_at}
@@ -10,7 +10,7 @@ module _ {K V S : Type 0} (eq : K → K → Bool) (m : Keyed K V S) (k : K) wher
   not_there : place_of (eq k) (entries_of m) ≡ None → HasKey eq m k → ⊥
   not_there p h = true≢false (sym h ∙ ap is_some (lookup-unplaced (eq k) (entries_of m) p))
 
-  -- the look-up finds it
+  -- the lookup finds it
   pub found_there : (r : Option Node)
       → MatchOption r (place_of (eq k) (entries_of m) ≡ None) (HoldsKey eq m.nodes k)
       → HasKey eq m k

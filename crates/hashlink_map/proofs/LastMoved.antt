@@ -1,34 +1,16 @@
--- An entry that stands last: it moved there, or its pair went in there.
+-- An entry that is the last: it moved there, or its pair was inserted there.
 use Rattle.hashlink_map.proofs.Names
-use Names.{◌≡◌, ℕ, ◌-◌, List, [], ◌∷◌, ◌++◌, Bool, None, Some, length, refl, sym, ap, ap₂, subst, ◌∙◌}
-use Names.{append-nil, slice_get, Result, Ok, Err, IfOk, IfErr, OnErr, MatchOption, Bor, MutBor}
-use Names.{IsEquivalence, IsEntries, moved_at, place_of, MapState, MovesAt, AddsEntry}
-use Names.{RefusesEntry, RawEntryState, moved_at-last, split_at, place_of_its_key, Keyed, state_of}
+use Names.{◌≡◌, ℕ, ◌-◌, Bool, None, Some, length, refl, sym, ap, ap₂, subst, ◌∙◌}
+use Names.{slice_get, Result, Ok, Err, IfOk, IfErr, OnErr, MatchOption, Bor, MutBor}
+use Names.{IsEquivalence, IsEntries, place_of, MapState, MovesAt, AddsEntry}
+use Names.{RefusesEntry, RawEntryState, place_of_its_key, Keyed, state_of}
 use Names.{entries_of, Node, Holds, place_number, at-node, node-at, RawOccupiedEntryMut, raw_occupied_state}
 use Names.{raw_occupied_map, raw_place, raw_pair, PutsLast, StandsLast, with_value_at}
 use Rattle.std.specs.Prelude.{Option}
 use Rattle.hashlink_map.specs.contracts.as_node.NodeAsNode.TheImpl
 use Rattle.hashlink_map.proofs.AtNode.{adds-written, added-parts, last-moved, moves-and-writes}
 use Rattle.hashlink_map.proofs.PairTies.{IsPairAt, OfEntry}
-use Rattle.hashlink_model.proofs.Distinct.{none_others, IsEntries-middle, IsEntries-insert}
 use Rattle.hashlink_map.specs.Bounds.{EqGhosts, HashGhosts, HasherGhosts, BuilderGhosts, NodeGhosts}
-
-module _ {K V : Type 0} (eq : K → K → Bool) (laws : IsEquivalence eq) where
-  -- no two keys were equal, since none are where it stands now
-  pub distinct_before : (es : List (K × V)) (j : ℕ) (e : K × V) → slice_get es j ≡ Some e
-      → IsEntries eq (moved_at es j (length es))
-      → IsEntries eq es
-  distinct_before es j e at d =
-      let s = split_at es j e at in
-      let xs = s.0 in
-      let ys = s.1 in
-      let moved : moved_at es j (length es) ≡ (xs ++ ys) ++ e ∷ []
-      = ap₂ (λ zs i. moved_at zs i (length zs)) s.2 (sym s.3) ∙ moved_at-last xs e ys in
-      let there : IsEntries eq ((xs ++ ys) ++ e ∷ []) = subst (IsEntries eq) moved d in
-      let rest : (xs ++ ys) ++ [] ≡ xs ++ ys = append-nil (xs ++ ys) in
-      subst (IsEntries eq) (sym s.2)
-      (IsEntries-insert eq laws xs e ys (rw (sym rest) (none_others eq laws (xs ++ ys) e [] there))
-      (subst (IsEntries eq) rest (IsEntries-middle eq laws (xs ++ ys) e [] there)))
 
 module _ {K V S : Type 0} {eq : K → K → Bool} where
   pub moved_stands : (laws : IsEquivalence eq) (m : Keyed K V S) (n : Node) (held : Holds m.nodes n)
@@ -74,7 +56,7 @@ pub none_at : {A E X : Type 0} (r : Result A E) (x : X) → OnErr r (x ≡ x)
 none_at (Ok a) x = tt
 none_at (Err e) x = refl
 
--- what is written through the pair of an entry that stands last
+-- what is written through the pair of an entry that is the last
 module _ {K V S T : Type 0} {g : EqGhosts K} {h : HashGhosts K} {b : BuilderGhosts S T}
     {w : HasherGhosts T} (laws : IsEquivalence g.eq) (Given : K × V → Type 0) where
   module _ (o : RawOccupiedEntryMut K V S Node T g h b w TheImpl.ghosts) (q : Bor K × MutBor V)

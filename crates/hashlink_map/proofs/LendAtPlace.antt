@@ -1,5 +1,5 @@
--- The pair at a place of a borrower is lent, where the place is a node's; and a step before that gives the
--- place. A cursor and a walk that writes lend so. Assumes `Logic`.
+-- The pair at a place of a borrower is lent if the place is a node's. A step before the loan gives the place.
+-- A cursor and a writing walk lend in this way. Assumes `Logic`.
 use Rattle.hashlink_map.proofs.Names
 use Names.{◌≡◌, ℕ, List, [], ◌∷◌, ◌++◌, refl, sym, ap, subst, ◌∙◌, Ura, Fml, SProp, ent, sep, id⊢, emp, Fn}
 use Names.{Ty, Sym, Callee, Kind, named, erased, mut, ty_ptr, ty_ref, ty_struct, tcons, tnil, local}
@@ -28,7 +28,7 @@ use Rattle.std.specs.Prelude.{None, Some}
 abbrev pub At_place : RattleType
 At_place = option.the_row node_row
 
--- what no walk reads of the code
+-- the parts of the code that no proof here reads
 pub record StepCode : Type 0 where
   pub lifetimes : ℕ
   pub outlives : List (ℕ × ℕ)
@@ -125,7 +125,7 @@ module _ (K V : RattleType) (LK : Laws K) (LV : Laws V) (Row : NamedLft → Ratt
   abbrev borrowed : Slot 6
   borrowed = mut_ref_to (0 ∷ []) tt (plain Borrower)
 
-  -- a step, the call that lends at a place, and the two in turn
+  -- a step, the call that lends at a place, and the two in sequence
   abbrev taking : List (Outlives 6) → Ended
   taking O = ended 6 O (borrowed ∷ []) (no, tt) Mid
 
@@ -144,7 +144,7 @@ module _ (K V : RattleType) (LK : Laws K) (LV : Laws V) (Row : NamedLft → Ratt
       ended 6 O (mut_ref_to (0 ∷ []) tt (plain (Borrower)) ∷ plain (λ κs. node_row) ∷ [])
       (no, (yes, tt)) Pair_at
 
-  -- what is ensured: at a node, and at a place
+  -- the clauses: at a node, and at a place
   pub record LendingAt {M : Type 1} {𝓤 : Ura M} (𝓛 : Logic 𝓤) : Type 1 where
     pub NodeTies : (κs : Lfts 6) → (Ref κs).Denot → Node → (Pair_at κs).Denot → Fml
     pub NodePair : (κs : Lfts 6) → (Ref κs).Denot → Node → (Pair_at κs).Denot → Type 0
@@ -160,7 +160,7 @@ module _ (K V : RattleType) (LK : Laws K) (LV : Laws V) (Row : NamedLft → Ratt
         (sem 𝓛 (Ties κs (r, None) None))
     pub pair_none : (κs : Lfts 6) (r : (Ref κs).Denot) → Pair κs (r, None) None
 
-  -- of a step before it, and by the two in turn
+  -- the clauses of the step before it, and of the two in sequence
   pub record Lending {M : Type 1} {𝓤 : Ura M} (𝓛 : Logic 𝓤) (at : LendingAt 𝓛) : Type 1 where
     pub Takes : (κs : Lfts 6) → (Ref κs).Denot → (Mid κs).Denot → Type 0
     pub Lends : (κs : Lfts 6) → (Ref κs).Denot → (Out κs).Denot → Fml
@@ -388,7 +388,7 @@ module _ {M : Type 1} (𝓤 : Ura M) (𝓛 : Logic 𝓤) (𝓜 : Model 𝓤 𝓛
         let mid : Val = vstruct (of_list (mut_vals q.0 ++ (u ∷ []))) in
         let is : v ≡ mid = ap only is_mid ∙ (λ i. vstruct (of_list (e0 i ++ (is_u i ++ [])))) in
         move ! (1 ∷ []) $ drop ! $
-        -- [the place; self; the tokens; what the next call asks]
+        -- [the place; self; the tokens; what the next call requires]
         lands_as ! is refl
         (as_fields (ty_ptr ∷ layout At_place ∷ []) (vptr q.0.ref_ptr.0 q.0.ref_ptr.1 ∷ u ∷ [])
         ((tt, tt), (fits, tt))) $

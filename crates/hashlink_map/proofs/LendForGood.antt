@@ -19,7 +19,7 @@ use types.Kit.{‵, raw, ◌⊛◌, some, later, ◌$◌, ◌∵◌, !, qed, by,
 use types.Kit.{fpick, feq_l, pick, await, rewrite, use0, use1, suffices, done}
 use Rattle.hashlink_map.specs.Bounds.{EqGhosts, HashGhosts, HasherGhosts, BuilderGhosts}
 
--- what no walk reads of the code
+-- the parts of the code that no proof here reads
 pub record Unread : Type 0 where
   pub lifetimes : ℕ
   pub outlives : List (ℕ × ℕ)
@@ -150,7 +150,7 @@ module _ {M : Type 1} (𝓤 : Ura M) (𝓛 : Logic 𝓤) (𝓜 : Model 𝓤 𝓛
       ⊛ raw (Says κs r n q))))) (id⊢ 𝓤 (G.post y v)) $
       await ! tt $ pick ! (λ q. split ! $ move ! (1 ∷ []) $ pick ! (λ ls. split ! $ drop ! $ move ! (1 ∷ []) $
       split ! $ move ! (1 ∷ []) $ peeks ! Out (Is Out) (shows 𝓛 Out) q (v ∷ []) (λ is_out.
-      -- [the result; the tokens; what the call says]
+      -- [the result; the tokens; what the call ensures]
       lands_as ! refl refl (good κs q v is_out) $ returns ! (look_at ! 0 refl) $ free_all ! refl $
       nothing ! $ nothing ! $ fjoin ! $ keep ! (2 ∷ 0 ∷ 1 ∷ 3 ∷ []) $
       by ! (leaves 𝓛 En hs c z v q ((tt, tt), tt) (tt, tt))))))))))))

@@ -5,6 +5,7 @@ pub mod Clones
 pub mod Copying
 pub mod CursorPairs
 pub mod EnterAndLend
+pub mod EntryUpdates
 pub mod Extending
 pub mod Indexing
 pub mod LastMoved

@@ -1,4 +1,4 @@
--- What the proofs of this crate import again and again.
+-- The names that many proofs of this crate import.
 pub use Rattle.hashlink_core.proofs.AtKeyNode.{added, guard-number, is_some-map, lent, lent-moved}
 pub use Rattle.hashlink_core.proofs.AtKeyNode.{moved-found, moved-value, refused, stored, stored-value}
 pub use Rattle.hashlink_core.proofs.Calls.{on_err}

@@ -1,4 +1,4 @@
--- What the entries are after a call, and what it returns, in one equation for each.
+-- The entries after a call, and its result, by one equation for each.
 use Rattle.hashlink_map.proofs.Names
 use Names.{◌≡◌, ℕ, suc, Bool, true, false, cond, List, [], ◌∷◌, ◌++◌, length, Option, None, Some, is_some}
 use Names.{refl, sym, ap, ◌∙◌, true≢false, arith, Contains, IfOk, IfSome, IsOk, IsSome, OnOk, unwrap_or}
@@ -9,13 +9,13 @@ use Rattle.hashlink_model.proofs.Splits.{none_from_lookup, place_of-here, place_
 use Rattle.hashlink_model.proofs.Splits.{stands_from_lookup}
 
 module _ {K V S : Type 0} (eq : K → K → Bool) (old new : MapState K V S) (k : K) (v : V) where
-  -- goal: the entries after an insert that is not refused, and its answer
+  -- goal: the entries after an insert that is not refused, and its result
   pub inserts_entries : (b : ℕ) (w : Option V) → Inserts eq old new k v b (Ok w)
       → (new.entries ≡ put eq old.entries k v b) × (w ≡ lookup (eq k) old.entries)
   inserts_entries b None s = (s.adds.entries, sym s.absent)
   inserts_entries b (Some w) s = (s.puts.entries, sym s.old_value)
 
-  -- goal: the entries after a replace that is not refused, as a put where the key stands
+  -- goal: the entries after a replace that is not refused, as a put at the key's place
   pub replaces_entries : (w : Option V) → Replaces eq old new k v (Ok w)
       → new.entries ≡ put eq old.entries k v (place_or_end eq old.entries k)
   replaces_entries None s =
@@ -30,7 +30,8 @@ module _ {K V S : Type 0} (eq : K → K → Bool) (old new : MapState K V S) (k 
       ∙ sym (ap (λ o. put eq old.entries k v (unwrap_or o (length old.entries))) place
       ∙ put_at_its_place eq old.entries k v (length at.0) place)
 
-  -- the pair was put at the place b, where the call returns the old value, and it does where the key is there
+  -- if the call returns the old value, the pair was put at the place b; it does return it if the key is
+  -- present
   abbrev pub PutsAt : ℕ → Result (Option V) (K × V) → Type 0
   PutsAt b r =
       OnOk r (new.entries ≡ put eq old.entries k v b) × IfOk r (λ w. w ≡ lookup (eq k) old.entries)
@@ -45,7 +46,7 @@ module _ {K V S : Type 0} (eq : K → K → Bool) (old new : MapState K V S) (k 
         (sym there ∙ ap is_some s.may_refuse.absent)),
   )
 
-  -- an absent key goes behind the others
+  -- an absent key is put behind the others
   pub inserts_added : (r : Result (Option V) (K × V)) → Inserts eq old new k v (length old.entries) r
       → lookup (eq k) old.entries ≡ None
       → OnOk r (new.entries ≡ old.entries ++ (k, v) ∷ [])
@@ -77,7 +78,7 @@ module _ {K V : Type 0} (test : K → Bool) where
       by false l behind = let found = behind l in (suc found.0, omega (arith, found.1), found.2)
 
 module _ {K V S : Type 0} (old new : MapState K V S) (test : K → Bool) where
-  -- goal: the entries after a removal, also where no key was found
+  -- goal: the entries after a removal, even if no key was found
   pub removes_entries : (r : Option (K × V)) → RemovesMatch test old new r
       → new.entries ≡ remove_entry test old.entries
   removes_entries None s =
@@ -87,7 +88,7 @@ module _ {K V S : Type 0} (old new : MapState K V S) (test : K → Bool) where
       ∙ sym (remove_entry-none test old.entries (none_from_lookup test old.entries none))
   removes_entries (Some e) s = s.step.entries
 
-  -- goal: the entry that a removal answers was there
+  -- goal: the entry that a removal returns was present
   pub removed_was_there : (r : Option (K × V)) → RemovesMatch test old new r
       → IfSome r (Contains old.entries)
   removed_was_there None s = tt

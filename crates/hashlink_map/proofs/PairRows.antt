@@ -1,4 +1,4 @@
--- The types that a raw entry's pair passes through, each with its laws.
+-- The types that a raw entry's pair has on its way to the caller, each with its laws.
 use Rattle.hashlink_map.proofs.Names.{[], ◌∷◌, refl, Lft, named, param, Laws, param_laws, of_field}
 use Rattle.hashlink_map.proofs.Names.{row_shared, copy_shared, mut_ref_shared, RattleType, NamedLft, MutRef}
 use Rattle.hashlink_map.proofs.Names.{ShrRef, shr_ref_laws, shr_ref_copy, mut_ref_laws, Tuple, tuple_laws}

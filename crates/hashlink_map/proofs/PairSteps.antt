@@ -1,4 +1,4 @@
--- What the walks to a pair that is lent share: a node's one word, clauses, what calls ask, and the tokens.
+-- What the proofs of a lent pair share: a node's one word, clauses, what calls require, and the tokens.
 -- Assumes `Logic`.
 use denote.Triple.Entry.{Res, Args}
 use Rattle.hashlink_map.proofs.Names.{◌≡◌, List, [], ◌∷◌, ◌++◌, refl, subst, Ura, Val, vstruct, of_list, Fml}
@@ -29,7 +29,7 @@ module _ {M : Type 1} {𝓤 : Ura M} (𝓛 : Logic 𝓤) where
       makes_shadow 𝓛 (Word.own_val (c, tt) (word c ∷ [])) (λ vss. (tt, (tt, tt)))
       ((ptr_val c ∷ [], tt), (refl, (refl, tt)))
 
--- a function with this signature, and its clauses: what it asks, and what it says of its result
+-- a function with this signature, and its clauses: what it requires, and what it ensures of its result
 abbrev pub ended : (n : ℕ) → List (Outlives n) → (ss : List (Slot n)) → Kepts ss → (Lfts n → RattleType)
     → Ended
 ended n O ss ks R = record {
@@ -47,18 +47,18 @@ clauses 𝓤 E asks says κs a = record {
   ensures = λ _ r end. says κs a r;
 }
 
--- what a call asks: four facts on lifetimes, and R
+-- what a call requires: four facts on lifetimes, and R
 module _ {M : Type 1} (𝓤 : Ura M) (A B C D : Type 0) where
   abbrev pub Asks : SProp 𝓤 → SProp 𝓤
   Asks R = sep 𝓤 (fact 𝓤 A) (sep 𝓤 (fact 𝓤 B) (sep 𝓤 (fact 𝓤 C) (sep 𝓤 (fact 𝓤 D) R)))
 
-  -- with a fact in the place of nothing
+  -- with a fact in place of nothing
   pub adds_fact : (P : Type 0) → P → ent 𝓤 (Asks (emp 𝓤)) (Asks (fact 𝓤 P))
   adds_fact P is =
       mono_r 𝓤 (fact 𝓤 A) (mono_r 𝓤 (fact 𝓤 B)
       (mono_r 𝓤 (fact 𝓤 C) (mono_r 𝓤 (fact 𝓤 D) (fact_i 𝓤 P (emp 𝓤) is))))
 
-  -- once more for another call, which asks no more than the four
+  -- once more for another call, which requires no more than the four
   pub asks_again : (𝓛 : Logic 𝓤) (R : SProp 𝓤) → ent 𝓤 (Asks R) (sep 𝓤 (Asks R) (Asks (emp 𝓤)))
   asks_again 𝓛 R =
       let Fact : Type 0 → Item 𝓤 = λ X. raw (fact 𝓤 X) in

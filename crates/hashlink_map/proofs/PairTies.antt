@@ -1,4 +1,5 @@
--- What the map ends as, from the entry that it went into and the pair that the entry lent. Assumes `Logic`.
+-- What the map ends as, from the entry that it was passed into and the pair that the entry lent. Assumes
+-- `Logic`.
 use Rattle.hashlink_map.proofs.Names.{◌≡◌, [], ◌∷◌, sym, subst, Ura, ent, sep, Logic, sem, follows_by}
 use Rattle.hashlink_map.proofs.Names.{such_by, follows_then, Result, Ok, Err, IfOk, IfErr, OnErr, MatchResult}
 use Rattle.hashlink_map.proofs.Names.{slice_get, Bor, MutBor, follows_if, IsEquivalence, MapState, AddsEntry}
@@ -14,7 +15,7 @@ use Rattle.hashlink_map.specs.Bounds.{EqGhosts, HashGhosts, HasherGhosts, Builde
 
 module _ {K V S T : Type 0} {g : EqGhosts K} {h : HashGhosts K} {b : BuilderGhosts S T}
     {w : HasherGhosts T} where
-  -- the pair that stands at the entry's place is the one that was lent
+  -- the pair at the entry's place is the one that was lent
   abbrev pub IsPairAt : RawOccupiedEntryMut K V S Node T g h b w TheImpl.ghosts → Bor K × MutBor V → Type 0
   IsPairAt o q = slice_get (raw_occupied_state o).map.entries (raw_place o) ≡ Some (q.0.now, q.1.now)
 
@@ -28,8 +29,8 @@ module _ {K V S T : Type 0} {g : EqGhosts K} {h : HashGhosts K} {b : BuilderGhos
     abbrev pub IsHandedOn : Result (Bor K × MutBor V) E → Type 0
     IsHandedOn r = IfErr r (λ e. entered ≡ Err e)
 
-  -- what holds of the entry's pair holds of the pair that was lent, and what holds of an error of the one
-  -- handed on
+  -- what holds for the entry's pair holds for the pair that was lent; what holds for an error holds for the
+  -- one handed on
   pub ok_carried : {E : Type 0} (x : Result (RawOccupiedEntryMut K V S Node T g h b w TheImpl.ghosts) E)
       (r : Result (Bor K × MutBor V) E) (P : Bor K × MutBor V → Type 0)
       → IsLent x r → OfEntry x P → IfOk r P
@@ -49,7 +50,7 @@ module _ {K V S T : Type 0} {g : EqGhosts K} {h : HashGhosts K} {b : BuilderGhos
   on_err_carried x (Ok q) P is all = tt
   on_err_carried x (Err e) P is all = subst (λ y. OnErr y P) is all
 
-  -- an entry whose pair went last
+  -- an entry whose pair was put last
   module _ (laws : IsEquivalence g.eq) (old : MapState K V S) (k : K) (v : V) {E : Type 0} where
     pub new_written : (x : Result (RawOccupiedEntryMut K V S Node T g h b w TheImpl.ghosts) E)
         → IfOk x (λ o. AddsEntry g.eq old (state_of (raw_occupied_map o).now) k v (length old.entries))

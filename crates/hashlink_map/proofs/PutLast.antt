@@ -1,4 +1,4 @@
--- What the inserts of raw entries say of the entry that they make, and of the pair that it lends.
+-- What the inserts of raw entries state about the entry that they make and the pair that it lends.
 use Rattle.hashlink_map.proofs.Names.{◌≡◌, [], ◌∷◌, None, Ura, Lft, ent, sep, emp, Logic, fact, fact_i, Laws}
 use Rattle.hashlink_map.proofs.Names.{RattleType, heard, MutBor, IsEquivalence, IfOk, IfErr, OnErr}
 use Rattle.hashlink_map.proofs.Names.{MatchOption, RawEntryState, AddsEntry, RefusesEntry, Keyed, state_of}
@@ -22,7 +22,7 @@ module _ {M : Type 1} (𝓤 : Ura M) (𝓛 : Logic 𝓤) (K V S T : RattleType) 
   abbrev Y : Type 0
   Y = (Lent_at 𝓤 K V S T LK LV LS LT p h b w κ).Denot
 
-  -- three facts are heard at once, and two are told
+  -- three facts that are apart, as one
   pub hears_three : (A B C : Type 0) → ent 𝓤 (sep 𝓤 (fact 𝓤 A) (sep 𝓤 (fact 𝓤 B) (fact 𝓤 C)))
       (fact 𝓤 (A × B × C))
   hears_three A B C =
@@ -77,7 +77,7 @@ module _ {M : Type 1} (𝓤 : Ura M) (𝓛 : Logic 𝓤) (K V S T : RattleType) 
           (err_carried x r (λ e. e ≡ (k, u)) given facts.2);
     }
 
-  -- a pair that is given, or the one that stood there: `Parts` is said of it
+  -- a pair that is given, or the one at the place: `Parts` holds for it
   module _ (m : MutBor (Keyed K.Denot V.Denot S.Denot)) (found : RawEntryState K.Denot V.Denot S.Denot)
       (IsGiven : K.Denot × V.Denot → Type 0) (Parts : Y → Type 0)
       (parts : (r : Y) → IfOk r (λ q. MatchOption (raw_pair found) (IsGiven (q.0.now, q.1.now))

@@ -1,4 +1,4 @@
--- What came out of a walk that gives its list away.
+-- What an iterator that gives its list away has returned.
 use Rattle.hashlink_map.proofs.Names.{◌≡◌, List, [], ◌∷◌, ◌++◌, None, ap, ◌∙◌, append-nil, Yields, YieldsThen}
 use Rattle.hashlink_map.proofs.Names.{TakesFirst}
 

@@ -1,4 +1,4 @@
--- What a step that takes an entry out of a map gives and leaves, as a step of a walk.
+-- A step that takes an entry out of a map, as a step of an iterator.
 use Rattle.hashlink_map.proofs.Names.{Option, None, Some, ap, sym, subst, ◌∙◌, TakesFirst, TakesLast}
 use Rattle.hashlink_map.proofs.Names.{GivesInOrder, GivesInReverse, as_is, as_is_back, in-order, in-reverse}
 use Rattle.hashlink_map.proofs.Names.{MapState, PopsFront, PopsBack, after_first_of, before_last_of}
@@ -30,11 +30,11 @@ module _ {K V S : Type 0} (old new : MapState K V S) where
 
 -- what the steps of a drain leave
 module _ {K V S : Type 0} where
-  -- only entries that were there at the start are left
+  -- only entries that were present at the start are left
   abbrev pub Kept : MapState K V S → MapState K V S → Type 0
   Kept start now = KeepsOnly start now now.entries
 
--- each run of an iterator that owns its items gives what was left, in order from the front and in reverse
+-- each run of an iterator that owns its items returns the entries left: in order from the front, in reverse
 -- from the back
 module _ {X : Type 0} where
   pub gives-in_order : GivesInOrder X

@@ -1,4 +1,4 @@
--- What a walk is once a value was written through a key and a value that it lent, and what it lends where it
+-- What a walk is once a value was written through a key and a value that it lent, and what it lends when it
 -- takes a place off. Assumes `Logic`.
 use Rattle.hashlink_map.proofs.Names.{◌≡◌, ℕ, [], ◌∷◌, take, refl, sym, ap, ap₂, subst, ◌∙◌, List, Ura, ent}
 use Rattle.hashlink_map.proofs.Names.{named, Logic, sem, follows_by, such_by, RattleType, OnSome, IfNone}
@@ -23,7 +23,7 @@ use Rattle.hashlink_map.specs.Bounds.{EqGhosts, HashGhosts, HasherGhosts, Builde
 module _ {K V S T : Type 0} {g : EqGhosts K} {h : HashGhosts K} {b : BuilderGhosts S T}
     {w : HasherGhosts T}
     {N : Type 0} {n : NodeGhosts N} (i : IterMut K V S N T g h b w n) (at : Node) (v : V) where
-  -- whatever shows that its places are still of the list
+  -- whatever proves that its places are still in the list
   pub walk_with_value-is : (p : StandsIn n.node (with_value_at i.map.now at v).nodes i.places)
       → record { map = record i.map { now = with_value_at i.map.now at v }; places = i.places; stands = p }
       ≡ walk_with_value i at v
@@ -63,7 +63,7 @@ module _ {K V S T : Type 0} {g : EqGhosts K} {h : HashGhosts K} {b : BuilderGhos
   stays-on (Some x) None lent t new told = absurd (let e = lent.1 in cc)
   stays-on (Some x) (Some p) lent t new told = tt
 
--- the place that was taken, and the pair that stands there
+-- the place that was taken, and the pair there
 module _ {K V S T : Type 0} {g : EqGhosts K} {h : HashGhosts K} {b : BuilderGhosts S T}
     {w : HasherGhosts T} (old mid : MutBor (IterMut K V S Node T g h b w TheImpl.ghosts)) where
   pub step-is_place : (j : ℕ) (stepped : WritingWalk K V S) (taken : Option Node)
@@ -202,7 +202,7 @@ module _ (K V S T : RattleType) (LK : Laws K) (LV : Laws V) (p : EqGhosts K.Deno
     pair_none = λ κs r. refl;
   }
 
-  -- the place that `place` numbers is taken off, which leaves `after`, and its pair is `entry` of what is
+  -- the place with the index `place` is taken off, which leaves `after`; its pair is `entry` of the entries
   -- left
   abbrev pub taken_off : {M : Type 1} {𝓤 : Ura M} (𝓛 : Logic 𝓤) (place : State → ℕ) (after : State → State)
       (entry : List (K.Denot × V.Denot) → Option (K.Denot × V.Denot))

@@ -1,111 +1,62 @@
--- Where a walk that lends values stands, by its places.
+-- The state of a walk that lends values, by its places.
 use Rattle.hashlink_map.proofs.Names
 use Names.{◌≡◌, ◌≢◌, ℕ, zero, suc, ◌+◌, ◌-◌, ◌<◌, ◌≤◌, List, [], ◌∷◌, length, ◌++◌, map, take, Option, None}
 use Names.{Some, refl, ap, ap₂, sym, subst, length-take-le, ◌∙◌, arith, slice_get, OnSome, option_map}
 use Names.{set_value_at, MapState, map_state, with_value, first_of, last_of, Keyed, entries_of, state_of}
 use Names.{pair_with_value, with_value_at, values-renewed_value, length-map, PlacesLeft, WritingWalk}
 use Names.{writing_walk, walk_with, walk_in, walk_rest, WritesSoFar, after_front, last_place, after_back}
-use Names.{StandsIn, following_place, preceding_place, Node, Holds, IsPlace, IsPlaceAt, place_number}
-use Names.{StandsBetween, before-suc, following-within, place_number-renewed, within-holds, slice_get-drop}
+use Names.{StandsIn, Node, Holds, place_number}
+use Names.{place_number-renewed, within-holds, slice_get-drop}
 use Rattle.std.proofs.Common.{drop, add-one, length-drop}
 use Rattle.hashlink_map.specs.WritingWalk.{TakesPlace}
 
--- a place, and what stands for one
+-- a place, and what represents it
 pub same-place : (p : Option Node) → option_map (λ n. n) p ≡ p
 same-place None = refl
 same-place (Some n) = refl
 
-module _ {K V S : Type 0} (m : Keyed K V S) (p : PlacesLeft Node) (stands : StandsIn (λ n. n) m.nodes p)
+module _ {K V S : Type 0} (m : Keyed K V S) (p : PlacesLeft Node) (w : StandsIn (λ n. n) m.nodes p)
     (some : p.left ≢ 0) where
   abbrev ns : List (Node × (K × V))
   ns = m.nodes
 
-  w : StandsBetween m.nodes p.first p.last p.left
-  w = rw (same-place p.first, same-place p.last) at stands
-
-  long : length (entries_of m) ≡ length m.nodes
-  long = length-map m.nodes (λ e. e.1)
-
   -- ---- at the front
-  module _ (n : Node) (is : p.first ≡ Some n) where
-    holds-first : Holds m.nodes n
-    holds-first = within-holds ns n (omega (arith, w.few, ap (place_number ns) is, some))
+  pub first-holds : Holds m.nodes p.first
+  first-holds = within-holds ns p.first (omega (arith, w.few, some))
 
-    pub place-first : IsPlace m.nodes p.first
-    place-first = subst (IsPlace ns) (sym is) holds-first
+  module _ (q : Node) (next : place_number m.nodes (Some q) ≡ place_number m.nodes (Some p.first) + 1) where
+    pub stands-next : StandsIn (λ n. n) m.nodes (record { first = q; last = p.last; left = p.left - 1 })
+    stands-next = record {
+      few = omega (arith, w.few, next, some);
+      ends = λ more. let ends = w.ends (omega (arith, some)) in omega (arith, ends, more, next);
+    }
 
-    module _ (q : Option Node)
-        (next : IsPlaceAt m.nodes q (following_place (length (entries_of m)) (place_number m.nodes p.first)))
-      where
-        number-next : place_number m.nodes q ≡ place_number m.nodes p.first + 1
-        number-next = next.number ∙ following-within (length (entries_of m)) (place_number ns p.first)
-            (omega (arith, w.few, some, long)) ∙ omega arith
-
-        pub stands-next : StandsIn (λ n. n) m.nodes (record { first = q; last = p.last; left = p.left - 1 })
-        stands-next = rw (same-place q, same-place p.last) (record {
-          few = omega (arith, w.few, number-next, some);
-          ends = λ more. let ends = w.ends (omega (arith, some)) in omega (arith, ends, more, number-next);
-        })
-
-        pub takes-first : TakesPlace m (walk_in (λ n. n) m p)
-            (walk_in (λ n. n) m (record { first = q; last = p.last; left = p.left - 1 }))
-            (walk_in (λ n. n) m p).at (after_front (walk_in (λ n. n) m p)) (Some n)
-        takes-first =
-            let first = ap (place_number ns) (same-place p.first) in (
-              holds-first,
-              sym (first ∙ ap (place_number ns) is),
-              omega (arith, some),
-              ap (λ i. writing_walk (state_of m) i (p.left - 1))
-                  (ap (place_number ns) (same-place q) ∙ number-next ∙ ap (λ i. i + 1) (sym first)),
-            )
-
-  pub first-placed : IsPlace m.nodes p.first
-  first-placed = elim p.first as (λ q. p.first ≡ q → IsPlace ns q) [
-    | None ↦ λ is. tt
-    | Some n ↦ λ is. holds-first n is
-  ] refl
+    pub takes-first : TakesPlace m (walk_in (λ n. n) m p)
+        (walk_in (λ n. n) m (record { first = q; last = p.last; left = p.left - 1 }))
+        (walk_in (λ n. n) m p).at (after_front (walk_in (λ n. n) m p)) (Some p.first)
+    takes-first =
+        (first-holds, refl, omega (arith, some), ap (λ i. writing_walk (state_of m) i (p.left - 1)) next)
 
   -- ---- at the back
-  module _ (n : Node) (is : p.last ≡ Some n) where
-    number-last : place_number m.nodes (Some n) ≡ place_number m.nodes p.first + p.left - 1
-    number-last =
-        let ends = w.ends (omega (arith, some)) in omega (arith, ends, ap (place_number ns) is)
+  number-last : place_number m.nodes (Some p.last) ≡ place_number m.nodes (Some p.first) + p.left - 1
+  number-last = let ends = w.ends (omega (arith, some)) in omega (arith, ends)
 
-    holds-last : Holds m.nodes n
-    holds-last = within-holds ns n (omega (arith, w.few, number-last, some))
+  pub last-holds : Holds m.nodes p.last
+  last-holds = within-holds ns p.last (omega (arith, w.few, number-last, some))
 
-    pub place-last : IsPlace m.nodes p.last
-    place-last = subst (IsPlace ns) (sym is) holds-last
+  module _ (q : Node) (prev : 0 < place_number m.nodes (Some p.last)
+      → place_number m.nodes (Some q) + 1 ≡ place_number m.nodes (Some p.last)) where
+    pub stands-prev : StandsIn (λ n. n) m.nodes (record { first = p.first; last = q; left = p.left - 1 })
+    stands-prev = record {
+      few = omega (arith, w.few);
+      ends = λ more. let ends = w.ends (omega (arith, some)) in
+          omega (arith, ends, more, prev (omega (arith, ends, more)));
+    }
 
-    module _ (q : Option Node)
-        (prev : IsPlaceAt m.nodes q (preceding_place (length (entries_of m)) (place_number m.nodes p.last)))
-      where
-        number-prev : 1 < p.left → place_number m.nodes q + 1 ≡ place_number m.nodes p.last
-        number-prev more =
-            let ends = w.ends (omega (arith, some)) in
-            let i = place_number ns p.last in
-            let later : i ≡ suc (i - 1) = omega (arith, ends, more) in
-            let before : place_number ns q ≡ i - 1 =
-            prev.number ∙ ap (preceding_place (length (entries_of m))) later
-            ∙ before-suc (length (entries_of m)) (i - 1) (omega (arith, w.few, ends, long)) in
-            omega (arith, before, later)
-
-        pub stands-prev : StandsIn (λ n. n) m.nodes (record { first = p.first; last = q; left = p.left - 1 })
-        stands-prev = rw (same-place p.first, same-place q) (record {
-          few = omega (arith, w.few);
-          ends = λ more. let ends = w.ends (omega (arith, some)) in
-              omega (arith, ends, more, number-prev (omega (arith, more)));
-        })
-
-        pub takes-last : TakesPlace m (walk_in (λ n. n) m p)
-            (walk_in (λ n. n) m (record { first = p.first; last = q; left = p.left - 1 }))
-            (last_place (walk_in (λ n. n) m p)) (after_back (walk_in (λ n. n) m p)) (Some n)
-        takes-last = (
-          holds-last,
-          number-last ∙ ap (λ i. i + p.left - 1) (sym (ap (place_number ns) (same-place p.first))),
-          omega (arith, some),
-          refl,
-        )
+    pub takes-last : TakesPlace m (walk_in (λ n. n) m p)
+        (walk_in (λ n. n) m (record { first = p.first; last = q; left = p.left - 1 }))
+        (last_place (walk_in (λ n. n) m p)) (after_back (walk_in (λ n. n) m p)) (Some p.last)
+    takes-last = (last-holds, number-last, omega (arith, some), refl)
 
 -- ---- what the walk has left
 module _ {X : Type 0} where
@@ -142,7 +93,7 @@ module _ {K V S : Type 0} where
       let i = place_number m.nodes (Some n) in
       ap₂ (λ es k. writing_walk (map_state es m.spare m.room m.link_writes m.hasher) k p.left)
       (values-renewed_value m.nodes i v)
-      (place_number-renewed (pair_with_value v) m.nodes i (option_map (λ q. q) p.first))
+      (place_number-renewed (pair_with_value v) m.nodes i (Some p.first))
 
   -- at the node that was taken
   pub taken-written : (m : Keyed K V S) (old new : PlacesLeft Node) (n : Node) (j : ℕ)
@@ -172,21 +123,21 @@ module _ {K V S : Type 0} where
       ∙ sym (last-of_part (entries_of m) w.at w.left takes.2
       (omega (arith, stands.few, length-map m.nodes (λ e. e.1))))
 
--- ---- what a caller knows
+-- ---- lemmas for a caller
 pub on-some : {A : Type 0} {r : Option A} {x : A} {P : Type 0} → r ≡ Some x → OnSome r P → P
 on-some {P = P} is told = subst (λ o. OnSome o P) is told
 
 module _ {K V S : Type 0} where
-  -- the map ends as the walk has it
+  -- the map ends as the walk describes it
   pub walk-ends : {m : Keyed K V S} (seen : Keyed K V S) {state : MapState K V S} → m ≡ seen
       → state_of seen ≡ state
       → state_of m ≡ state
   walk-ends seen is told = ap state_of is ∙ told
 
--- ---- a walk that writes each value in turn
+-- ---- a walk that writes each value in sequence
 
 module _ {K V : Type 0} (f : K × V → V) where
-  -- the first i entries with what f makes of them, and the others as they were
+  -- the first i entries with f of them as values, and the others as they were
   abbrev written : ℕ → List (K × V) → List (K × V)
   written i es = map (λ e. (e.0, f e)) (take i es) ++ drop i es
 
@@ -202,7 +153,7 @@ module _ {K V : Type 0} (f : K × V → V) where
   written-next (suc i) [] v is = refl
   written-next (suc i) (e ∷ es) v is = ap (λ l. (e.0, f e) ∷ l) (written-next i es v is)
 
-  -- the walk after a step that lent the next entry's value, where v was written
+  -- the walk after a step that lent the next entry's value, to which v was written
   pub writes-next : {S : Type 0} {old : MapState K V S} {w new : WritingWalk K V S} {v : V}
       → WritesSoFar f old w → 0 < w.left → ((e : K × V) → first_of (walk_rest w) ≡ Some e → v ≡ f e)
       → new ≡ walk_with (after_front w) w.at v

@@ -26,7 +26,7 @@ module _ {K V S T : Type 0} {g : EqGhosts K} {h : HashGhosts K} {b : BuilderGhos
       (values-renewed_value m.nodes (occupied_place o) v)
       (place_number-renewed (pair_with_value v) m.nodes (occupied_place o) (Some (n.node o.node)))
 
-  -- whatever shows that its node still holds the key
+  -- whatever proves that its node still has the key
   pub occupied_with-is : (p : HoldsKey g.eq (with_value_at o.map.now (n.node o.node) v).nodes o.key
       (n.node o.node))
       →

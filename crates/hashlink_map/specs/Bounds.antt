@@ -1,4 +1,4 @@
--- What a clause has of each bound on a parameter of the map.
+-- The names that clauses use for each bound on a parameter of the map.
 pub use Rattle.std.specs.declared.cmp.PartialEq.{Ghosts as EqGhosts}
 pub use Rattle.std.specs.declared.hash.Hash.{Ghosts as HashGhosts}
 pub use Rattle.std.specs.declared.hash.Hasher.{Ghosts as HasherGhosts}

@@ -1,4 +1,4 @@
--- Maps compared, and what they feed a hasher: by their entries alone.
+-- Comparisons of maps, and what a map feeds to a hasher: both depend on its entries only.
 use Rattle.std.specs.Prelude.{◌≡◌, Bool, true, List, Option, Some}
 use Rattle.std.specs.Cmp.{IsEquivalence, IsPartialEquivalence, IsPartialOrder, IsTotalOrder, on_equiv, on_per}
 use Rattle.std.specs.Cmp.{on_po, on_total, partial_equiv_from_equiv}

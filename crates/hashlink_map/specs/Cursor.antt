@@ -1,4 +1,4 @@
--- What a contract sees of a cursor.
+-- Cursors, as contracts see them.
 use Rattle.std.specs.Prelude.{◌≡◌, ℕ, Option}
 use Rattle.std.specs.Borrow.{Bor, MutBor}
 use Rattle.std.specs.Option.{option_map}
@@ -8,11 +8,11 @@ use Rattle.hashlink_core.specs.Places.{Node, IsPlaceAt, place_number}
 use Rattle.hashlink_core.specs.Keyed.{Keyed, state_of}
 use Rattle.hashlink_map.specs.declared.cursor.CursorMut.{CursorMut}
 
--- the pair behind a key that is lent beside its value
+-- the pair behind a reference to a key and one to its value
 abbrev pub lent_pair : {K V : Type 0} → Bor K × MutBor V → K × V
 lent_pair p = (p.0.now, p.1.now)
 
--- the pair at the place i is lent, and none at the guard
+-- the pair at the place i is lent; at the guard, none is
 abbrev pub LentAt : {K V S : Type 0} → CursorState K V S → ℕ → Option (Bor K × MutBor V) → Type 0
 LentAt c i r = option_map lent_pair r ≡ entry_in c i
 
@@ -23,15 +23,15 @@ module _ {K V S T : Type 0} {g : EqGhosts K} {h : HashGhosts K} {b : BuilderGhos
   abbrev pub cursor_map : CursorMut K V S N T g h b w n → MutBor (Keyed K V S)
   cursor_map c = c.map
 
-  -- its place: a node, or none for the guard
+  -- its place: a node, or `None` for the guard
   abbrev pub cursor_node : CursorMut K V S N T g h b w n → Option Node
   cursor_node c = option_map n.node c.place
 
-  -- its map, and the number of its place
+  -- its map, and the index of its place
   abbrev pub cursor_state : CursorMut K V S N T g h b w n → CursorState K V S
   cursor_state c = record { map = state_of c.map.now; place = place_number c.map.now.nodes (cursor_node c) }
 
-  -- the cursor itself, and a place of its map, which has the number i
+  -- the cursor itself is returned, and the place of its map with the index i
   abbrev pub TakesPlace : MutBor (CursorMut K V S N T g h b w n) → ℕ
       → MutBor (CursorMut K V S N T g h b w n) × Option Node
       → Type 0

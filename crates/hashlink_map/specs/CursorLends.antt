@@ -1,4 +1,4 @@
--- What a cursor ends as, once a `&mut` to a value that came through it has ended.
+-- A cursor, after a `&mut` to a value that it lent has ended.
 use Rattle.std.specs.Prelude.{◌≡◌, ℕ, [], Option, Some, OnSome}
 use Rattle.std.specs.Borrow.{Fml, RattleType, Bor, MutBor, Lends, LendsSo, follows_so, name_if_some}
 use mir.Syntax.{named}
@@ -26,8 +26,8 @@ module _ {K V S T : Type 0} {g : EqGhosts K} {h : HashGhosts K} {b : BuilderGhos
 module _ (K V S T : RattleType) {g : EqGhosts K.Denot} {h : HashGhosts K.Denot}
     {b : BuilderGhosts S.Denot T.Denot}
     {w : HasherGhosts T.Denot} {n : NodeGhosts Node} where
-  -- the cursor with what was written at the place i, and at the guard as it was. Its lifetime is the second
-  -- of the signature
+  -- the cursor ends with the written value at the place i, or at the guard as it was. Its lifetime is the
+  -- second of the signature
   abbrev pub LendsFromCursor : MutBor (CursorMut K.Denot V.Denot S.Denot Node T.Denot g h b w n) → ℕ
       → Option (MutBor V.Denot)
       → Fml
@@ -37,7 +37,7 @@ module _ (K V S T : RattleType) {g : EqGhosts K.Denot} {h : HashGhosts K.Denot}
       (λ new. ((cursor_map new).ghost_name ≡ (cursor_map c.now).ghost_name)
       × ((cursor_map new).now ≡ (cursor_map c.now).now) × (cursor_state new ≡ cursor_state c.now))
 
-  -- the same of a key that is lent beside its value
+  -- the same for a value that is lent together with its key
   abbrev pub LendsPairFromCursor : MutBor (CursorMut K.Denot V.Denot S.Denot Node T.Denot g h b w n) → ℕ
       → Option (Bor K.Denot × MutBor V.Denot)
       → Fml
@@ -49,7 +49,7 @@ module _ (K V S T : RattleType) {g : EqGhosts K.Denot} {h : HashGhosts K.Denot}
       (λ new. ((cursor_map new).ghost_name ≡ (cursor_map c.now).ghost_name)
       × ((cursor_map new).now ≡ (cursor_map c.now).now) × (cursor_state new ≡ cursor_state c.now))
 
-  -- the same at the next place, and at the one before
+  -- the same at the next place, and at the previous one
   abbrev pub LendsNextPair : MutBor (CursorMut K.Denot V.Denot S.Denot Node T.Denot g h b w n)
       → Option (Bor K.Denot × MutBor V.Denot)
       → Fml
@@ -60,7 +60,7 @@ module _ (K V S T : RattleType) {g : EqGhosts K.Denot} {h : HashGhosts K.Denot}
       → Fml
   LendsPreviousPair c r = LendsPairFromCursor c (place_previous (cursor_state c.now)) r
 
-  -- the cursor with what was written as the value of the node
+  -- the cursor ends with the written value at the node
   abbrev pub LendsAtCursorNode : MutBor (CursorMut K.Denot V.Denot S.Denot Node T.Denot g h b w n) → Node
       → MutBor V.Denot
       → Fml

@@ -1,4 +1,4 @@
--- What a contract sees of a drain.
+-- Drains, as contracts see them.
 use Rattle.std.specs.Prelude.{◌≡◌, List, Option}
 use Rattle.std.specs.Borrow.{MutBor}
 use Rattle.std.specs.Map.Iter.{TakesFirst, TakesLast}
@@ -11,7 +11,7 @@ use Rattle.hashlink_map.specs.declared.drain.Drain.{Drain}
 module _ {K V S T : Type 0} {g : EqGhosts K} {h : HashGhosts K} {b : BuilderGhosts S T}
     {w : HasherGhosts T}
     {D : Type 0} {d : DrainedGhosts D K V} where
-  -- the map that it borrows, with the nodes that were taken out as its own
+  -- the map that it borrows, as if the nodes that were taken out still belonged to it
   abbrev pub drained_map : Drain K V S D T g h b w d → MutBor (Keyed K V S)
   drained_map i = record i.map { now = with_drained i.map.now (d.drained i.drained) }
 

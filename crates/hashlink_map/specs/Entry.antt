@@ -1,4 +1,4 @@
--- What a contract sees of an entry with its key in hand.
+-- Entries with a given key, as contracts see them.
 use Rattle.std.specs.Prelude.{◌≡◌, ℕ, Option, Some, None, MatchOption, option_and_then}
 use Rattle.std.specs.Borrow.{MutBor}
 use Rattle.std.specs.Fn.{Once, FnOnceReturnsAtMut}
@@ -15,11 +15,11 @@ use Rattle.hashlink_map.specs.declared.entry.occupied.OccupiedEntry.{OccupiedEnt
 use Rattle.hashlink_map.specs.declared.entry.vacant.VacantEntry.{VacantEntry}
 
 module _ {K V S : Type 0} where
-  -- the value at the place, none where there is no entry
+  -- the value at the place, or `None` if there is no entry
   abbrev pub entry_value : EntryState K V S → Option V
   entry_value e = option_and_then (value_at e.map.entries) e.place
 
-  -- what a call of f at the value left there: a vacant entry stays as it is, and f is not called
+  -- f was called on the value, which it changed to w; a vacant entry stays as it is, and f is not called
   abbrev pub Modifies : {F : Type 0} → Once F (MutBor V × Unit {0}) (Unit {0} × (MutBor V × Unit {0})) → F
       → EntryState K V S → EntryState K V S
       → Type 0
@@ -30,21 +30,21 @@ module _ {K V S : Type 0} where
 
 module _ {K V S T : Type 0} {g : EqGhosts K} {h : HashGhosts K} {b : BuilderGhosts S T}
     {w : HasherGhosts T} where
-  -- ---- an occupied entry, which keeps its node as what stands for one
+  -- ---- an occupied entry, whose node is of a type that represents nodes
 
   module _ {N : Type 0} {n : NodeGhosts N} where
     -- the map that it borrows
     abbrev pub occupied_map : OccupiedEntry K V S N T g h b w n → MutBor (Keyed K V S)
     occupied_map o = o.map
 
-    -- the number of its place
+    -- the index of its place
     abbrev pub occupied_place : OccupiedEntry K V S N T g h b w n → ℕ
     occupied_place o = place_number o.map.now.nodes (Some (n.node o.node))
 
     abbrev pub occupied_state : OccupiedEntry K V S N T g h b w n → EntryState K V S
     occupied_state o = record { map = state_of o.map.now; place = Some (occupied_place o); key = o.key }
 
-    -- the same key in hand, at the place p of the map as it is now
+    -- the same given key, at the place p of the map as it is now
     abbrev pub StandsAt : OccupiedEntry K V S N T g h b w n → OccupiedEntry K V S N T g h b w n → ℕ → Type 0
     StandsAt old new p =
         occupied_state new ≡ record (occupied_state old) { map = (occupied_state new).map; place = Some p }
@@ -71,7 +71,7 @@ module _ {K V S T : Type 0} {g : EqGhosts K} {h : HashGhosts K} {b : BuilderGhos
   abbrev pub vacant_state : VacantEntry K V S T g h b w → EntryState K V S
   vacant_state e = record { map = state_of e.map.now; place = None; key = e.key }
 
-  -- ---- either
+  -- ---- either of them
 
   abbrev pub entry_map : Entry K V S T g h b w → MutBor (Keyed K V S)
   entry_map (Occupied o) = occupied_map o

@@ -1,4 +1,4 @@
--- What a map or an entry ends as, once a `&mut` to a value that came through an entry has ended.
+-- A map or an entry, after a `&mut` to a value that was lent through an entry has ended.
 use Rattle.std.specs.Prelude.{[], length, Bool, Result, Ok, IfErr}
 use Rattle.std.specs.Borrow.{Fml, RattleType, MutBor, Lends, LendsSoOk}
 use mir.Syntax.{named}
@@ -17,7 +17,7 @@ use Rattle.hashlink_map.specs.declared.try_insert_error.TryInsertError.{TryInser
 use Rattle.hashlink_map.specs.Entry.{occupied_with, entry_map, entry_state}
 use Rattle.hashlink_map.specs.TryInsert.{FailsToInsert}
 
--- an insert's step at the end: a key that was there moved there, and an absent one went in
+-- the step of an insert at the end: a present key moved there, and an absent one was added there
 abbrev pub PutsLast : {K V S : Type 0} → (K → K → Bool) → MapState K V S → MapState K V S → K → V → Type 0
 PutsLast eq old new k v = Inserts eq old new k v (length old.entries) (Ok (lookup (eq k) old.entries))
 
@@ -25,7 +25,7 @@ module _ (K V S T : RattleType) {g : EqGhosts K.Denot} {h : HashGhosts K.Denot}
     {b : BuilderGhosts S.Denot T.Denot}
     {w : HasherGhosts T.Denot} where
   module _ {n : NodeGhosts Node} where
-    -- the entry with what was written as its value. Its lifetime is the second of the signature
+    -- the entry ends with the written value. Its lifetime is the second of the signature
     abbrev pub LendsFromOccupied : MutBor (OccupiedEntry K.Denot V.Denot S.Denot Node T.Denot g h b w n)
         → MutBor V.Denot
         → Fml
@@ -34,11 +34,11 @@ module _ (K V S T : RattleType) {g : EqGhosts K.Denot} {h : HashGhosts K.Denot}
         (occupied_with o.now)
 
   module _ {N : Type 0} {n : NodeGhosts N} where
-    -- the map with what was written as the entry's value
+    -- the map ends with the written value at the entry's place
     abbrev pub LendsForGood : OccupiedEntry K.Denot V.Denot S.Denot N T.Denot g h b w n → MutBor V.Denot → Fml
     LendsForGood o r = Lends (the_row K V S T g h b w) V o.map r (with_value_at o.map.now (n.node o.node))
 
-    -- the map as an insert at the end of what was written leaves it
+    -- the map ends as an insert of the written value at the end leaves it
     abbrev pub LendsLast : {E : Type 0} → OccupiedEntry K.Denot V.Denot S.Denot N T.Denot g h b w n
         → Result (MutBor V.Denot) E
         → Fml
@@ -46,7 +46,7 @@ module _ (K V S T : RattleType) {g : EqGhosts K.Denot} {h : HashGhosts K.Denot}
         LendsSoOk (the_row K V S T g h b w) V o.map r
         (λ new u. PutsLast g.eq (state_of o.map.now) (state_of new) o.key u) (λ _. ⊥)
 
-  -- the map with the key in hand and what was written put last, or as a refusal leaves it
+  -- the map ends with the given key and the written value put last, or as a refusal leaves it
   abbrev pub LendsNew : VacantEntry K.Denot V.Denot S.Denot T.Denot g h b w → V.Denot
       → Result (MutBor V.Denot) (K.Denot × V.Denot)
       → Fml
@@ -55,7 +55,7 @@ module _ (K V S T : RattleType) {g : EqGhosts K.Denot} {h : HashGhosts K.Denot}
       (λ new u. AddsEntry g.eq (state_of e.map.now) (state_of new) e.key u (length (entries_of e.map.now)))
       (λ new. IfErr r (RefusesEntry g.eq (state_of e.map.now) (state_of new) e.key v))
 
-  -- the same where the value may not have been made
+  -- the same if the value was made; else the map ends as it was
   abbrev pub LendsTryNew : {E : Type 0} → VacantEntry K.Denot V.Denot S.Denot T.Denot g h b w
       → Result (MutBor V.Denot) (TryInsertError K.Denot V.Denot E)
       → Fml
@@ -64,7 +64,7 @@ module _ (K V S T : RattleType) {g : EqGhosts K.Denot} {h : HashGhosts K.Denot}
       (λ new u. AddsEntry g.eq (state_of e.map.now) (state_of new) e.key u (length (entries_of e.map.now)))
       (λ new. IfErr r (FailsToInsert g.eq (state_of e.map.now) (state_of new) e.key))
 
-  -- the map as an insert at the end of what was written leaves it, or a refusal of what was to go in
+  -- the map ends as an insert of the written value at the end leaves it, or as a refusal of the new pair does
   abbrev pub LendsOrNew : Entry K.Denot V.Denot S.Denot T.Denot g h b w
       → Result (MutBor V.Denot) (K.Denot × V.Denot)
       → Fml
@@ -74,7 +74,7 @@ module _ (K V S T : RattleType) {g : EqGhosts K.Denot} {h : HashGhosts K.Denot}
       (λ new. IfErr r (λ pair. RefusesEntry g.eq (entry_state e).map (state_of new)
       (entry_state e).key pair.1 pair))
 
-  -- the same where what makes the value may fail
+  -- the same if making the value may fail
   abbrev pub LendsOrTryNew : {E : Type 0} → Entry K.Denot V.Denot S.Denot T.Denot g h b w
       → Result (MutBor V.Denot) (TryInsertError K.Denot V.Denot E)
       → Fml

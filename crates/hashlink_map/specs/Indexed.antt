@@ -1,4 +1,4 @@
--- What a map ends as, once a `&mut` to the value of a key that is there has ended.
+-- A map, after a `&mut` to the value of a present key has ended.
 use Rattle.std.specs.Prelude.{Bool, IsSome}
 use Rattle.std.specs.Borrow.{Fml, RattleType, MutBor, Lends}
 use Rattle.std.specs.Map.{lookup}
@@ -10,16 +10,16 @@ use Rattle.hashlink_core.specs.Places.{renewed_at}
 use Rattle.hashlink_map.specs.Lends.{map_row}
 
 module _ {K V S : Type 0} (eq : K → K → Bool) where
-  -- the key is there
+  -- the key is present
   abbrev pub HasKey : Keyed K V S → K → Type 0
   HasKey m k = IsSome (lookup (eq k) (entries_of m))
 
-  -- the map with w as the value of a key that is there
+  -- the map with w as the value of a present key
   abbrev pub with_value_at_key : Keyed K V S → K → V → Keyed K V S
   with_value_at_key m k w =
       record m { nodes = renewed_at (pair_with_value w) m.nodes (place_or_end eq (entries_of m) k) }
 
--- the value of a key that is there is lent: the map ends with what was written there
+-- the value of a present key is lent: the map ends with the written value there
 abbrev pub LendsIndexed : (K V S T : RattleType) (g : HashMembers K.Denot) → BuilderGhosts S.Denot T.Denot
     → HasherGhosts T.Denot → MutBor (Keyed K.Denot V.Denot S.Denot) → K.Denot → MutBor V.Denot → Fml
 LendsIndexed K V S T g b w m k r = Lends (map_row K V S T g b w) V m r (with_value_at_key g.eq m.now k)

@@ -1,4 +1,4 @@
--- What a map ends as, once the value of a key that was inserted by its key has ended.
+-- A map, after a `&mut` to the value of a key that was put last has ended.
 use Rattle.std.specs.Prelude.{Result, IfErr}
 use Rattle.std.specs.Borrow.{Fml, RattleType, MutBor, LendsSoOk}
 use Rattle.hashlink_map.specs.Bounds.{HasherGhosts, BuilderGhosts}
@@ -10,7 +10,7 @@ use Rattle.hashlink_map.specs.Lends.{map_row}
 
 module _ (K V S T : RattleType) (g : HashMembers K.Denot) (b : BuilderGhosts S.Denot T.Denot)
     (w : HasherGhosts T.Denot) where
-  -- the value of a key that is put last is lent: the map ends as an insert at the end of what was written
+  -- the value of a key that is put last is lent. The map ends as an insert of the written value at the end
   -- leaves it, or as a refusal of the pair does
   abbrev pub LendsPutLast : MutBor (Keyed K.Denot V.Denot S.Denot) → K.Denot
       → Result (MutBor V.Denot) (K.Denot × V.Denot)

@@ -1,4 +1,4 @@
--- What a contract sees of the walks that lend values for writing, with the keys and without.
+-- Iterators that lend values for writing, with the keys and without, as contracts see them.
 use Rattle.std.specs.Borrow.{MutBor}
 use Rattle.hashlink_map.specs.Bounds.{EqGhosts, HashGhosts, HasherGhosts, BuilderGhosts, NodeGhosts}
 use Rattle.hashlink_core.specs.Keyed.{Keyed}
@@ -16,7 +16,7 @@ module _ {K V S T : Type 0} {g : EqGhosts K} {h : HashGhosts K} {b : BuilderGhos
   abbrev pub walk_state : IterMut K V S N T g h b w n → WritingWalk K V S
   walk_state i = walk_in n.node i.map.now i.places
 
-  -- the same of the walk over the values alone
+  -- the same for the walk over the values only
   abbrev pub values_map : ValuesMut K V S N T g h b w n → MutBor (Keyed K V S)
   values_map i = i.map
 

@@ -1,4 +1,4 @@
--- What a walk ends as, once a `&mut` to a value that came through it has ended.
+-- An iterator, after a `&mut` to a value that it lent has ended.
 use Rattle.std.specs.Prelude.{◌≡◌, ℕ, ◌-◌, [], Option, None, Some, OnSome, IfNone, MatchOption, slice_get}
 use Rattle.std.specs.Borrow.{Fml, RattleType, Bor, MutBor, Lends, LendsSo, follows_so, name_if_some}
 use Rattle.std.specs.Option.{option_map, option_copied_mut}
@@ -24,19 +24,18 @@ module _ {W K V S : Type 0} (map : W → MutBor (Keyed K V S)) (state : W → Wr
   StepsAndWrites old new stepped j v =
       ((map new).ghost_name ≡ (map old).ghost_name) × (state new ≡ walk_with stepped j v)
 
-  -- one entry fewer is left; and where r is a value that was lent, the walk is `stepped`, with v written at
-  -- the place j
+  -- one entry fewer is left; and if r lent a value, the walk is `stepped`, with v written at the place j
   abbrev pub StepsBy : {A : Type 0} → Option A → W → W → WritingWalk K V S → ℕ → V → Type 0
   StepsBy r old new stepped j v =
       OnSome r (StepsAndWrites old new stepped j v) × ((state new).left ≡ (state old).left - 1)
 
-  -- the same walk, as it was
+  -- the walk is the same and as it was
   abbrev pub StaysThere : W → W → Type 0
   StaysThere old new =
       ((map new).ghost_name ≡ (map old).ghost_name) × ((map new).now ≡ (map old).now)
       × (state new ≡ state old)
 
-  -- a place was taken off what is left: the walk itself, `stepped`, and the place, which is j
+  -- a place was taken off: the walk itself is returned, which is now `stepped`, and the place, which is j
   pub record TakesOff (old : MutBor W) (j : ℕ) (stepped : WritingWalk K V S) (new : MutBor W)
       (taken : Option Node) : Type 0 where
     pub same_walk : new.ghost_name ≡ old.ghost_name
@@ -44,14 +43,14 @@ module _ {W K V S : Type 0} (map : W → MutBor (Keyed K V S)) (state : W → Wr
     pub unchanged : (map new.now).now ≡ (map old.now).now
     pub takes : TakesPlace (map old.now).now (state old.now) (state new.now) j stepped taken
 
--- the pair of the place is lent, and none where none was taken
+-- the pair of the place is lent, or none if no place was taken
 abbrev pub LentFrom : {K V S : Type 0} → Keyed K V S → Option Node → Option (Bor K × MutBor V) → Type 0
 LentFrom {K} {V} m taken r =
     MatchOption taken (r ≡ None)
     (λ n. (p : Bor K × MutBor V) × (r ≡ Some p)
     × (slice_get (entries_of m) (place_number m.nodes (Some n)) ≡ Some (lent_pair p)))
 
--- the value of the entry is lent, and none where there is no entry
+-- the value of the entry is lent, or none if there is no entry
 abbrev pub LentValue : {K V : Type 0} → Option (K × V) → Option (MutBor V) → Type 0
 LentValue e r = option_copied_mut r ≡ option_map (λ e. e.1) e
 
@@ -70,8 +69,8 @@ module _ {K V S T : Type 0} {g : EqGhosts K} {h : HashGhosts K} {b : BuilderGhos
 module _ (K V S T : RattleType) {g : EqGhosts K.Denot} {h : HashGhosts K.Denot}
     {b : BuilderGhosts S.Denot T.Denot}
     {w : HasherGhosts T.Denot} {n : NodeGhosts Node} where
-  -- the walk is `stepped`, with what was written at the place j; where none was left it is as it was. Its
-  -- lifetime is the second of the signature
+  -- the walk ends as `stepped`, with the written value at the place j; if none was left, it ends as it was.
+  -- Its lifetime is the second of the signature
   abbrev pub LendsFromWalk : MutBor (IterMut K.Denot V.Denot S.Denot Node T.Denot g h b w n)
       → WritingWalk K.Denot V.Denot S.Denot → ℕ → Option (MutBor V.Denot)
       → Fml
@@ -80,7 +79,7 @@ module _ (K V S T : RattleType) {g : EqGhosts K.Denot} {h : HashGhosts K.Denot}
       (λ new v. StepsBy walk_map walk_state r i.now new stepped j v)
       (λ new. IfNone r (StaysThere walk_map walk_state i.now new))
 
-  -- the first place that is left is taken off, and lent; and so the last one
+  -- the first place left is taken off, and its value lent; then the same for the last place
   abbrev pub LendsFirst : MutBor (IterMut K.Denot V.Denot S.Denot Node T.Denot g h b w n)
       → Option (MutBor V.Denot)
       → Fml
@@ -91,7 +90,7 @@ module _ (K V S T : RattleType) {g : EqGhosts K.Denot} {h : HashGhosts K.Denot}
       → Fml
   LendsLast i r = LendsFromWalk i (after_back (walk_state i.now)) (last_place (walk_state i.now)) r
 
-  -- the same of the walk over the values alone
+  -- the same for the walk over the values only
   abbrev pub LendsFromValues : MutBor (ValuesMut K.Denot V.Denot S.Denot Node T.Denot g h b w n)
       → WritingWalk K.Denot V.Denot S.Denot → ℕ → Option (MutBor V.Denot)
       → Fml
@@ -111,7 +110,7 @@ module _ (K V S T : RattleType) {g : EqGhosts K.Denot} {h : HashGhosts K.Denot}
   LendsLastValue i r =
       LendsFromValues i (after_back (values_state i.now)) (last_place (values_state i.now)) r
 
-  -- the walk with what was written as the value of the node
+  -- the walk ends with the written value at the node
   abbrev pub LendsAtWalkNode : MutBor (IterMut K.Denot V.Denot S.Denot Node T.Denot g h b w n)
       → Node → MutBor V.Denot
       → Fml
@@ -119,7 +118,7 @@ module _ (K V S T : RattleType) {g : EqGhosts K.Denot} {h : HashGhosts K.Denot}
       Lends (walk.the_row (record { mir = named 1; lft = [] }) K V S node_row T g h b w n) V i r
       (walk_with_value i.now at)
 
-  -- the walk with what was written at the place j, where a pair of it is lent, and else as it was
+  -- the walk ends with the written value at the place j if a pair of it is lent, and else as it was
   abbrev pub LendsPairThere : MutBor (IterMut K.Denot V.Denot S.Denot Node T.Denot g h b w n) → ℕ
       → Option (Bor K.Denot × MutBor V.Denot)
       → Fml
@@ -129,7 +128,7 @@ module _ (K V S T : RattleType) {g : EqGhosts K.Denot} {h : HashGhosts K.Denot}
       (λ v new. OnSome r (StepsAndWrites walk_map walk_state i.now new (walk_state i.now) j v))
       (λ new. StaysThere walk_map walk_state i.now new)
 
-  -- `LendsFromWalk` of a key that is lent beside its value
+  -- `LendsFromWalk` for a value that is lent together with its key
   abbrev pub LendsPairFromWalk : MutBor (IterMut K.Denot V.Denot S.Denot Node T.Denot g h b w n)
       → WritingWalk K.Denot V.Denot S.Denot → ℕ → Option (Bor K.Denot × MutBor V.Denot)
       → Fml

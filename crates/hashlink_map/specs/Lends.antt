@@ -1,4 +1,4 @@
--- What a map ends as, once a `&mut` to a value has ended.
+-- A map, after a `&mut` to one of its values has ended.
 use Rattle.std.specs.Prelude.{◌≡◌, ℕ, ◌-◌, Bool, Option, OnSome, length, ⊤}
 use Rattle.std.specs.Borrow.{Fml, RattleType, MutBor, Lends, LendsSo, follows_so}
 use mathlib.Core.Option.{none}
@@ -19,11 +19,11 @@ module _ (K V S T : RattleType) (g : HashMembers K.Denot) (b : BuilderGhosts S.D
   abbrev pub StaysAsItWas : MutBor (Keyed K.Denot V.Denot S.Denot) → Fml
   StaysAsItWas m = follows_so map_row map_row m.ghost_name none (λ _ _. ⊤) (λ new. new ≡ m.now)
 
-  -- the value of the node is lent: the map ends with what was written there
+  -- the value of the node is lent: the map ends with the written value there
   abbrev pub LendsAtNode : MutBor (Keyed K.Denot V.Denot S.Denot) → Node → MutBor V.Denot → Fml
   LendsAtNode m n r = Lends map_row V m r (with_value_at m.now n)
 
-  -- the last value is lent: the map ends with what was written there, and where there is none as it was
+  -- the last value is lent: the map ends with the written value there, or as it was if it is empty
   abbrev pub LendsLastValue : MutBor (Keyed K.Denot V.Denot S.Denot) → Option (MutBor V.Denot) → Fml
   LendsLastValue m r =
       LendsSo map_row V m r
@@ -31,16 +31,16 @@ module _ (K V S T : RattleType) (g : HashMembers K.Denot) (b : BuilderGhosts S.D
       (λ new. state_of new ≡ state_of m.now)
 
   module _ (m : MutBor (Keyed K.Denot V.Denot S.Denot)) (test : K.Denot → Bool) where
-    -- the value of the first key that passes is lent: the map ends with what was written there, and where
-    -- none passes as it was
+    -- the value of the first key that passes is lent: the map ends with the written value there, or as it was
+    -- if none passes
     abbrev pub LendsValueOf : Option (MutBor V.Denot) → Fml
     LendsValueOf r =
         LendsSo map_row V m r
         (λ new v. state_of new ≡ with_match_value test (state_of m.now) v)
         (λ new. state_of new ≡ state_of m.now)
 
-    -- it moved to the place p, and its value is lent: the map ends with what was written there, and where
-    -- none passes as it was
+    -- its entry moved to the place p, and its value is lent: the map ends with the written value there, or as
+    -- it was if none passes
     abbrev pub LendsMoved : ℕ → Option (MutBor V.Denot) → Fml
     LendsMoved p r =
         LendsSo map_row V m r

@@ -1,4 +1,4 @@
--- What the contracts of the map cite, beside `hashlink_model`.
+-- The definitions that the contracts of the map use, besides those of `hashlink_model`.
 pub mod Bounds
 pub mod Cloning
 pub mod Compared

@@ -1,4 +1,4 @@
--- What a contract sees of a raw entry, and what its caller may have to promise.
+-- Raw entries, as contracts see them, and the conditions that their callers may have to meet.
 use Rattle.std.specs.Prelude.{◌≡◌, ℕ, Option, None, Some, MatchOption, slice_get, option_and_then}
 use Rattle.std.specs.Borrow.{Bor, MutBor}
 use Rattle.std.specs.Fn.{Shared, Once}
@@ -16,18 +16,19 @@ use Rattle.hashlink_map.specs.declared.raw_entry.RawEntryMut.TheVariants.{Occupi
 use Rattle.hashlink_map.specs.declared.raw_entry.occupied.RawOccupiedEntryMut.{RawOccupiedEntryMut}
 use Rattle.hashlink_map.specs.declared.raw_entry.vacant.RawVacantEntryMut.{RawVacantEntryMut}
 
--- the hasher may be called on the key, and answers its hash
+-- the hasher may be called on the key, and returns its hash
 pub record Hashes {K F : Type 0} (calls : Shared F (Bor K × Unit {0}) ℕ) (hash : K → ℕ) (hasher : F) (k : K)
     : Type 0 where
   pub callable : (x : Bor K) → x.now ≡ k → calls.pre hasher (x, tt)
   pub answers : (x : Bor K) (answer : ℕ) → x.now ≡ k → calls.post hasher (x, tt) answer → answer ≡ hash k
 
 module _ {K V S : Type 0} where
-  -- the pair at the place, none where there is no entry
+  -- the pair at the place, or `None` if there is no entry
   abbrev pub raw_pair : RawEntryState K V S → Option (K × V)
   raw_pair r = option_and_then (slice_get r.map.entries) r.place
 
-  -- what a call of f at the key and the value left there: a vacant entry stays as it is, and f is not called
+  -- f was called on the key and the value, which it changed to w; a vacant entry stays as it is, and f is not
+  -- called
   abbrev pub RawModifies : {F : Type 0}
       → Once F (Bor K × (MutBor V × Unit {0})) (Unit {0} × (MutBor V × Unit {0})) → F
       → RawEntryState K V S → RawEntryState K V S
@@ -55,14 +56,14 @@ module _ {K V S T : Type 0} where
 
 module _ {K V S T : Type 0} {g : EqGhosts K} {h : HashGhosts K} {b : BuilderGhosts S T}
     {w : HasherGhosts T} where
-  -- ---- an occupied entry, which keeps its node as what stands for one
+  -- ---- an occupied entry, whose node is of a type that represents nodes
 
   module _ {N : Type 0} {n : NodeGhosts N} where
     -- the map that it borrows
     abbrev pub raw_occupied_map : RawOccupiedEntryMut K V S N T g h b w n → MutBor (Keyed K V S)
     raw_occupied_map o = o.map
 
-    -- the number of its place
+    -- the index of its place
     abbrev pub raw_place : RawOccupiedEntryMut K V S N T g h b w n → ℕ
     raw_place o = place_number o.map.now.nodes (Some (n.node o.node))
 
@@ -86,7 +87,7 @@ module _ {K V S T : Type 0} {g : EqGhosts K} {h : HashGhosts K} {b : BuilderGhos
         raw_occupied_state new
         ≡ record (raw_occupied_state old) { map = with_value (raw_occupied_state old).map (raw_place old) v }
 
-  -- ---- either
+  -- ---- either of them
 
   abbrev pub raw_map : RawEntryMut K V S T g h b w → MutBor (Keyed K V S)
   raw_map (Occupied o) = raw_occupied_map o

@@ -1,4 +1,4 @@
--- What a map or a raw entry ends as, once what came through a raw entry has ended.
+-- A map or a raw entry, after a loan through a raw entry has ended.
 use Rattle.std.specs.Prelude.{◌≡◌, ◌-◌, Bool, [], Option, Some, MatchOption, length, slice_get, Result, Ok}
 use Rattle.std.specs.Prelude.{Err, IfOk, IfErr, ⊤}
 use Rattle.std.specs.Borrow.{Fml, ftrue, RattleType, Bor, MutBor, Lends, RestsIfNone, RestsIfErr, follows_so}
@@ -20,7 +20,8 @@ use Rattle.hashlink_map.specs.EntryLends.{PutsLast}
 use Rattle.hashlink_map.specs.Lends.{map_row}
 use Rattle.hashlink_map.specs.RawEntry.{raw_occupied_map, raw_with, raw_map, raw_state}
 
--- what was found is of a given pair that went last, or of the pair that stood there and moved to the end
+-- the entry found is that of a given pair that was put last, or that of a pair that moved from its place to
+-- the end
 abbrev pub StandsLast : {K V S : Type 0} → (K → K → Bool) → RawEntryState K V S → (K × V → Type 0)
     → RawEntryState K V S
     → Type 0
@@ -36,7 +37,7 @@ module _ (K V S T : RattleType) {g : EqGhosts K.Denot} {h : HashGhosts K.Denot}
     {b : BuilderGhosts S.Denot T.Denot}
     {w : HasherGhosts T.Denot} where
   module _ {n : NodeGhosts Node} where
-    -- the entry with what was written as its value. Its lifetime is the second of the signature
+    -- the entry ends with the written value. Its lifetime is the second of the signature
     abbrev pub LendsFromRaw : MutBor (RawOccupiedEntryMut K.Denot V.Denot S.Denot Node T.Denot g h b w n)
         → MutBor V.Denot
         → Fml
@@ -44,14 +45,14 @@ module _ (K V S T : RattleType) {g : EqGhosts K.Denot} {h : HashGhosts K.Denot}
         Lends (occupied.the_row (record { mir = named 1; lft = [] }) K V S node_row T g h b w n) V o r
         (raw_with o.now)
 
-    -- the entry, where there is one, ends the map, which else stays as it was
+    -- the map ends as the entry leaves it, or as it was if there is no entry
     abbrev pub HandsOnOccupied : MutBor (Keyed K.Denot V.Denot S.Denot)
         → Option (RawOccupiedEntryMut K.Denot V.Denot S.Denot Node T.Denot g h b w n)
         → Fml
     HandsOnOccupied m r =
         RestsIfNone (the_row K V S T g h b w) m (λ o. (raw_occupied_map o).ghost_name) r (λ new. new ≡ m.now)
 
-    -- the new entry ends the map, or the map ends as a refusal leaves it
+    -- the map ends as the new entry leaves it, or as a refusal does
     abbrev pub HandsOnNew : MutBor (Keyed K.Denot V.Denot S.Denot) → K.Denot → V.Denot
         → Result (RawOccupiedEntryMut K.Denot V.Denot S.Denot Node T.Denot g h b w n) (K.Denot × V.Denot)
         → Fml
@@ -59,7 +60,7 @@ module _ (K V S T : RattleType) {g : EqGhosts K.Denot} {h : HashGhosts K.Denot}
         RestsIfErr (the_row K V S T g h b w) m (λ o. (raw_occupied_map o).ghost_name) r
         (λ new. IfErr r (RefusesEntry g.eq (state_of m.now) (state_of new) k v))
 
-    -- the same where the entry is of a pair that went last or moved there
+    -- the same if the entry is that of a pair that was put last or moved there
     abbrev pub HandsOnLast : RawEntryMut K.Denot V.Denot S.Denot T.Denot g h b w
         → Result (RawOccupiedEntryMut K.Denot V.Denot S.Denot Node T.Denot g h b w n) (K.Denot × V.Denot)
         → Fml
@@ -67,8 +68,8 @@ module _ (K V S T : RattleType) {g : EqGhosts K.Denot} {h : HashGhosts K.Denot}
         RestsIfErr (the_row K V S T g h b w) (raw_map e) (λ o. (raw_occupied_map o).ghost_name) r
         (λ new. IfErr r (λ pair. RefusesEntry g.eq (raw_state e).map (state_of new) pair.0 pair.1 pair))
 
-  -- the map as an insert of the key that is lent and what was written leaves it, at the end, or as a refusal
-  -- leaves it
+  -- the map ends as an insert of the lent key and the written value at the end leaves it, or as a refusal
+  -- does
   abbrev pub LendsLastPair : RawEntryMut K.Denot V.Denot S.Denot T.Denot g h b w
       → Result (Bor K.Denot × MutBor V.Denot) (K.Denot × V.Denot)
       → Fml
@@ -78,7 +79,7 @@ module _ (K V S T : RattleType) {g : EqGhosts K.Denot} {h : HashGhosts K.Denot}
       (λ new. IfErr r (λ pair. RefusesEntry g.eq (raw_state e).map (state_of new) pair.0 pair.1 pair))
 
   module _ {N : Type 0} {n : NodeGhosts N} where
-    -- the map with what was written as the entry's value
+    -- the map ends with the written value at the entry's place
     abbrev pub RawLendsForGood : RawOccupiedEntryMut K.Denot V.Denot S.Denot N T.Denot g h b w n
         → MutBor V.Denot
         → Fml
@@ -90,7 +91,7 @@ module _ (K V S T : RattleType) {g : EqGhosts K.Denot} {h : HashGhosts K.Denot}
         follows_so (the_row K V S T g h b w) (the_row K V S T g h b w) o.map.ghost_name none (λ _ _. ⊤)
         (λ new. new ≡ o.map.now)
 
-    -- where the entry is there, the map with what was written as its value
+    -- if there is an entry, the map ends with the written value at its place
     abbrev pub LendsPairOf : {E : Type 0}
         → Result (RawOccupiedEntryMut K.Denot V.Denot S.Denot N T.Denot g h b w n) E
         → Result (Bor K.Denot × MutBor V.Denot) E
@@ -101,7 +102,7 @@ module _ (K V S T : RattleType) {g : EqGhosts K.Denot} {h : HashGhosts K.Denot}
 
 module _ (K V S T : RattleType) (g : HashMembers K.Denot) (b : BuilderGhosts S.Denot T.Denot)
     (w : HasherGhosts T.Denot) where
-  -- the map with the key and what was written put last, or as a refusal leaves it
+  -- the map ends with the key and the written value put last, or as a refusal leaves it
   abbrev pub LendsNewPair : MutBor (Keyed K.Denot V.Denot S.Denot) → K.Denot → V.Denot
       → Result (Bor K.Denot × MutBor V.Denot) (K.Denot × V.Denot)
       → Fml

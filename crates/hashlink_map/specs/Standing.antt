@@ -1,4 +1,4 @@
--- Where a node stands after a step, and that it still holds its keys.
+-- The place of a node after a step, and that it still has its keys.
 use Rattle.std.specs.Prelude.{◌≡◌, ℕ, zero, suc, ◌+◌, ◌≤◌, length, Bool, cond, List, [], ◌∷◌, Option, None}
 use Rattle.std.specs.Prelude.{Some}
 use Rattle.std.specs.Option.{option_map}
@@ -11,12 +11,12 @@ use Rattle.hashlink_core.specs.Walk.{StandsBetween}
 use Rattle.hashlink_core.proofs.Places.{place_number-renewed, renewed-holds}
 use denote.Struct.Props.{props}
 
--- that a place is of the list is a fact
+-- that a place is in the list is a proposition
 pub IsPlace-prop : {X : Type 0} (ns : List (Node × X)) (p : Option Node) → IsProp (IsPlace ns p)
 IsPlace-prop ns None = hlevel props
 IsPlace-prop ns (Some n) = hlevel props
 
--- the node is there, at the place p, and holds each key that it held
+-- the node is in the map, at the place p, and has each key that it had
 pub record StaysHeld {K V S : Type 0} (eq : K → K → Bool) (old new : Keyed K V S) (n : Node)
     (p : ℕ) : Type 0 where
   pub within : Holds new.nodes n
@@ -31,18 +31,18 @@ module _ {K V : Type 0} (v : V) where
   key_place-renewed test (e ∷ es) (suc j) =
       ap (λ o. cond (test e.1.0) (Some 0) (option_map (λ i. i + 1) o)) (key_place-renewed test es j)
 
-  -- a node that is there stays there with a value that is written
+  -- a node in the list stays there when a value is written
   pub still_holds : (ns : List (Node × (K × V))) (n : Node) → Holds ns n
       → Holds (renewed_at (pair_with_value v) ns (place_number ns (Some n))) n
   still_holds ns n h = renewed-holds (pair_with_value v) ns (place_number ns (Some n)) n h
 
-  -- and so does any place
+  -- so does any place
   pub still_placed : (ns : List (Node × (K × V))) (j : ℕ) (p : Option Node) → IsPlace ns p
       → IsPlace (renewed_at (pair_with_value v) ns j) p
   still_placed ns j None within = tt
   still_placed ns j (Some n) within = renewed-holds (pair_with_value v) ns j n within
 
-  -- and a walk stands where it stood
+  -- the places of a walk stay as they are
   pub still_standing : (ns : List (Node × (K × V))) (j : ℕ) {first last : Option Node} {left : ℕ}
       → StandsBetween ns first last left
       → StandsBetween (renewed_at (pair_with_value v) ns j) first last left
@@ -54,7 +54,7 @@ module _ {K V : Type 0} (v : V) where
         ends = λ some. ap (λ i. i + 1) (same last) ∙ w.ends some ∙ ap (λ i. i + left) (sym (same first));
       }
 
-  -- and holds the keys that it held
+  -- a node keeps the keys that it had
   pub still_holds_match : {test : K → Bool} (ns : List (Node × (K × V))) (n : Node) → HoldsMatch test ns n
       → HoldsMatch test (renewed_at (pair_with_value v) ns (place_number ns (Some n))) n
   still_holds_match {test = test} ns n h =

@@ -1,7 +1,6 @@
--- What a contract sees of a walk that lends values for writing, and of the places that it has left.
+-- An iterator that lends values for writing, as contracts see it, and the places that it has left.
 use Rattle.std.specs.Prelude.{◌≡◌, ℕ, ◌+◌, ◌-◌, ◌<◌, List, ◌++◌, length, map, take, drop, Option, Some}
 use Rattle.std.specs.Prelude.{MatchOption}
-use Rattle.std.specs.Option.{option_map}
 use Rattle.hashlink_model.specs.MapState.{MapState, with_value}
 use Rattle.hashlink_core.specs.Keyed.{Keyed, state_of}
 use Rattle.hashlink_core.specs.Places.{Node, Holds, place_number}
@@ -9,7 +8,7 @@ use Rattle.hashlink_core.specs.Walk.{StandsBetween}
 use Rattle.hashlink_map.specs.declared.places_left.PlacesLeft.{PlacesLeft}
 use denote.Struct.Props.{props}
 
--- the map, the number of the first place left, and how many entries are left
+-- the map, the index of the first place left, and how many entries are left
 pub record WritingWalk (K V S : Type 0) : Type 0 where
   pub map : MapState K V S
   pub at : ℕ
@@ -23,11 +22,11 @@ module _ {K V S : Type 0} where
   abbrev pub walk_rest : WritingWalk K V S → List (K × V)
   walk_rest w = take w.left (drop w.at w.map.entries)
 
-  -- the number of the last place left
+  -- the index of the last place left
   abbrev pub last_place : WritingWalk K V S → ℕ
   last_place w = w.at + w.left - 1
 
-  -- with the first, or the last, entry left taken off
+  -- with the first entry left taken off, and with the last
   abbrev pub after_front : WritingWalk K V S → WritingWalk K V S
   after_front w = record w { at = w.at + 1; left = w.left - 1 }
 
@@ -38,20 +37,18 @@ module _ {K V S : Type 0} where
   abbrev pub walk_with : WritingWalk K V S → ℕ → V → WritingWalk K V S
   walk_with w j v = record w { map = with_value w.map j v }
 
-  -- a step gave an item where one was left, and else none
+  -- a step returned an item if one was left, and else none
   abbrev pub HasLeft : {A : Type 0} → WritingWalk K V S → Option A → Type 0
   HasLeft w r = MatchOption r (w.left ≡ 0) (λ _. 0 < w.left)
 
-  -- a walk from the front over a map that was `old`, in which each entry so far has what f makes of it as its
-  -- value now
+  -- a walk from the front over a map that was `old`: the value of each entry so far is now f of the entry
   pub record WritesSoFar (f : K × V → V) (old : MapState K V S) (w : WritingWalk K V S) : Type 0 where
     pub whole : w.at + w.left ≡ length old.entries
     pub written : w.map ≡ record old {
       entries = map (λ e. (e.0, f e)) (take w.at old.entries) ++ drop w.at old.entries;
     }
 
-  -- a node of the list at the place j was taken, and the walk is `stepped`; or none is left, and it stays as
-  -- it was
+  -- the node at the place j was taken, and the walk is `stepped`; or none is left, and it stays as it was
   abbrev pub TakesPlace : Keyed K V S → WritingWalk K V S → WritingWalk K V S → ℕ
       → WritingWalk K V S → Option Node
       → Type 0
@@ -59,15 +56,15 @@ module _ {K V S : Type 0} where
       MatchOption r ((old.left ≡ 0) × (new ≡ old))
       (λ n. Holds m.nodes n × (place_number m.nodes (Some n) ≡ j) × (0 < old.left) × (new ≡ stepped))
 
--- the places left are of the list, where `node` reads what stands for a node
+-- the places left are in the list; `node` returns the node that a value represents
 module _ {N : Type 0} (node : N → Node) where
   abbrev pub StandsIn : {X : Type 0} → List (Node × X) → PlacesLeft N → Type 0
-  StandsIn ns p = StandsBetween ns (option_map node p.first) (option_map node p.last) p.left
+  StandsIn ns p = StandsBetween ns (Some (node p.first)) (Some (node p.last)) p.left
 
-  -- which is a fact
+  -- this is a proposition
   pub StandsIn-prop : {X : Type 0} (ns : List (Node × X)) (p : PlacesLeft N) → IsProp (StandsIn ns p)
   StandsIn-prop ns p = hlevel props
 
   -- the walk over the map that has these places left
   abbrev pub walk_in : {K V S : Type 0} → Keyed K V S → PlacesLeft N → WritingWalk K V S
-  walk_in m p = writing_walk (state_of m) (place_number m.nodes (option_map node p.first)) p.left
+  walk_in m p = writing_walk (state_of m) (place_number m.nodes (Some (node p.first))) p.left

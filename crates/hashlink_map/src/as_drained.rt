@@ -3,8 +3,8 @@ ghost use Rattle.std.specs.Prelude.{◌≡◌};
 
 use hashlink_core::DrainedNodes;
 
-/// Stands for the nodes of a map that is drained; `DrainedNodes` alone implements it. A drain keeps them
-/// behind a parameter with this bound, as an entry keeps its node (`AsNode`).
+/// The nodes of a map that is being drained. Only `DrainedNodes` implements it. A drain keeps them in a field
+/// whose type is a parameter with this bound, as an entry keeps its node (`AsNode`).
 pub trait AsDrained<K, V> {
     ghost use Rattle.hashlink_core.specs.Drained.{Drained};
 

@@ -3,9 +3,9 @@ ghost use Rattle.std.specs.Prelude.{◌≡◌};
 
 use hashlink_core::Node;
 
-/// Stands for a node; `Node` alone implements it. An entry keeps its node behind a parameter with this bound.
-/// A clause can then say what the map is after a call that consumes the entry. It cannot say so of a struct
-/// whose own field has a pointer in it.
+/// A node, as a type parameter. Only `Node` implements it. An entry keeps its node in a field whose type is a
+/// parameter with this bound. So a clause can state what the map is after a call that consumes the entry,
+/// which it cannot do for a struct that itself contains a pointer.
 pub trait AsNode: Copy {
     ghost use Rattle.hashlink_core.specs.Places.{Node};
 

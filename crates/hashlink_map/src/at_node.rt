@@ -1,8 +1,9 @@
-//! What is done at a node of a map. The methods of entries call these.
-ghost use Rattle.std.specs.Prelude.{◌≡◌, ◌-◌, length, slice_get, None, Some, IfOk};
+//! Calls at a node of a map, for the methods of entries.
+ghost use Rattle.std.specs.Prelude.{◌≡◌, ◌+◌, ◌-◌, ◌<◌, length, slice_get, None, Some, IfOk};
 ghost use Rattle.std.specs.Borrow.{sem};
 ghost use Rattle.std.specs.Map.Iter.{deref_pair};
 ghost use Rattle.hashlink_model.specs.Entries.{place_of, IsEntries};
+ghost use Rattle.hashlink_model.specs.Lookups.{Updates};
 ghost use Rattle.hashlink_model.specs.MapState.{MovesAt};
 ghost use Rattle.hashlink_model.specs.Entry.{key_at, value_at, InsertsValue, InsertsEntry, ReplacesEntry};
 ghost use Rattle.hashlink_model.specs.Entry.{ReplacesKey};
@@ -28,6 +29,26 @@ impl<K: Eq + Hash, V, S: BuildHasher> LinkedHashMap<K, V, S> {
             ≡ Some (deref_pair result) }
     {
         self.list.entry(node)
+    }
+
+    /// Returns the node after this one. After the last node it returns one that the map does not have.
+    #[inline]
+    pub(crate) fn node_after(&self, node: Node) -> Node
+        requires { Holds self.now.nodes node }
+        ensures { place_number self.now.nodes (Some result)
+            ≡ place_number self.now.nodes (Some node) + 1 }
+    {
+        self.list.after(node)
+    }
+
+    /// Returns the node before this one. Before the first node it returns any node.
+    #[inline]
+    pub(crate) fn node_before(&self, node: Node) -> Node
+        requires { Holds self.now.nodes node }
+        ensures { 0 < place_number self.now.nodes (Some node)
+            → place_number self.now.nodes (Some result) + 1 ≡ place_number self.now.nodes (Some node) }
+    {
+        self.list.before(node)
     }
 
     /// Returns the key of the node and a mutable reference to its value.
@@ -74,7 +95,7 @@ impl<K: Eq + Hash, V, S: BuildHasher> LinkedHashMap<K, V, S> {
             (place_number self.old.nodes (Some node)) (length (entries_of self.old)) }
         ensures stays { StaysHeld K.eq self.old self.new node (length (entries_of self.old) - 1) }
 
-        // No two keys are equal, in this map as in every map.
+        // No two keys of a map are equal.
         ensures distinct { IsEntries K.eq (entries_of self.old) }
     {
         self.list.move_before(node, None);
@@ -98,6 +119,7 @@ impl<K: Eq + Hash, V, S: BuildHasher> LinkedHashMap<K, V, S> {
         ensures replaces { ReplacesValue (state_of self.old) (state_of self.new)
             (place_number self.old.nodes (Some node)) value result }
         ensures stays { StaysHeld K.eq self.old self.new node (place_number self.old.nodes (Some node)) }
+        ensures distinct { IsEntries K.eq (entries_of self.old) }
     {
         self.list.replace_value(node, value)
     }
@@ -121,6 +143,7 @@ impl<K: Eq + Hash, V, S: BuildHasher> LinkedHashMap<K, V, S> {
         ensures inserts { InsertsValue (state_of self.old) (state_of self.new)
             (place_number self.old.nodes (Some node)) value result }
         ensures stays { StaysHeld K.eq self.old self.new node (length (entries_of self.old) - 1) }
+        ensures distinct { IsEntries K.eq (entries_of self.old) }
     {
         let old = self.replace_value_at(node, value);
         self.move_to_back(node);
@@ -134,6 +157,7 @@ impl<K: Eq + Hash, V, S: BuildHasher> LinkedHashMap<K, V, S> {
         ensures replaces { ReplacesEntry (state_of self.old) (state_of self.new)
             (place_number self.old.nodes (Some node)) key value result }
         ensures stays { StaysHeld K.eq self.old self.new node (place_number self.old.nodes (Some node)) }
+        ensures distinct { IsEntries K.eq (entries_of self.old) }
     {
         self.list.replace_pair(node, key, value)
     }
@@ -141,8 +165,9 @@ impl<K: Eq + Hash, V, S: BuildHasher> LinkedHashMap<K, V, S> {
     /// Replaces the pair by one with an equal key, moves the node to the back, and returns the old pair.
     pub(crate) fn put_pair_last(&mut self, node: Node, key: K, value: V) -> (K, V)
         requires { HoldsKey K.eq self.old.nodes key node }
-        ensures { InsertsEntry (state_of self.old) (state_of self.new)
+        ensures inserts { InsertsEntry (state_of self.old) (state_of self.new)
             (place_number self.old.nodes (Some node)) key value result }
+        ensures updates { Updates K.eq (entries_of self.old) (entries_of self.new) key (Some value) }
     {
         let old = self.replace_pair_at(node, key, value);
         self.move_to_back(node);
@@ -153,13 +178,14 @@ impl<K: Eq + Hash, V, S: BuildHasher> LinkedHashMap<K, V, S> {
     #[inline]
     pub(crate) fn take_at<N: AsNode>(&mut self, node: N) -> (K, V)
         requires held { Holds self.old.nodes (N.node node) }
-        ensures { TakesEntry (state_of self.old) (state_of self.new)
+        ensures takes { TakesEntry (state_of self.old) (state_of self.new)
             (place_number self.old.nodes (Some (N.node node))) result }
+        ensures distinct { IsEntries K.eq (entries_of self.old) }
     {
         self.list.remove(node.as_node())
     }
 
-    /// Inserts a pair at the back. Its key is absent and has this hash.
+    /// Inserts a pair at the back. Its key has to be absent, and `hash` has to be the key's hash.
     #[inline]
     pub(crate) fn push_back(&mut self, hash: u64, key: K, value: V) -> Result<Node, (K, V)>
         requires absent { place_of (K.eq key) (entries_of self.old) ≡ None }
@@ -169,6 +195,7 @@ impl<K: Eq + Hash, V, S: BuildHasher> LinkedHashMap<K, V, S> {
         ensures holds { IfOk result (HoldsKey K.eq self.new.nodes key) }
         ensures place { IfOk result (λ node. place_number self.new.nodes (Some node) ≡ length
             (entries_of self.old)) }
+        ensures distinct { IsEntries K.eq (entries_of self.old) }
     {
         self.list.insert_before(None, hash, key, value)
     }

@@ -1,8 +1,9 @@
-//! What is done at a place of a map, which is a node or the guard. The methods of cursors call these.
-ghost use Rattle.std.specs.Prelude.{◌≡◌, slice_get, length, Option};
+//! Calls at a place of a map, which is a node or the guard, for the methods of cursors.
+ghost use Rattle.std.specs.Prelude.{◌≡◌, slice_get, length, Option, Some, OnOk};
 ghost use Rattle.std.specs.Option.{option_map};
 ghost use Rattle.std.specs.Map.Iter.{deref_pair};
 ghost use Rattle.hashlink_model.specs.Cursor.{following_place, preceding_place};
+ghost use Rattle.hashlink_model.specs.Lookups.{Updates};
 ghost use Rattle.hashlink_model.specs.MapState.{Inserts};
 ghost use Rattle.hashlink_core.specs.Keyed.{entries_of, state_of};
 ghost use Rattle.hashlink_core.specs.Places.{Node, IsPlace, IsPlaceAt, place_number};
@@ -13,7 +14,7 @@ use hashlink_core::Node;
 use std::hash::{BuildHasher, Hash};
 
 impl<K: Eq + Hash, V, S: BuildHasher> LinkedHashMap<K, V, S> {
-    /// Returns the place after a place: after the guard comes the first.
+    /// Returns the next place. After the guard, this is the first.
     #[inline]
     pub(crate) fn place_after(&self, place: Option<Node>) -> Option<Node>
         requires within { IsPlace self.now.nodes place }
@@ -23,7 +24,7 @@ impl<K: Eq + Hash, V, S: BuildHasher> LinkedHashMap<K, V, S> {
         self.list.next(place)
     }
 
-    /// Returns the place before a place: before the first comes the guard.
+    /// Returns the previous place. Before the first, this is the guard.
     #[inline]
     pub(crate) fn place_before(&self, place: Option<Node>) -> Option<Node>
         requires within { IsPlace self.now.nodes place }
@@ -57,6 +58,8 @@ impl<K: Eq + Hash, V, S: BuildHasher> LinkedHashMap<K, V, S> {
         requires within { IsPlace self.old.nodes place }
         ensures inserts { Inserts K.eq (state_of self.old) (state_of self.new) key value
             (place_number self.old.nodes place) result }
+        ensures updates { OnOk result
+            (Updates K.eq (entries_of self.old) (entries_of self.new) key (Some value)) }
         ensures keeps { (p : Option Node) → IsPlace self.old.nodes p → KeepsPlace K.eq self.old self.new p }
     {
         self.list.insert_at(place, key, value)

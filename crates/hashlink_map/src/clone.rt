@@ -1,4 +1,4 @@
-//! Maps that are built whole: from the items of an iterator, and as a clone.
+//! Maps built from the items of an iterator, and clones.
 ghost use Rattle.std.specs.Prelude.{◌≡◌, List, [], Bool, true, Option, Ok, IfOk, OnOk, OnErr, ⊤};
 ghost use Rattle.std.specs.Iterator.{DrainsIf, IsFiniteIterable};
 ghost use Rattle.hashlink_model.specs.Compare.{entries_eq};
@@ -12,12 +12,11 @@ use std::alloc::{AllocError, Global};
 use std::hash::{BuildHasher, Hash};
 
 impl<K: Eq + Hash + Drop, V: Drop, S: BuildHasher + Default + Drop> LinkedHashMap<K, V, S> {
-    /// Builds a map from the items, each inserted in turn as by `insert`. It hashes with `S::default()`. It
-    /// costs an insert for each item. The iterator has to end, and its `next` to be callable. No room is
+    /// Builds a map by inserting each item in turn, as `insert` does, at the cost of an insert for each. It
+    /// hashes with `S::default()`. The iterator has to end, and its `next` to be callable. No room is
     /// reserved in advance.
     ///
-    /// If an allocation for an item fails, it returns `AllocError`. Then no further item is read, and nothing
-    /// is left of the map.
+    /// If an allocation for an item fails, it returns `AllocError`, reads no further item and drops the map.
     pub fn from_iter<I: IntoIterator<Item = (K, V)>>(
         alloc: Global,
         iter: I,
@@ -35,7 +34,7 @@ impl<K: Eq + Hash + Drop, V: Drop, S: BuildHasher + Default + Drop> LinkedHashMa
     }
 }
 
-/// `collect(alloc)` builds a map from the items, as the function `from_iter` does.
+/// `collect(alloc)` builds a map from the items as the function `from_iter` does.
 impl<K: Eq + Hash + Drop, V: Drop, S: BuildHasher + Default + Drop> FromIterator<(K, V)>
     for LinkedHashMap<K, V, S> {
     type Alloc = Global;
@@ -55,12 +54,11 @@ impl<K: Eq + Hash + Drop, V: Drop, S: BuildHasher + Default + Drop> FromIterator
 }
 
 impl<K: Eq + Hash + Clone, V: Clone, S: BuildHasher + Clone> LinkedHashMap<K, V, S> {
-    /// Returns a clone: a map with a clone of the hasher and a clone of each pair, inserted in turn from the
-    /// front. It uses the same allocator, and has no spare node. It costs a clone and an insert for each
-    /// pair.
+    /// Returns a map with a clone of the hasher, into which a clone of each pair is inserted in turn, from
+    /// the front. It has the same allocator and no free node. It costs a clone and an insert for each pair.
     ///
-    /// If an allocation for a clone or for a node fails, it returns `AllocError`, and nothing is left of the
-    /// new map. The clone of an empty map fails only if the clone of its hasher does.
+    /// If an allocation fails, it returns `AllocError` and drops the new map. The clone of an empty map fails
+    /// only if the clone of its hasher does.
     pub fn clone(&self) -> Result<Self, AllocError>
         ensures made { IfOk result (λ map. (s : S) × S.is_clone self.now.hasher s × (clones : List (K × V))
             × ArePairClones K.is_clone V.is_clone (entries_of self.now) clones
@@ -95,7 +93,7 @@ impl<K: Eq + Hash + Clone, V: Clone, S: BuildHasher + Clone> LinkedHashMap<K, V,
     }
 }
 
-/// A type that holds a map can be cloned with it: a clone is made by the function `clone`.
+/// Clones as the function `clone` does, so a type that contains a map can be cloned too.
 impl<K: Eq + Hash + Clone, V: Clone, S: BuildHasher + Clone> Clone for LinkedHashMap<K, V, S> {
     ghost is_clone = { λ map made. IsOfPairClones K.eq K.is_clone V.is_clone (S.is_clone map.hasher)
         (entries_of map) (state_of made) };

@@ -1,4 +1,4 @@
-//! Comparisons of maps: by their entries in order, whatever the hashers are.
+//! Comparisons of maps, by their entries in order. Their hashers do not matter.
 ghost use Rattle.hashlink_map.specs.Compared.{maps_eq, maps_cmp, maps_partial_cmp};
 ghost use Rattle.hashlink_map.specs.Compared.{maps_per, maps_equiv, maps_po, maps_total, maps_agree};
 ghost use Rattle.hashlink_map.specs.Compared.{maps_tie};

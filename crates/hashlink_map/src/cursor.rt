@@ -1,6 +1,6 @@
-//! Cursors. A cursor stands on an entry of a map or on the guard, which stands between the last entry and the
-//! first. A clause sees a cursor as the map's state and the number of its place, which is the length at the
-//! guard.
+//! Cursors. A cursor is on an entry of a map or on the guard, which is between the last entry and the first.
+//! A clause sees a cursor as the map's state and the index of its place. The index of the guard is the
+//! length.
 ghost use Rattle.std.specs.Prelude.{◌≡◌, ◌-◌, length};
 ghost use Rattle.std.specs.Option.{option_map};
 ghost use Rattle.hashlink_core.specs.Keyed.{entries_of};

@@ -13,10 +13,10 @@ use std::hash::{BuildHasher, Hash};
 use std::iter::FusedIterator;
 
 /// An iterator that removes the entries of a map and returns them, from front to back. When it is dropped,
-/// exhausted or not, the map is empty and every node is spare.
+/// exhausted or not, the map is empty and every node is free.
 ///
-/// If it is forgotten (`mem::forget`), the map is empty too, with its room and without spare nodes. The entries
-/// that were left are then never dropped, and no node is freed.
+/// If it is forgotten (`mem::forget`), the map is empty too, but has its room and no free node. The entries
+/// that were left are then never dropped, and the memory of the nodes is never returned.
 pub struct Drain<
     'a,
     K: Eq + Hash,
@@ -41,7 +41,7 @@ impl<'a, K: Eq + Hash + Drop, V: Drop, S: BuildHasher, D: AsDrained<K, V>> Drop
     }
 }
 
-/// Takes all nodes of a map out, with their entries, for a drain of the map or of a container over it. The map
+/// Takes all nodes with their entries out of a map, for a drain of the map or of a container over it. The map
 /// is then empty, and keeps its room. It takes linear time in the number of buckets, and hashes nothing.
 pub fn take_nodes<K: Eq + Hash, V, S: BuildHasher>(
     map: &mut LinkedHashMap<K, V, S>,
@@ -52,8 +52,8 @@ pub fn take_nodes<K: Eq + Hash, V, S: BuildHasher>(
     map.list.take_nodes()
 }
 
-/// Puts nodes back that `take_nodes` took out, and drops the entries that they still have. Every node is then
-/// spare. It stores three links for each of these entries.
+/// Puts back nodes that `take_nodes` took out, and drops the entries that they still have. Every node is then
+/// free. It stores three links for each entry that it drops.
 pub fn put_back<K: Eq + Hash + Drop, V: Drop, S: BuildHasher>(
     map: &mut LinkedHashMap<K, V, S>,
     drained: DrainedNodes<K, V>,
@@ -68,9 +68,9 @@ impl<K: Eq + Hash + Drop, V: Drop, S: BuildHasher> LinkedHashMap<K, V, S> {
     ghost use Rattle.hashlink_map.specs.Drain.{drained_map};
 
     /// Returns an iterator that removes the entries and returns them, from front to back. When it is dropped,
-    /// exhausted or not, the map is empty. The call takes linear time in the number of buckets, the drop in
-    /// the number of entries that are left, for each of which it stores at most three links. Neither hashes
-    /// or allocates.
+    /// exhausted or not, the map is empty. The call takes linear time in the number of buckets. The drop
+    /// takes linear time in the number of entries left, and stores at most three links for each. Neither
+    /// hashes or allocates.
     pub fn drain(&mut self) -> Drain<'_, K, V, S>
         ensures same_map { (drained_map result).ghost_name ≡ self.entry.ghost_name }
         ensures unchanged { (drained_map result).now ≡ self.old }

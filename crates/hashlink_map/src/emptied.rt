@@ -1,4 +1,4 @@
-//! Empty maps in place of others: for `mem::try_take`, and for `or_default` of an entry whose value is a map.
+//! Empty maps, for `mem::try_take` and for `or_default` of an entry whose value is a map.
 ghost use Rattle.std.specs.Prelude.{◌≡◌, []};
 ghost use Rattle.hashlink_core.specs.Keyed.{entries_of};
 
@@ -7,8 +7,7 @@ use std::alloc::{AllocError, Global};
 use std::default::{Emptied, MadeWith};
 use std::hash::{BuildHasher, Hash};
 
-/// Makes an empty map with the allocator of another and a clone of its hasher. It does not allocate but for
-/// that clone.
+/// Makes an empty map with the allocator of another and a clone of its hasher. Only this clone may allocate.
 impl<K: Eq + Hash, V, S: BuildHasher + Clone> Emptied for LinkedHashMap<K, V, S> {
     ghost is_emptied = { λ m. (entries_of m ≡ []) × (m.spare ≡ 0) × (m.room ≡ 0) };
 

@@ -1,6 +1,6 @@
 //! Entries of a map: the place of a key that was looked up, occupied or vacant. An entry holds the given key,
-//! which is the one that was passed to `entry`. A clause sees an entry as the map's state, the place of its
-//! node if it has one, and the given key.
+//! which is the key passed to `entry`. A clause sees an entry as the map's state, the index of its node if it
+//! has one, and the given key.
 use hashlink_core::DefaultHashBuilder;
 use std::hash::{BuildHasher, Hash};
 

@@ -1,4 +1,4 @@
-//! Inserts of many items, each in turn by `insert`.
+//! Inserts of many items in turn, each by `insert`.
 ghost use Rattle.std.specs.Prelude.{[], OnOk, OnErr, IfErr, map};
 ghost use Rattle.std.specs.Iterator.{ExtendsWithItems, IsFinite, IsFiniteIterable};
 ghost use Rattle.std.specs.Map.Iter.{deref_pair};
@@ -17,8 +17,8 @@ impl<K: Eq + Hash + Drop, V: Drop, S: BuildHasher> LinkedHashMap<K, V, S> {
     /// Inserts each item in turn, as `insert` does, at the cost of an insert for each. The iterator has to
     /// end, and its `next` to be callable. No room is reserved in advance.
     ///
-    /// If an allocation for an item fails, the items before it stay inserted. The error contains that item
-    /// and their number. No further item is read.
+    /// If an allocation for an item fails, the items before it stay inserted, and no further item is read.
+    /// The error contains this item and how many were inserted.
     pub fn extend<I: IntoIterator<Item = (K, V)>>(
         &mut self,
         iter: I,
@@ -56,8 +56,8 @@ impl<'a, K: Eq + Hash + Copy + 'a, V: Copy + 'a, S: BuildHasher> LinkedHashMap<K
     /// Inserts a copy of each pair in turn, as `extend` does, at the cost of an insert for each. The iterator
     /// has to end, and its `next` to be callable.
     ///
-    /// If an allocation for a pair fails, the pairs before it stay inserted. The error contains the copy of
-    /// that pair and their number. No further pair is read.
+    /// If an allocation for a pair fails, the pairs before it stay inserted, and no further pair is read. The
+    /// error contains the copy of this pair and how many were inserted.
     pub fn extend_ref<I: IntoIterator<Item = (&'a K, &'a V)>>(
         &mut self,
         iter: I,
@@ -76,8 +76,8 @@ impl<'a, K: Eq + Hash + Copy + 'a, V: Copy + 'a, S: BuildHasher> LinkedHashMap<K
     }
 }
 
-/// Inserts the items as the function `extend` does. If memory runs out, it returns `AllocError`, and what was
-/// inserted stays. The item that was not inserted is dropped.
+/// Inserts the items as the function `extend` does. If an allocation fails, it returns `AllocError`. The
+/// items inserted before stay, and the one that was not inserted is dropped.
 impl<K: Eq + Hash + Drop, V: Drop, S: BuildHasher> Extend<(K, V)> for LinkedHashMap<K, V, S> {
     ghost extend_gives = { λ old items new. TakesItems (InsertsPair K.eq) (Grows 1) (state_of old) items
         (state_of new) };
@@ -97,8 +97,8 @@ impl<K: Eq + Hash + Drop, V: Drop, S: BuildHasher> Extend<(K, V)> for LinkedHash
     }
 }
 
-/// Inserts copies of the pairs as the function `extend_ref` does. If memory runs out, it returns
-/// `AllocError`, and what was inserted stays.
+/// Inserts copies of the pairs as the function `extend_ref` does. If an allocation fails, it returns
+/// `AllocError`, and the copies inserted before stay.
 impl<'a, K: Eq + Hash + Copy + 'a, V: Copy + 'a, S: BuildHasher> Extend<(&'a K, &'a V)>
     for LinkedHashMap<K, V, S> {
     ghost extend_gives = { λ old items new. TakesItems (InsertsPair K.eq) (Grows 1) (state_of old)

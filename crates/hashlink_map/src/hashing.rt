@@ -1,4 +1,4 @@
-//! What a map feeds to a hasher: key, value, key, value in order, and no length.
+//! Hashing of maps: a hasher is fed key, value, key, value in order, and no length.
 ghost use Rattle.hashlink_map.specs.Compared.{map_hash_input, maps_alike};
 
 use crate::map::LinkedHashMap;

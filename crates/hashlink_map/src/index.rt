@@ -18,6 +18,7 @@ impl<'q, K: Eq + Hash, V, S: BuildHasher> Index<&'q K> for LinkedHashMap<K, V, S
 
     ghost index_gives = { λ m k v. lookup (K.eq k.now) (entries_of m) ≡ Some v };
 
+    #[inline(always)]
     fn index(&self, key: &'q K) -> &V {
         self.get(key).unwrap()
     }
@@ -26,6 +27,7 @@ impl<'q, K: Eq + Hash, V, S: BuildHasher> Index<&'q K> for LinkedHashMap<K, V, S
 /// Returns a mutable reference to the value of the key, which has to be present. The order does not change.
 /// It costs a lookup.
 impl<'q, K: Eq + Hash, V, S: BuildHasher> IndexMut<&'q K> for LinkedHashMap<K, V, S> {
+    #[inline(always)]
     fn index_mut(&mut self, key: &'q K) -> &mut V
         requires { HasKey K.eq self.old key.now }
         ensures* lends { sem 𝓛 (LendsIndexed K.row V.row S.row S.Hasher.row K.Hash

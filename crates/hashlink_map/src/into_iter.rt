@@ -1,4 +1,4 @@
-//! How a map is turned into an iterator.
+//! Conversions of a map into an iterator.
 ghost use Rattle.std.specs.Prelude.{◌≡◌, ◌^◌, ◌<◌, length};
 ghost use Rattle.std.specs.Map.Iter.{ShowsInOrder, deref_pair};
 ghost use Rattle.std.specs.Map.Iter.{GivesInOrder, GivesInReverse};
@@ -25,7 +25,7 @@ impl<K: Eq + Hash + Drop, V: Drop, S: BuildHasher + Drop> IntoIterator for Linke
         ensures runs_back { GivesInReverse (K × V) }
         ensures fits { length (entries_of self) < 2 ^ 63 }
     {
-        // `len` says that no two keys are equal.
+        // By a clause of `len`, no two keys are equal.
         let _count = self.len();
         let LinkedHashMap { list } = self;
         list.into_entries()

@@ -1,4 +1,4 @@
-//! The iterator from the entry of a key on.
+//! The iterator that begins at the entry of a key.
 ghost use Rattle.std.specs.Prelude.{◌≡◌, ◌^◌, ◌<◌, ⊤, IfSome, length};
 ghost use Rattle.std.specs.Iterator.{at_most, UpTo};
 ghost use Rattle.std.specs.Iterator.SizeHint.{IsWithinCount};
@@ -13,8 +13,8 @@ use std::hash::{BuildHasher, Hash};
 use std::iter::FusedIterator;
 use std::marker::Model;
 
-/// An iterator over the entries of a map from that of a key on. Contracts see it as the list of the pairs
-/// that are left.
+/// An iterator over the entries of a map, from the entry of a key to the back. Contracts see it as the list
+/// of the pairs left.
 #[derive(Drop)]
 pub struct IterFrom<'a, K: Eq + Hash, V, S: BuildHasher = DefaultHashBuilder> {
     map: &'a LinkedHashMap<K, V, S>,
@@ -37,16 +37,16 @@ impl<'a, K: Eq + Hash, V, S: BuildHasher> Model for IterFrom<'a, K, V, S> {
 impl<K: Eq + Hash, V, S: BuildHasher> LinkedHashMap<K, V, S> {
     ghost use Rattle.hashlink_map.specs.Reading.{entries_from};
 
-    /// Returns an iterator over the entry of the key and those behind it, front first, which ends at the
-    /// back. If the key is absent, it is empty. It hashes the key once, does not allocate, and each step
-    /// takes constant time.
+    /// Returns an iterator over the entries from that of the key to the back. If the key is absent, it is
+    /// empty. The call hashes the key once and does not allocate. Each step takes constant time.
+    #[inline(always)]
     pub fn iter_from<Q: Equivalent<K>>(&self, key: Q) -> IterFrom<'_, K, V, S>
         ensures rest { result ≡ entries_from (Q.matches key) (entries_of self.now) }
         ensures distinct { IsEntries K.eq (entries_of self.now) }
         ensures runs { ShowsInOrder (deref_pair {K = K} {X = V}) }
         ensures fits { length (entries_of self.now) < 2 ^ 63 }
     {
-        // `len` says how many entries there can be.
+        // A clause of `len` bounds the number of entries.
         let _count = self.len();
         IterFrom {
             map: self,
@@ -62,6 +62,7 @@ impl<'a, K: Eq + Hash, V, S: BuildHasher> Iterator for IterFrom<'a, K, V, S> {
 
     ghost remaining = { λ s. at_most (length s) };
 
+    #[inline]
     fn next(&mut self) -> Option<(&'a K, &'a V)> {
         let map = self.map;
         let node = self.place?;

@@ -1,5 +1,5 @@
 //! The lending iterator over the entries, from both ends. It lends one value at a time, mutably. A clause
-//! sees it as the map's state, the number of the first place left, and the number of entries left.
+//! sees it as the map's state, the index of the first place left, and the number of entries left.
 ghost use Rattle.std.specs.Prelude.{◌≡◌, Some, length, slice_get};
 ghost use Rattle.std.specs.Borrow.{sem};
 ghost use Rattle.std.specs.Map.Iter.{deref_pair};
@@ -21,7 +21,7 @@ use std::hash::{BuildHasher, Hash};
 pub struct IterMut<'a, K: Eq + Hash, V, S: BuildHasher = DefaultHashBuilder, N: AsNode = Node> {
     pub(crate) map: &'a mut LinkedHashMap<K, V, S>,
     pub(crate) places: PlacesLeft<N>,
-    ghost stands: { StandsIn N.node map.now.nodes places } by { StandsIn-prop _ _ _ },
+    ghost stands: { StandsIn N.node map.now.nodes places } by { StandsIn-prop N.node map.now.nodes places },
 }
 
 impl<K: Eq + Hash, V, S: BuildHasher> LinkedHashMap<K, V, S> {
@@ -126,8 +126,8 @@ impl<'a, K: Eq + Hash, V, S: BuildHasher> IterMut<'a, K, V, S> {
         walk.pair_at(taken)
     }
 
-    /// Returns the entry whose value `next` lends, or `None` if none is left. It takes constant time, and the
-    /// iterator stays where it is. Before `next_value` it tells the key.
+    /// Returns the entry whose value `next` would lend, or `None` if none is left. It takes constant time,
+    /// and does not move the iterator. Call it before `next_value` to know the key.
     pub fn peek(&self) -> Option<(&K, &V)>
         ensures pair { option_map deref_pair result ≡ first_of (walk_rest (walk_state self.now)) }
         ensures left { HasLeft (walk_state self.now) result }
@@ -135,11 +135,11 @@ impl<'a, K: Eq + Hash, V, S: BuildHasher> IterMut<'a, K, V, S> {
         if self.places.left == 0 {
             return None;
         }
-        self.map.pair_at_place(self.places.first)
+        Some(self.map.pair_at(self.places.first))
     }
 
     /// Returns a mutable reference to the next value from the front, or `None` if none is left. It takes
-    /// constant time. It is `next` without the key: a caller can prove exactly what the map is afterwards.
+    /// constant time. Unlike with `next`, a caller can prove exactly what the map is afterwards.
     pub fn next_value(&mut self) -> Option<&mut V>
         ensures* lends { sem 𝓛 (LendsFirst K.row V.row S.row S.Hasher.row self.entry result) }
         ensures value { LentValue (first_of (walk_rest (walk_state self.old))) result }
@@ -152,8 +152,7 @@ impl<'a, K: Eq + Hash, V, S: BuildHasher> IterMut<'a, K, V, S> {
     }
 
     /// Returns a mutable reference to the next value from the back, or `None` if none is left. It takes
-    /// constant time. It is `next_back` without the key: a caller can prove exactly what the map is
-    /// afterwards.
+    /// constant time. Unlike with `next_back`, a caller can prove exactly what the map is afterwards.
     pub fn next_value_back(&mut self) -> Option<&mut V>
         ensures* lends { sem 𝓛 (LendsLast K.row V.row S.row S.Hasher.row self.entry result) }
         ensures value { LentValue (last_of (walk_rest (walk_state self.old))) result }

@@ -1,4 +1,4 @@
-//! The map. A clause sees it as its state: the entries from front to back, and the numbers of spare nodes, of
+//! The map. A clause sees it as its state: the entries from front to back, and the numbers of free nodes, of
 //! room and of stored links.
 ghost use Rattle.std.specs.Prelude.{◌≡◌, ◌^◌, ◌<◌, ◌↔◌, length, IfOk, IsOk, IsTrue, Err};
 ghost use Rattle.hashlink_model.specs.Entries.{IsEntries};
@@ -47,8 +47,8 @@ impl<K: Eq + Hash, V> LinkedHashMap<K, V, DefaultHashBuilder> {
     /// Creates an empty map with room for `capacity` entries, which hashes with `DefaultHasher`. It takes
     /// linear time in `capacity`, and does not allocate if that is 0.
     ///
-    /// It returns `CapacityOverflow` if `capacity` is above 2 to the power of 62, and `AllocError` if the
-    /// allocation fails or the table would need more than 2 to the power of 31 buckets.
+    /// It returns `CapacityOverflow` if `capacity` is above 2^62, and `AllocError` if the allocation fails or
+    /// the table would need more than 2^31 buckets.
     pub fn with_capacity(alloc: Global, capacity: usize) -> Result<Self, TryReserveError>
         ensures made { IfOk result (λ map. IsMadeWith capacity default_builder (state_of map)) }
         ensures none { capacity ≡ 0 → IsOk result }
@@ -71,8 +71,8 @@ impl<K: Eq + Hash, V, S: BuildHasher> LinkedHashMap<K, V, S> {
     /// Creates an empty map with room for `capacity` entries, which hashes with `hash_builder`. It takes
     /// linear time in `capacity`, and does not allocate if that is 0.
     ///
-    /// It returns `CapacityOverflow` if `capacity` is above 2 to the power of 62, and `AllocError` if the
-    /// allocation fails or the table would need more than 2 to the power of 31 buckets.
+    /// It returns `CapacityOverflow` if `capacity` is above 2^62, and `AllocError` if the allocation fails or
+    /// the table would need more than 2^31 buckets.
     pub fn with_capacity_and_hasher(
         alloc: Global,
         capacity: usize,
@@ -93,18 +93,10 @@ impl<K: Eq + Hash, V, S: BuildHasher> LinkedHashMap<K, V, S> {
         ensures len { result ≡ length (entries_of self.now) }
         ensures small { result < 2 ^ 63 }
 
-        // No two keys are equal, in this map as in every map.
+        // No two keys of a map are equal.
         ensures distinct { IsEntries K.eq (entries_of self.now) }
     {
         self.list.len()
-    }
-
-    /// Does nothing. It tells the calls that change a map what holds of the one that they begin with.
-    #[inline(always)]
-    pub(crate) fn keys_are_distinct(&self)
-        ensures { IsEntries K.eq (entries_of self.now) }
-    {
-        self.list.len();
     }
 
     /// Returns whether the map is empty. It takes constant time.
@@ -119,7 +111,7 @@ impl<K: Eq + Hash, V, S: BuildHasher> LinkedHashMap<K, V, S> {
     pub fn capacity(&self) -> usize
         ensures capacity { result ≡ self.now.room }
 
-        // There is room for every node, in use or spare, in this map as in every map.
+        // Every map has room for all its nodes, in use or free.
         ensures enough { HasRoom (state_of self.now) }
     {
         self.list.capacity()

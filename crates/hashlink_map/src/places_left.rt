@@ -1,4 +1,5 @@
-//! The places that an iterator over a borrowed map has left. The lending iterators take their steps here.
+//! The nodes that an iterator over a borrowed map has left. The lending iterators take their steps through
+//! it.
 ghost use Rattle.std.specs.Prelude.{◌≡◌, length};
 ghost use Rattle.hashlink_core.specs.Keyed.{entries_of, state_of};
 ghost use Rattle.hashlink_map.specs.WritingWalk.{StandsIn, TakesPlace, walk_in, writing_walk};
@@ -9,30 +10,30 @@ use crate::map::LinkedHashMap;
 use hashlink_core::Node;
 use std::hash::{BuildHasher, Hash};
 
-/// The first and the last place left, and the number of places left. If none is left, the two places mean
-/// nothing.
+/// The first and the last node left, and how many are left. If none is left, the two nodes mean nothing. So a
+/// step reads only the links of its own node, and does not read the next node.
 #[derive(Clone, Copy)]
 pub(crate) struct PlacesLeft<N: AsNode = Node> {
-    pub(crate) first: Option<N>,
-    pub(crate) last: Option<N>,
+    pub(crate) first: N,
+    pub(crate) last: N,
     pub(crate) left: usize,
 }
 
 impl PlacesLeft {
-    /// Returns all places of the map.
+    /// Returns all nodes of the map.
     pub(crate) fn all<K: Eq + Hash, V, S: BuildHasher>(map: &LinkedHashMap<K, V, S>) -> Self
         ensures stands { StandsIn (λ n. n) map.now.nodes result }
         ensures rest { walk_in (λ n. n) map.now result
             ≡ writing_walk (state_of map.now) 0 (length (entries_of map.now)) }
     {
         PlacesLeft {
-            first: map.list.front(),
-            last: map.list.back(),
+            first: map.list.front().unwrap_or(Node::nowhere()),
+            last: map.list.back().unwrap_or(Node::nowhere()),
             left: map.list.len(),
         }
     }
 
-    /// Takes the first place off and returns it, or returns `None` if none is left.
+    /// Takes the first node off and returns it, or returns `None` if none is left.
     pub(crate) fn take_first<K: Eq + Hash, V, S: BuildHasher>(
         &mut self,
         map: &LinkedHashMap<K, V, S>,
@@ -46,13 +47,13 @@ impl PlacesLeft {
         if self.left == 0 {
             return None;
         }
-        let node = self.first?;
-        self.first = map.place_after(self.first);
+        let node = self.first;
+        self.first = map.node_after(node);
         self.left -= 1;
         Some(node)
     }
 
-    /// Takes the last place off and returns it, or returns `None` if none is left.
+    /// Takes the last node off and returns it, or returns `None` if none is left.
     pub(crate) fn take_last<K: Eq + Hash, V, S: BuildHasher>(
         &mut self,
         map: &LinkedHashMap<K, V, S>,
@@ -66,8 +67,8 @@ impl PlacesLeft {
         if self.left == 0 {
             return None;
         }
-        let node = self.last?;
-        self.last = map.place_before(self.last);
+        let node = self.last;
+        self.last = map.node_before(node);
         self.left -= 1;
         Some(node)
     }

@@ -1,6 +1,6 @@
-//! Raw entries: a place in a map, without a key of the caller's. If a method has a condition, the caller has
-//! to meet it, and the method does not test it again. A clause sees a raw entry as the map's state and the
-//! place of its node, if it has one.
+//! Raw entries: places in a map, without a given key. The caller has to meet the conditions of a method,
+//! which does not test them. A clause sees a raw entry as the map's state and the index of its node, if it
+//! has one.
 use hashlink_core::DefaultHashBuilder;
 use std::hash::{BuildHasher, Hash};
 
@@ -13,7 +13,7 @@ pub use builders::{RawEntryBuilder, RawEntryBuilderMut};
 pub use occupied::RawOccupiedEntryMut;
 pub use vacant::RawVacantEntryMut;
 
-/// A place in a map that was looked up.
+/// A place in a map, found by a lookup.
 #[derive(Drop)]
 pub enum RawEntryMut<'a, K: Eq + Hash, V, S: BuildHasher = DefaultHashBuilder> {
     /// The key is present.

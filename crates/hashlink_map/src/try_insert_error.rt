@@ -1,9 +1,9 @@
-//! Why the value of an absent key was not inserted.
+//! The error of a call that makes the value of an absent key.
 use std::error::Error;
 use std::fmt;
 
-/// Why a call that makes the value of an absent key did not insert it. No entry has changed, and nothing is
-/// lost: the error contains what was given and what was made.
+/// A call that makes the value of an absent key did not insert it. No entry has changed. The error contains
+/// the given key, and either the closure's error or the value that was made.
 #[derive(Clone, Copy, Debug, PartialEq, Eq, Hash, Drop)]
 pub enum TryInsertError<K, V, E> {
     /// The closure that makes the value failed. Contains the given key and the closure's error.
@@ -20,7 +20,7 @@ impl<K, V, E: fmt::Display> fmt::Display for TryInsertError<K, V, E> {
 
     fn fmt<W: fmt::Write>(&self, f: &mut fmt::Formatter<W>) -> fmt::Result {
         match self {
-            TryInsertError::Make(_, error) => write!(f, "no value was made: {error}"),
+            TryInsertError::Make(_, error) => write!(f, "the value could not be made: {error}"),
             TryInsertError::Memory(_) => write!(f, "memory allocation failed"),
         }
     }

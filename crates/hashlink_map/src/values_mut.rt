@@ -1,4 +1,4 @@
-//! The lending iterator over the values alone, from both ends. A clause sees it as it sees `IterMut`.
+//! The lending iterator over the values only, from both ends. A clause sees it as it sees `IterMut`.
 ghost use Rattle.std.specs.Prelude.{◌≡◌};
 ghost use Rattle.std.specs.Borrow.{sem};
 ghost use Rattle.hashlink_model.specs.Walk.{first_of, last_of};
@@ -15,7 +15,7 @@ use std::hash::{BuildHasher, Hash};
 pub struct ValuesMut<'a, K: Eq + Hash, V, S: BuildHasher = DefaultHashBuilder, N: AsNode = Node> {
     pub(crate) map: &'a mut LinkedHashMap<K, V, S>,
     pub(crate) places: PlacesLeft<N>,
-    ghost stands: { StandsIn N.node map.now.nodes places } by { StandsIn-prop _ _ _ },
+    ghost stands: { StandsIn N.node map.now.nodes places } by { StandsIn-prop N.node map.now.nodes places },
 }
 
 impl<'a, K: Eq + Hash, V, S: BuildHasher> ValuesMut<'a, K, V, S> {

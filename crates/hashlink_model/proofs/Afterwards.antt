@@ -1,4 +1,4 @@
--- What stands after a key was put, moved or taken out: lengths, look-ups, and the same step once more.
+-- Lists after a key was put, moved or taken out: lengths, lookups, and the same step once more.
 use Rattle.hashlink_model.proofs.Names.{ap₂, inl, inr, ◌≡◌, ℕ, ◌+◌, Bool, true, false, cond, List, [], ◌∷◌}
 use Rattle.hashlink_model.proofs.Names.{◌++◌, length, None, Some, refl, sym, ap, ◌∙◌, arith, take, drop}
 use Rattle.hashlink_model.proofs.Names.{option_map_or, IsEquivalence, lookup, lookup_entry, NonePasses}
@@ -29,7 +29,7 @@ module _ {K V : Type 0} (eq : K → K → Bool) where
   length-without_there [] k w l = cc
   length-without_there (e ∷ es) k w l = grind (arith, length-without_there es k w)
 
-  -- one entry more than without the key, wherever it is put
+  -- one entry more than without the key, at whatever place it is put
   pub length-put : (es : List (K × V)) (k : K) (v : V) (b : ℕ)
       → length (put eq es k v b) ≡ length (without eq es k) + 1
   length-put es k v b =
@@ -46,12 +46,12 @@ module _ {K V : Type 0} (eq : K → K → Bool) where
       → length (put eq es k v b) ≡ length es
   length-put_there es k v b w l = length-put es k v b ∙ length-without_there es k w l
 
-  -- ---- a move is a put of the value that stands
+  -- ---- a move is a put of the present value
 
   pub moved-absent : (es : List (K × V)) (k : K) (b : ℕ) → lookup (eq k) es ≡ None → moved eq es k b ≡ es
   moved-absent es k b l = moved_match-none (eq k) es b (none_from_lookup (eq k) es l)
 
-  -- so a move is by cases of the look-up
+  -- so a move is determined by the lookup
   pub moved_is : (es : List (K × V)) (k : K) (b : ℕ)
       → moved eq es k b ≡ option_map_or (λ w. put eq es k w b) (lookup (eq k) es) es
   moved_is es k b = grind (arith, moved-absent es k b, moved-there eq es k b)
@@ -59,14 +59,14 @@ module _ {K V : Type 0} (eq : K → K → Bool) where
   pub length-moved : (es : List (K × V)) (k : K) (b : ℕ) → length (moved eq es k b) ≡ length es
   length-moved es k b = rw (moved_is es k b) (grind (arith, length-put_there es k))
 
--- a move by a test, which is a key's where it passes a key
+-- a move by a test; if the test passes a key, it is the move of this key
 pub length-moved_match : {K V : Type 0} (test : K → Bool) (es : List (K × V)) (b : ℕ)
     → length (moved_match test es b) ≡ length es
 length-moved_match test es b = elim (splits test es)
     [ inl n ↦ ap length (moved_match-none test es b n) | inr s ↦ length-moved (λ _. test) es s.1.0 b ]
 
 module _ {K V : Type 0} (eq : K → K → Bool) (laws : IsEquivalence eq) where
-  -- ---- look-ups after a put
+  -- ---- lookups after a put
 
   pub lookup-put : (q : K) (es : List (K × V)) (k : K) (v : V) (b : ℕ) → IsEntries eq es
       → lookup (eq q) (put eq es k v b) ≡ cond (eq k q) (Some v) (lookup (eq q) es)
@@ -89,7 +89,7 @@ module _ {K V : Type 0} (eq : K → K → Bool) (laws : IsEquivalence eq) where
       let after = lookup_key_is (eq k) (put eq es k v b) in
       grind (arith, after, lookup_key_is (eq k) es, lookup_entry-put eq laws k es k v b d, laws.refl k)
 
-  -- ---- look-ups after a removal
+  -- ---- lookups after a removal
 
   pub lookup-without : (q : K) (es : List (K × V)) (k : K) → IsEntries eq es
       → lookup (eq q) (without eq es k) ≡ cond (eq k q) None (lookup (eq q) es)
@@ -144,7 +144,7 @@ module _ {K V : Type 0} (eq : K → K → Bool) (laws : IsEquivalence eq) where
       let put1 : (w : V) → IsEntries eq (put eq es k w b) = λ w. IsEntries-put eq laws es k w b d in
       rw (moved_is eq es k b) (grind (arith, d, put1))
 
-  -- a second move to a place where a second put changes nothing leaves the list as it is
+  -- if a second put at a place changes nothing, a second move to the place changes nothing
   pub moved_twice : (es : List (K × V)) (k : K) (b : ℕ) → IsEntries eq es
       → ((w : V) → lookup (eq k) es ≡ Some w → put eq (put eq es k w b) k w b ≡ put eq es k w b)
       → moved eq (moved eq es k b) k b ≡ moved eq es k b

@@ -1,4 +1,4 @@
--- Steps at a place, and the same steps at the key that stands there.
+-- Steps at a place, and the same steps at the key of the entry there.
 use Rattle.hashlink_model.proofs.Names.{set_value_same, ◌≡◌, ℕ, zero, suc, ◌-◌, ◌<◌, Bool, List, [], ◌∷◌}
 use Rattle.hashlink_model.proofs.Names.{◌++◌, length, Some, refl, sym, ap, ap₂, ◌∙◌, arith, lt-ltb}
 use Rattle.hashlink_model.proofs.Names.{length-append, insert, remove, option_map_or, keys_of, lookup}
@@ -9,7 +9,7 @@ use Rattle.hashlink_model.proofs.Puts.{put-here}
 use Rattle.hashlink_model.proofs.Places.{slice_get_here}
 
 module _ {K V : Type 0} where
-  -- ---- in a list taken apart at the place
+  -- ---- in a list split at the place
 
   pub set_value_at-here : (xs : List (K × V)) (e : K × V) (ys : List (K × V)) (w : V)
       → set_value_at (xs ++ e ∷ ys) (length xs) w ≡ xs ++ (e.0, w) ∷ ys
@@ -65,7 +65,7 @@ module _ {K V : Type 0} where
   remove-place test (e ∷ es) (suc j) p = grind (arith, p, remove-place test es j)
 
   module _ (eq : K → K → Bool) (es : List (K × V)) (k : K) (j : ℕ) (p : place_of (eq k) es ≡ Some j) where
-    -- moved with a new value it is put
+    -- an entry that moves with a new value is put
     pub moved_at-put : (v : V) (b : ℕ) → moved_at (set_value_at es j v) j b ≡ put eq es k v b
     moved_at-put v b =
         let s = stands_from_place (eq k) es j p in
@@ -77,7 +77,7 @@ module _ {K V : Type 0} where
     pub moved_at-place : (b : ℕ) → moved_at es j b ≡ moved eq es k b
     moved_at-place b = ap (λ o. option_map_or (λ i. moved_at es i b) o es) (sym p)
 
--- moved with the value that stands it is put
+-- an entry that moves with its own value is put
 pub moved-there : {K V : Type 0} (eq : K → K → Bool) (es : List (K × V)) (k : K) (b : ℕ) (w : V)
     → lookup (eq k) es ≡ Some w → moved eq es k b ≡ put eq es k w b
 moved-there eq es k b w l =

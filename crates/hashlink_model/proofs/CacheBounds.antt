@@ -1,4 +1,4 @@
--- How long a cache is after its calls, and which of them is never refused.
+-- The length of a cache after its calls, and the inserts that are never refused.
 use Rattle.hashlink_model.proofs.Names.{◌≡◌, ℕ, ◌≤◌, ◌<◌, Bool, length, Option, None, Some, Result, Ok}
 use Rattle.hashlink_model.proofs.Names.{Err, ap, arith, length-set_value, put, node_count, Clears, RemovesKey}
 use Rattle.hashlink_model.proofs.Names.{PopsFront, CacheState, CacheInserts, CacheGets}
@@ -10,7 +10,7 @@ use Rattle.hashlink_model.proofs.CacheSteps.{put_entries, inserts_entries}
 use Rattle.hashlink_model.proofs.NodeCounts.{moves_match_length}
 use Rattle.hashlink_model.proofs.KeptNodes.{kept-inserts}
 
--- ---- a bound of the capacity and n more
+-- ---- n entries beyond the capacity
 
 -- an insert that is not refused brings the cache within its capacity
 pub within-inserted : {K V S : Type 0} (old new : CacheState K V S) (eq : K → K → Bool) (k : K)
@@ -28,11 +28,11 @@ module _ {K V S : Type 0} (old new : CacheState K V S) (n : ℕ) where
   within-pops_front None s w = omega (arith, ap (λ m. length m.entries) s.map.step)
   within-pops_front (Some e) s w = omega (arith, ap length s.map.step.entries)
 
-  -- a capacity that is set is kept from then on
+  -- a new capacity is not exceeded
   pub within-sets : (cap : ℕ) → SetsCapacity old new cap → IsWithin new 0
   within-sets cap s = omega (arith, ap length s.map.entries, length-last_entries old.map.entries cap)
 
-  -- by a test of keys
+  -- for a test of keys
   module _ (test : K → Bool) where
     pub within-gets_match : (r : Option V) → CacheGetsMatch test old new r → IsWithin old n → IsWithin new n
     within-gets_match r s i =
@@ -59,7 +59,7 @@ module _ {K V S : Type 0} (old new : CacheState K V S) (n : ℕ) where
     within-removes None s i = omega (arith, ap (λ m. length m.entries) s.map.step)
     within-removes (Some e) s i = omega (arith, ap length s.map.step.entries)
 
--- ---- once an entry was dropped, no insert is refused
+-- ---- once an entry was evicted, no insert is refused
 
 module _ {K V S : Type 0} (old new : CacheState K V S) where
   pub to_spare-kept : new.cap ≡ old.cap → node_count old.map ≤ node_count new.map

@@ -1,4 +1,4 @@
--- What follows from the steps between two states of a cache.
+-- Consequences of the steps between two states of a cache.
 use Rattle.hashlink_model.proofs.Names.{◌≡◌, Bool, [], ◌∷◌, ◌++◌, length, Option, None, Some, Ok, Err, sym}
 use Rattle.hashlink_model.proofs.Names.{ap, ◌∙◌, MatchOption, Result, refl, option_map_or, lookup, put}
 use Rattle.hashlink_model.proofs.Names.{without, stored_key, MapState, CacheState, cache_use, CacheInserts}
@@ -7,7 +7,7 @@ use Rattle.hashlink_model.specs.Cache.{cache_get, InsertsLast, CacheUses}
 use Rattle.hashlink_model.proofs.Puts.{put_back}
 use Rattle.hashlink_model.proofs.Afterwards.{moved-there}
 
--- the insert at the length
+-- an insert at the end
 module _ {K V S : Type 0} (eq : K → K → Bool) (old new : MapState K V S) (k : K) (v : V) where
   pub put_entries : (w : Option V) → InsertsLast eq k v w old new
       → new.entries ≡ put eq old.entries k v (length old.entries)

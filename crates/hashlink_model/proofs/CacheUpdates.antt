@@ -1,4 +1,4 @@
--- What a look-up finds after an insert into a cache.
+-- What a lookup finds after an insert into a cache.
 use Rattle.hashlink_model.proofs.Names.{◌≡◌, ◌⊎◌, ℕ, ◌-◌, ◌≤◌, Bool, List, [], ◌∷◌, ◌++◌, length, drop, take}
 use Rattle.hashlink_model.proofs.Names.{Option, None, Some, inl, inr, refl, sym, ap, ◌∙◌, subst, arith}
 use Rattle.hashlink_model.proofs.Names.{append_assoc, take-append-drop, option_map, IsEquivalence, lookup}
@@ -19,7 +19,7 @@ use Rattle.hashlink_model.proofs.Updates.{updates-put}
 use Rattle.hashlink_model.proofs.Weighted.{fitting-end, length-weighted_put}
 
 module _ {K V : Type 0} (eq : K → K → Bool) (laws : IsEquivalence eq) where
-  -- of an end of the list a look-up finds nothing, or what it finds of the whole
+  -- in an end of the list, a lookup finds nothing, or what it finds in the whole list
   by_found : (q : K) (front back : List (K × V)) → IsEntries eq (front ++ back) → (o : Option (K × V))
       → lookup_entry (eq q) back ≡ o
       → (lookup (eq q) back ≡ None) ⊎ (lookup (eq q) back ≡ lookup (eq q) (front ++ back))
@@ -37,7 +37,7 @@ module _ {K V : Type 0} (eq : K → K → Bool) (laws : IsEquivalence eq) where
       (by_found q (take n es) (drop n es) (subst (IsEntries eq) (sym whole) d)
       (lookup_entry (eq q) (drop n es)) refl)
 
-  -- a key that was put last is in each end that is not empty
+  -- a key that was put last is in every end that is not empty
   last_here : (es : List (K × V)) (k : K) (v : V) (front back : List (K × V))
       → IsEntries eq (put eq es k v (length es)) → put eq es k v (length es) ≡ front ++ back
       → 1 ≤ length back → lookup (eq k) back ≡ Some v
@@ -50,7 +50,7 @@ module _ {K V : Type 0} (eq : K → K → Bool) (laws : IsEquivalence eq) where
       let none = none_before eq laws (front ++ s.0) (k0, v) [] k (subst (IsEntries eq) whole d) same in
       ap (lookup (eq k)) s.1 ∙ lookup-here (eq k) (k0, v) [] same s.0 (each-right _ front s.0 none)
 
-  -- goal: the look-ups after an insert into a cache
+  -- goal: the lookups after an insert into a cache
   pub updates-cache_put : (es : List (K × V)) (cap : ℕ) (k : K) (v : V)
       → IsEntries eq (put eq es k v (length es)) → Updates eq es (put eq es k v (length es)) k (Some v)
       → UpdatesWithin eq cap es (cache_put eq es cap k v) k v
@@ -64,7 +64,7 @@ module _ {K V : Type 0} (eq : K → K → Bool) (laws : IsEquivalence eq) where
         λ room. subst (λ ys. Updates eq es ys k (Some v)) (sym (cache_put-with_a_place eq es cap k v room)) u,
       )
 
-  -- the same by the steps that it takes
+  -- the same from the steps of the insert
   pub updates-kept_last : (es mid new : List (K × V)) (cap : ℕ) (k : K) (v : V)
       → mid ≡ put eq es k v (length es) → IsEntries eq mid → Updates eq es mid k (Some v)
       → new ≡ last_entries mid cap → UpdatesWithin eq cap es new k v
@@ -74,7 +74,7 @@ module _ {K V : Type 0} (eq : K → K → Bool) (laws : IsEquivalence eq) where
       (updates-cache_put es cap k v (subst (IsEntries eq) put_last d)
       (subst (λ zs. Updates eq es zs k (Some v)) put_last u))
 
-  -- the same by the exact list
+  -- the same from the list that the insert leaves
   pub updates-pushed : (es new : List (K × V)) (cap : ℕ) (k : K) (v : V) → IsEntries eq es
       → new ≡ cache_put eq es cap k v → UpdatesWithin eq cap es new k v
   updates-pushed es new cap k v d is =
@@ -82,7 +82,7 @@ module _ {K V : Type 0} (eq : K → K → Bool) (laws : IsEquivalence eq) where
       (updates-cache_put es cap k v (IsEntries-put eq laws es k v (length es) d)
       (updates-put eq laws es k v (length es) d))
 
--- goal: the look-ups after an insert into a cache with a budget
+-- goal: the lookups after an insert into a cache with a budget
 pub updates-fitted : {K V : Type 0} (eq : K → K → Bool) → IsEquivalence eq
     → (es mid new : List (K × (V × ℕ))) (budget : ℕ) (k : K) (v : V) (weight : ℕ)
     → mid ≡ put eq es k (v, weight) (length es) → IsEntries eq mid → Updates eq es mid k (Some (v, weight))

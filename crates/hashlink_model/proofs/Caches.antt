@@ -1,4 +1,4 @@
--- What a cache holds after its steps.
+-- The entries of a cache after its steps.
 use Rattle.hashlink_model.proofs.Names.{◌≡◌, ℕ, suc, ◌+◌, ◌-◌, ◌≤◌, ◌<◌, Bool, true, false, min, List, []}
 use Rattle.hashlink_model.proofs.Names.{◌∷◌, ◌++◌, length, drop, take, Some, refl, sym, ap, arith, zero}
 use Rattle.hashlink_model.proofs.Names.{length-drop, lt-ltb, take-append-drop, IsEquivalence, lookup}
@@ -20,7 +20,7 @@ module _ {K V : Type 0} where
   pub front_evicted-above : (es : List (K × V)) (cap : ℕ) → cap < length es → front_evicted es cap ≡ drop 1 es
   front_evicted-above es cap l = rw (lt-ltb cap (length es) l) refl
 
-  -- one entry more than n at most, and after an eviction to a cap of at most n there are at most n
+  -- from at most n + 1 entries, an eviction to a capacity of at most n leaves at most n
   pub front_evicted-at_most : (es : List (K × V)) (cap n : ℕ) → cap ≤ n → length es ≤ n + 1
       → length (front_evicted es cap) ≤ n
   front_evicted-at_most es cap n c m = grind (arith, nat_tests, length-drop 1 es)
@@ -31,7 +31,7 @@ module _ {K V : Type 0} where
   pub last_entries-end : (es : List (K × V)) (n : ℕ) → take (length es - n) es ++ last_entries es n ≡ es
   last_entries-end es n = take-append-drop (length es - n) es
 
-  -- all of them, where there are no more than n
+  -- the last n entries are all, if there are at most n
   pub last_entries-within : (es : List (K × V)) (n : ℕ) → length es ≤ n → last_entries es n ≡ es
   last_entries-within es n l = let none : length es - n ≡ 0 = omega arith in ap (λ m. drop m es) none
 
@@ -43,7 +43,7 @@ module _ {K V : Type 0} where
 
   -- ---- the cache's insert
 
-  -- at most the capacity, however many there were
+  -- at most the capacity, however many entries there were
   pub cache_put-at_most : (eq : K → K → Bool) (es : List (K × V)) (cap : ℕ) (k : K) (v : V)
       → length (cache_put eq es cap k v) ≤ cap
   cache_put-at_most eq es cap k v = let few = length-last_entries
@@ -54,13 +54,13 @@ module _ {K V : Type 0} where
   put_grown eq es k v =
       grind (arith, length-put_absent eq es k v (length es), length-put_there eq es k v (length es))
 
-  -- all that the map's insert leaves, where there is a place
+  -- all that the map's insert leaves, if there were fewer than the capacity
   pub cache_put-with_a_place : (eq : K → K → Bool) (es : List (K × V)) (cap : ℕ) (k : K) (v : V)
       → length es < cap → cache_put eq es cap k v ≡ put eq es k v (length es)
   cache_put-with_a_place eq es cap k v l =
       let g = put_grown eq es k v in last_entries-within (put eq es k v (length es)) cap (omega arith)
 
-  -- of a cache within its capacity one entry is dropped at most
+  -- from a cache within its capacity, an insert evicts at most one entry
   pub cache_put-evicts : (eq : K → K → Bool) (es : List (K × V)) (cap : ℕ) (k : K) (v : V) → length es ≤ cap
       → cache_put eq es cap k v ≡ front_evicted (put eq es k v (length es)) cap
   cache_put-evicts eq es cap k v l =
@@ -96,7 +96,7 @@ module _ {K V : Type 0} where
   IsEntries-cache_extended eq laws es cap (p ∷ pairs) d =
       IsEntries-cache_extended eq laws (cache_put eq es cap p.0 p.1) cap pairs
       (IsEntries-cache_put eq laws es cap p.0 p.1 d)
-  -- ---- look-ups after an insert
+  -- ---- lookups after an insert
 
 module _ {K V : Type 0} (eq : K → K → Bool) (laws : IsEquivalence eq) where
   pub lookup-cache_put : (q : K) (es : List (K × V)) (cap : ℕ) (k : K) (v : V) → IsEntries eq es → 1 ≤ cap
@@ -116,7 +116,7 @@ module _ {K V : Type 0} (eq : K → K → Bool) (laws : IsEquivalence eq) where
       lookup_entry-put_remaining eq laws q es k v (take (length zs - cap) zs) (last_entries zs cap) d
       (sym (last_entries-end zs cap)) e t l
 
-  -- ---- a use: of a key that is there a move, of any other an insert
+  -- ---- a use: a move of a present key, or an insert of an absent one
 
   pub IsEntries-cache_use : (es : List (K × V)) (cap : ℕ) (k : K) (v : V) → IsEntries eq es
       → IsEntries eq (cache_use eq es cap k v)

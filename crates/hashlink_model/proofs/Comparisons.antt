@@ -51,7 +51,7 @@ module _ {K V : Type 0} where
       lists_ties (λ p q. ordering_then (cmpk p.0 q.0) (cmpv p.1 q.1))
       (λ p q. grind (arith, a p.0 q.0, b p.1 q.1))
 
-  -- equal entries feed a hasher alike, where equal keys and equal values do
+  -- equal entries feed a hasher alike, if equal keys and equal values do
   pub entries_alike : {W : Type 0} (eqk : K → K → Bool) (eqv : V → V → Bool) (hashk : K → List W)
       (hashv : V → List W)
       → ((x y : K) → eqk x y ≡ true → hashk x ≡ hashk y) → ((x y : V) → eqv x y ≡ true → hashv x ≡ hashv y)
@@ -62,7 +62,7 @@ module _ {K V : Type 0} where
       let parts = and_parts (eqk x.0 y.0) (eqv x.1 y.1) e in
       ap₂ ◌++◌ (a x.0 y.0 parts.0) (b x.1 y.1 parts.1))
 
-  -- where the tests decide `≡`, so does that of the entries
+  -- if equal keys are the same, and equal values too, then equal lists of entries are the same
   pub entries_eq_same : (eqk : K → K → Bool) (eqv : V → V → Bool) → ((x y : K) → eqk x y ≡ true → x ≡ y)
       → ((x y : V) → eqv x y ≡ true → x ≡ y) → (xs ys : List (K × V)) → entries_eq eqk eqv xs ys ≡ true
       → xs ≡ ys

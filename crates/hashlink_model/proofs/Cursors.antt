@@ -1,4 +1,4 @@
--- Where a cursor stands after a move, and after an insert.
+-- The place of a cursor after a move, and after an insert.
 use Rattle.hashlink_model.proofs.Names.{◌≡◌, inl, inr, ℕ, ◌+◌, ◌≤◌, Bool, List, [], ◌∷◌, length, refl, arith}
 use Rattle.hashlink_model.proofs.Names.{le_refl, unwrap_or, IsEquivalence, IsEntries, place_of, place_kept}
 use Rattle.std.proofs.Math.Nat.{mod_self}
@@ -12,7 +12,7 @@ pub following_place-guard : (n : ℕ) → following_place n n ≡ 0
 following_place-guard n = mod_self (n + 1)
 
 module _ {K V : Type 0} (eq : K → K → Bool) (laws : IsEquivalence eq) where
-  -- where the list stays, the cursor stays
+  -- if the list stays, so does the cursor's place
   pub place_kept-same : (es : List (K × V)) (i : ℕ) → IsEntries eq es → i ≤ length es
       → place_kept eq es es i ≡ i
   place_kept-same es i d l = elim (slice_get_cases es i).1 [

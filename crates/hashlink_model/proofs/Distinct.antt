@@ -1,4 +1,4 @@
--- Entries whose keys are pairwise unequal, taken apart and put together at one entry.
+-- Entries whose keys are pairwise unequal, split and joined at one entry.
 use Rattle.hashlink_model.proofs.Names.{◌≡◌, Bool, true, false, List, [], ◌∷◌, ◌++◌, sym, ◌∙◌, IsEquivalence}
 use Rattle.hashlink_model.proofs.Names.{AllByRecursion, keys_of, NonePasses, IsEntries}
 use Rattle.std.specs.List.{IsDistinct}
@@ -31,7 +31,7 @@ pub each-weaker : {X : Type 0} (P Q : X → Type 0) → ((x : X) → P x → Q x
 each-weaker P Q f [] a = tt
 each-weaker P Q f (x ∷ xs) a = (f x a.0, each-weaker P Q f xs a.1)
 
--- equal keys answer a test alike
+-- a test has the same result for equal keys
 pub answers_alike : {K : Type 0} (eq : K → K → Bool) → IsEquivalence eq → (k a b : K) → eq a b ≡ true
     → eq k a ≡ eq k b
 answers_alike eq laws k a b t = laws.symm k a ∙ laws.congr a b k t ∙ laws.symm b k

@@ -1,4 +1,4 @@
--- What stands after many inserts at the end.
+-- Lists after many inserts at the end.
 use Rattle.hashlink_model.proofs.Names.{◌≡◌, Bool, List, [], ◌∷◌, ◌++◌, length, sym, ap, ◌∙◌, append_assoc}
 use Rattle.hashlink_model.proofs.Names.{append-nil, IsEquivalence, IsEntries, put, extended}
 use Rattle.hashlink_model.proofs.Distinct.{none_others, each-left}
@@ -11,7 +11,7 @@ module _ {K V : Type 0} (eq : K → K → Bool) (laws : IsEquivalence eq) where
       IsEntries-extended (put eq es p.0 p.1 (length es)) pairs
       (IsEntries-put eq laws es p.0 p.1 (length es) d)
 
-  -- pairs whose keys are new and pairwise unequal go in as they are
+  -- pairs whose keys are new and pairwise unequal are appended as they are
   pub extended-absent : (es pairs : List (K × V)) → IsEntries eq (es ++ pairs)
       → extended eq es pairs ≡ es ++ pairs
   extended-absent es [] d = sym (append-nil es)
@@ -21,6 +21,6 @@ module _ {K V : Type 0} (eq : K → K → Bool) (laws : IsEquivalence eq) where
       ap (λ zs. extended eq zs pairs) (put_back_absent eq es p.0 p.1 none)
       ∙ extended-absent (es ++ p ∷ []) pairs (rw moved d) ∙ moved
 
-  -- a list's own pairs, inserted in turn into an empty one, give the list
+  -- a list's own pairs, inserted in turn into an empty list, give the list
   pub extended-own : (es : List (K × V)) → IsEntries eq es → extended eq [] es ≡ es
   extended-own es d = extended-absent [] es d

@@ -1,4 +1,4 @@
--- A retain by a predicate, as a step of a map: what is left is a filter of what there was.
+-- A retain by a predicate, as a step of a map: the entries left are a filter of the old ones.
 use Rattle.hashlink_model.proofs.Names.{◌≡◌, Bool, filter, subst, MapState, KeepsOnly}
 use Rattle.hashlink_model.specs.Retain.{RetainsInOrder}
 use Rattle.hashlink_model.proofs.Retains.{keeps_in_order_is_filter}

@@ -1,4 +1,4 @@
--- What a look-up finds: at the key of an entry, and at every other key.
+-- What a lookup finds: at the key of an entry, and at every other key.
 use Rattle.hashlink_model.proofs.Names.{◌≡◌, Bool, true, cond, List, [], ◌∷◌, ◌++◌, None, Some, refl, ap}
 use Rattle.hashlink_model.proofs.Names.{arith, option_map, IsEquivalence, lookup, lookup_entry, lookup_key}
 use Rattle.hashlink_model.proofs.Names.{NonePasses, IsEntries, without, stored_key}
@@ -19,12 +19,12 @@ module _ {K V : Type 0} (eq : K → K → Bool) (laws : IsEquivalence eq) where
   stored_key-equal k [] = laws.refl k
   stored_key-equal k (e ∷ es) = grind (arith, stored_key-equal k es)
 
-  -- an equal key is asked for alike
+  -- equal keys find the same
   pub lookup-equal : (k q : K) (es : List (K × V)) → eq k q ≡ true → lookup (eq k) es ≡ lookup (eq q) es
   lookup-equal k q [] t = refl
   lookup-equal k q (x ∷ es) t = grind (arith, laws.congr k q x.0 t, lookup-equal k q es t)
 
-  -- ---- with one entry more
+  -- ---- with one more entry
 
   pub lookup_entry-middle : (q : K) (e : K × V) (ys xs : List (K × V)) → NonePasses (eq e.0) (xs ++ ys)
       → lookup_entry (eq q) (xs ++ e ∷ ys) ≡ cond (eq e.0 q) (Some e) (lookup_entry (eq q) (xs ++ ys))

@@ -1,4 +1,4 @@
--- Many items in a row.
+-- Many items in turn.
 use Rattle.hashlink_model.proofs.Names.{◌≡◌, ℕ, ◌+◌, ◌≤◌, ◌<◌, Bool, List, [], ◌∷◌, ◌++◌, length, Option}
 use Rattle.hashlink_model.proofs.Names.{None, Some, Result, Ok, ap, ◌∙◌, subst, arith, length-append}
 use Rattle.hashlink_model.proofs.Names.{extended, MapState, InsertsPair}
@@ -20,7 +20,7 @@ module _ {K V S : Type 0} (eq : K → K → Bool) where
       accepts_entries s.0 new items s.3
       ∙ ap (λ es. extended eq es items) (put_entries eq old s.0 p.0 p.1 s.1 s.2)
 
-  -- each item uses one spare node at most
+  -- each item uses at most one free node
   spare_inserted : (old new : MapState K V S) (p : K × V) (w : Option V) → InsertsPair eq old new p (Ok w)
       → old.spare ≤ new.spare + 1
   spare_inserted old new p None s = omega arith
@@ -37,7 +37,7 @@ module _ {K V S : Type 0} (eq : K → K → Bool) where
     pub stops_entries : new.entries ≡ extended eq old.entries s.before
     stops_entries = s.refused.grows.entries ∙ accepts_entries old s.between s.before s.accepted
 
-    -- only where the spare nodes are used up
+    -- an item is refused only if the free nodes are used up
     pub stops_late : old.spare < length items
     stops_late =
         let parts = length-append s.before (s.item ∷ left) in
@@ -49,7 +49,7 @@ module _ {K V S : Type 0} (eq : K → K → Bool) where
   drained_takes a old new items taken back left d l s =
       omega (arith, stops_late old new items taken back left s)
 
--- of two items the last one was refused where none is left after it
+-- if the last of two items was refused, it is the second, and none is left after it
 pub refused_of_two : {X : Type 0} (xs : List X) (x a b : X) → a ∷ b ∷ [] ≡ xs ++ x ∷ []
     → (xs ≡ a ∷ []) × (x ≡ b)
 refused_of_two [] x a b e = absurd (omega (arith, ap length e))

@@ -1,4 +1,4 @@
--- No step gives a node back but a clear and a shrink, and none makes one beyond need.
+-- Only a clear and a shrink free nodes, and no step makes a node that is not needed.
 use Rattle.std.proofs.Common.{◌≡◌, ℕ, ◌≤◌, ◌<◌, List, length, Bool, Option, None, Some, Result, Ok, Err, ap}
 use Rattle.std.proofs.Common.{arith}
 use Rattle.hashlink_model.specs.MapState.{MapState, node_count, KeepsNodes, Changes, Inserts}

@@ -1,4 +1,4 @@
--- What a lazy walk over two sets gives, and its size hints.
+-- What a lazy iterator over two sets returns, and its size hints.
 use Rattle.std.proofs.Common.{◌≡◌, ◌+◌, ◌≤◌, Bool, true, List, [], ◌∷◌, ◌++◌, length, filter, Option, None}
 use Rattle.std.proofs.Common.{Some, refl, ap, arith, length-append, le_refl}
 use Rattle.std.specs.Map.Iter.{TakesFirst}
@@ -21,7 +21,7 @@ module _ {T : Type 0} where
   step_by p q ls ys (Some x) xs h = ap (λ r. r ++ filter q ys) h
   step_by p q ls ys None xs h = rw (h.0, h.1) (first_passing-takes q ys)
 
-  -- a step gives the first of what is left to give
+  -- a step returns the first of the elements left
   pub pair_step-takes : (p q : T → Bool) (w : PairWalk T)
       → TakesFirst (λ y. y) (left_to_give p q w) (pair_step p q w).0 (left_to_give p q (pair_step p q w).1)
   pair_step-takes p q w =

@@ -1,4 +1,4 @@
--- Lemmas on the definitions, which the crates above cite too.
+-- Lemmas on the definitions, which the crates above use too.
 pub mod Names
 pub mod Splits
 pub mod Distinct

@@ -1,4 +1,4 @@
--- What set algebra gives: its members, its order, and that its elements stay pairwise unequal.
+-- The results of set algebra: their members and their order; and their elements are pairwise unequal.
 use Rattle.std.proofs.Common.{◌≡◌, Bool, true, false, not, ◌&&◌, ◌||◌, cond, List, [], ◌∷◌, ◌++◌, filter, sym}
 use Rattle.std.proofs.Common.{refl, ap, ap₂, ◌∙◌, true≢false, arith}
 use Rattle.std.specs.Cmp.{IsEquivalence}
@@ -11,7 +11,7 @@ use Rattle.std.proofs.lemmas.List.Elements.{recursion_from_All, filter_passes}
 use Rattle.hashlink_model.proofs.Distinct.{each-append, each-weaker}
 
 module _ {T : Type 0} (eq : T → T → Bool) (laws : IsEquivalence eq) where
-  -- equal elements are members alike
+  -- equal elements are both members, or neither is
   pub is_member-equal : (xs : List T) (a b : T) → eq a b ≡ true → is_member eq xs a ≡ is_member eq xs b
   is_member-equal [] a b t = refl
   is_member-equal (x ∷ xs) a b t = ap₂ ◌||◌ (laws.congr a b x t) (is_member-equal xs a b t)

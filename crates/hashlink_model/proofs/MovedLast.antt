@@ -1,4 +1,4 @@
--- A key that moved last, through which the value that stands was written.
+-- A key that moved last, after its own value was written through it.
 use Rattle.hashlink_model.proofs.Names.{◌≡◌, ℕ, Bool, Some, length, IsEquivalence, lookup, ap, refl, sym, subst, ◌∙◌}
 use Rattle.hashlink_model.proofs.Names.{NonePasses, arith, le_refl}
 use Rattle.hashlink_model.proofs.Names.{IsEntries, IsKeyTest, moved, MapState, Changes, Moves, MovesMatch}
@@ -7,7 +7,7 @@ use Rattle.hashlink_model.specs.Steps.{MovesAndWrites, MovesMatchAndWrites, with
 use Rattle.hashlink_model.proofs.Afterwards.{lookup-moved, moved_match-none}
 use Rattle.hashlink_model.proofs.Splits.{key_from_lookup, set_value-none}
 
--- it moved last, and nothing else
+-- it moved last, and nothing else changed
 pub moved_last : {K V S : Type 0} (eq : K → K → Bool) → IsEquivalence eq
     → (old new : MapState K V S) (k : K) (w : V)
     → IsEntries eq old.entries → lookup (eq k) old.entries ≡ Some w
@@ -24,7 +24,7 @@ moved_last eq laws old new k w d at s =
       step = subst (λ m. Changes old m (moved eq old.entries k b) 6) (sym same) s.moves;
     }
 
--- the same by a test of keys
+-- the same for a test of keys
 pub moved_match_last : {K V S : Type 0} (eq : K → K → Bool) → IsEquivalence eq → (test : K → Bool)
     → IsKeyTest eq test → (old new : MapState K V S) (w : V)
     → IsEntries eq old.entries → lookup test old.entries ≡ Some w
@@ -37,7 +37,7 @@ moved_match_last eq laws test tells old new w d at s =
     (λ t. lookup t old.entries ≡ Some w → MovesMatchAndWrites t old new b w → MovesMatch t old new b (Some w))
     (sym k.1) (λ l m. moved_last eq laws old new k.0 w d l m) at s
 
--- ---- where no key passes nothing is lent, and whatever is said to be written changes nothing
+-- ---- if no key passes, nothing is lent, and a write of any value changes nothing
 
 module _ {K V S : Type 0} (test : K → Bool) (m : MapState K V S) (w : V) (none : NonePasses test m.entries) where
   pub writes_none : m ≡ with_match_value test m w

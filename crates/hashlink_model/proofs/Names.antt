@@ -1,4 +1,4 @@
--- What the proofs of this crate import again and again.
+-- The names that many proofs of this crate import.
 pub use Rattle.hashlink_model.specs.Algebra.{difference_of, intersection_of}
 pub use Rattle.hashlink_model.specs.Cache.{CacheGets, CacheInserts, CacheState, cache_put, cache_use}
 pub use Rattle.hashlink_model.specs.Cache.{last_entries}

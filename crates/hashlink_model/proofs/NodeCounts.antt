@@ -1,4 +1,4 @@
--- What follows from the steps between two states of a map.
+-- Consequences of the steps between two states of a map.
 use Rattle.hashlink_model.proofs.Names.{◌≡◌, ℕ, sym, List, length, Bool, Option, None, Some, Result, Ok, Err}
 use Rattle.hashlink_model.proofs.Names.{ap, ◌∙◌, arith, set_value, length-set_value, put, moved, MapState}
 use Rattle.hashlink_model.proofs.Names.{node_count, Changes, Inserts, KeepsOnly, Moves, MovesMatch}
@@ -18,7 +18,7 @@ module _ {K V S : Type 0} (old new : MapState K V S) where
       ≡ length old.entries
   node_count-shrinks r s = omega (arith, ap length s.entries)
 
--- ---- two steps that only take entries away are one, and a removal is one of them
+-- ---- two steps that only remove entries are together such a step, and a removal is one
 
 module _ {K V S : Type 0} where
   pub removes_keeps : (old new : MapState K V S) (es : List (K × V)) → Removes old new es
@@ -68,7 +68,7 @@ module _ {K V S : Type 0} (eq : K → K → Bool) (old new : MapState K V S) (k 
   HasRoom-inserts v b (Ok (Some w)) s h = omega (arith, node_count-puts v b w s)
   HasRoom-inserts v b (Err pair) s h = omega (arith, ap length s.grows.entries)
 
-  -- ---- a value that was written, and an entry that was moved
+  -- ---- a write of a value, and a move of an entry
 
   module _ (v w : V) where
     pub writes_nodes : WritesEntry eq old new k v w → node_count new ≡ node_count old

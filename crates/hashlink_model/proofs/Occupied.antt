@@ -1,4 +1,4 @@
--- What stands after the steps on an occupied entry.
+-- Lists after the steps on an occupied entry.
 use Rattle.hashlink_model.proofs.Names.{insert, remove, zero, suc, ◌<◌, MatchOption, Option, arith, take}
 use Rattle.hashlink_model.proofs.Names.{drop, length-append, length-take, length-drop, ◌≡◌, ℕ, Bool}
 use Rattle.hashlink_model.proofs.Names.{true, cond, List, [], ◌∷◌, ◌++◌, length, slice_get, None, Some, refl}
@@ -15,13 +15,13 @@ use Rattle.hashlink_model.proofs.ByPlace.{moved_at-put, remove-place, length-set
 use Rattle.hashlink_model.proofs.Splits.{stands_from_place}
 
 module _ {K V : Type 0} where
-  -- in a list taken apart at the entry
+  -- in a list split at the entry
   pub replace_entry-here : (xs : List (K × V)) (e : K × V) (ys : List (K × V)) (h : K) (v : V)
       → replace_entry (xs ++ e ∷ ys) (length xs) h v ≡ xs ++ (h, v) ∷ ys
   replace_entry-here xs e ys h v =
       ap (λ zs. set_key_at zs (length xs) h) (set_value_at-here xs e ys v) ∙ set_key_at-here xs (e.0, v) ys h
 
-  -- a key or a value alone is the entry with the other part as it was
+  -- an entry with only a new key, or only a new value, keeps its other part
   pub set_key_at-entry : (es : List (K × V)) (j : ℕ) (e : K × V) (k : K) → slice_get es j ≡ Some e
       → set_key_at es j k ≡ replace_entry es j k e.1
   set_key_at-entry [] j e k at = refl
@@ -35,7 +35,7 @@ module _ {K V : Type 0} where
   set_value_at-entry (x ∷ es) (suc j) e v at = ap (λ zs. x ∷ zs) (set_value_at-entry es j e v at)
 
 module _ {K V : Type 0} (eq : K → K → Bool) (laws : IsEquivalence eq) where
-  -- the entry at j leaves, and h stands last with the value
+  -- the entry at j is gone, and h is the last, with the value
   pub insert_entry-last : (es : List (K × V)) (j : ℕ) (e : K × V) (h : K) (v : V) → IsEntries eq es
       → slice_get es j ≡ Some e → insert_entry es j h v ≡ without eq es e.0 ++ (h, v) ∷ []
   insert_entry-last es j e h v d at =
@@ -92,7 +92,7 @@ module _ {K V : Type 0} (eq : K → K → Bool) (laws : IsEquivalence eq) where
   place_of-replace_entry q (x ∷ es) (suc j) e h v at t =
       grind (arith, place_of-replace_entry q es j e h v at t)
 
-  -- ---- a new value last with the stored key
+  -- ---- the stored key last, with a new value
 
   pub insert_value-put : (es : List (K × V)) (j : ℕ) (e : K × V) (v : V) → IsEntries eq es
       → slice_get es j ≡ Some e → insert_value es j v ≡ put eq es e.0 v (length es)
@@ -140,7 +140,7 @@ module _ {K V : Type 0} where
   length-insert_entry es j h v = length-moved_at (replace_entry es j h v) j (length es)
       ∙ length-replace_entry es j h v
 
--- ---- where an entry stands
+-- ---- the place of an entry
 
 module _ {K V S : Type 0} (eq : K → K → Bool) where
   pub raw_entry_stands : (m : MapState K V S) (k : K) → IsRawEntry (raw_entry_of eq m k)

@@ -12,7 +12,7 @@ module _ {X : Type 0} where
   slice_get_here [] x ys = refl
   slice_get_here (z ∷ xs) x ys = slice_get_here xs x ys
 
-  -- a list taken apart at a place
+  -- a list split at a place
   pub split_at : (xs : List X) (i : ℕ) (x : X) → slice_get xs i ≡ Some x
       → (us : List X) × (vs : List X) × (xs ≡ us ++ x ∷ vs) × (length us ≡ i)
   split_at [] i x e = absurd (none-some x e)
@@ -26,7 +26,7 @@ module _ {K V : Type 0} (eq : K → K → Bool) where
   slice_get-place_or_end q (e ∷ es) = grind (arith, slice_get-place_or_end q es)
 
 module _ {K V : Type 0} (eq : K → K → Bool) (laws : IsEquivalence eq) where
-  -- no entry before e, or after it, has a key that is equal to its own
+  -- no entry before e has a key equal to e's, nor does an entry after it
   pub none_before : (xs : List (K × V)) (e : K × V) (ys : List (K × V)) (q : K) → IsEntries eq (xs ++ e ∷ ys)
       → eq q e.0 ≡ true → NonePasses (eq q) xs
   none_before xs e ys q d t =
@@ -47,7 +47,7 @@ module _ {K V : Type 0} (eq : K → K → Bool) (laws : IsEquivalence eq) where
       let s = split_at es i e at in
       rw (s.2) (lookup_entry-here (eq q) e s.1 t s.0 (none_before s.0 e s.1 q (subst (IsEntries eq) s.2 d) t))
 
-  -- the key object that the list holds for the key of the entry at i is its own
+  -- the key object that the list has for the key of the entry at i is the entry's
   pub stored_key_at : (es : List (K × V)) (i : ℕ) (e : K × V) (q : K) → IsEntries eq es
       → slice_get es i ≡ Some e → eq q e.0 ≡ true → stored_key eq es q ≡ e.0
   stored_key_at es i e q d at t = rw (lookup_key_is (eq q) es, lookup_entry_at es i e q d at t) refl

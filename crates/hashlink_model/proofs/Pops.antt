@@ -1,4 +1,4 @@
--- The first and the last entry taken out, and cursors and entries of a map's state.
+-- Pops of the first and of the last entry, and cursors and entries of a map's state.
 use Rattle.hashlink_model.proofs.Names.{ap₂, option_to_list, cons_option, ◌≡◌, ℕ, ◌+◌, ◌≤◌, Bool, List, []}
 use Rattle.hashlink_model.proofs.Names.{◌∷◌, ◌++◌, length, None, Some, Err, refl, sym, ap, ◌∙◌, arith}
 use Rattle.hashlink_model.proofs.Names.{IsEquivalence, lookup, IsEntries, place_of, MapState, PopsFront}
@@ -16,7 +16,7 @@ module _ {K V : Type 0} (eq : K → K → Bool) (laws : IsEquivalence eq) where
   absent_is_vacant k [] l = refl
   absent_is_vacant k (e ∷ es) l = grind (arith, absent_is_vacant k es)
 
-  -- a refused insert of a cursor leaves the entries and the cursor
+  -- an insert of a cursor that is refused leaves the entries and the cursor
   pub cursor_refused : {S : Type 0} (old new : CursorState K V S) (k : K) (v : V) (b : ℕ) (pair : K × V)
       → IsEntries eq old.map.entries → old.place ≤ length old.map.entries
       → CursorInserts eq old new k v b (Err pair)

@@ -13,37 +13,37 @@ use Rattle.hashlink_model.proofs.Distinct.{none_equal, none_others, IsEntries-mi
 use Rattle.hashlink_model.proofs.Finds.{stored_key-equal, lookup_entry-middle, lookup_entry-without}
 
 module _ {K V : Type 0} (eq : K → K → Bool) where
-  -- an absent key goes in at the place
+  -- an absent key is inserted at the place
   pub put-absent : (es : List (K × V)) (k : K) (v : V) (b : ℕ) → NonePasses (eq k) es
       → put eq es k v b ≡ insert es b (k, v)
   put-absent es k v b n =
       rw (remove_entry-none (eq k) es n, place_of-none (eq k) es n, lookup_key-none (eq k) es n) refl
 
-  -- a key that is there leaves its place, and goes in with its own key object
+  -- a present key leaves its place, and is inserted with its own key object
   pub put-here : (xs : List (K × V)) (e : K × V) (ys : List (K × V)) (k : K) (v : V) (b : ℕ) → eq k e.0 ≡ true
       → NonePasses (eq k) xs
       → put eq (xs ++ e ∷ ys) k v b ≡ insert (xs ++ ys) (cond (nat_lt (length xs) b) (b - 1) b) (e.0, v)
   put-here xs e ys k v b t n = rw (remove_entry-here (eq k) e ys t xs n)
       (rw (place_of-here (eq k) e ys t xs n, lookup_key-here (eq k) e ys t xs n) refl)
 
-  -- ---- at the ends, and where the key stands already
+  -- ---- at the ends, and at the key's own place
 
   pub place_without-end : (es : List (K × V)) (k : K) → place_without eq es k (length es)
       ≡ length (without eq es k)
   place_without-end [] k = refl
   place_without-end (e ∷ es) k = grind (arith, nat_tests, place_without-end es k)
 
-  -- put at the end is last, with the key object that was there
+  -- a key that is put at the end is the last, with the stored key object
   pub put_back : (es : List (K × V)) (k : K) (v : V)
       → put eq es k v (length es) ≡ without eq es k ++ (stored_key eq es k, v) ∷ []
   put_back es k v = rw (place_without-end es k) (insert_end (without eq es k) (stored_key eq es k, v))
 
-  -- put at 0 is first
+  -- a key that is put at 0 is the first
   pub put_front : (es : List (K × V)) (k : K) (v : V) → put eq es k v 0
       ≡ (stored_key eq es k, v) ∷ without eq es k
   put_front es k v = grind (arith, nat_tests)
 
-  -- put where the key stands, or directly after it, changes the value alone
+  -- a put at the key's own place, or directly after it, changes only the value
   kept_by : (es : List (K × V)) (k : K) (v : V) (j b : ℕ) → (b ≡ j) ⊎ (b ≡ j + 1)
       → (xs : List (K × V)) × (e : K × V) × (ys : List (K × V)) × StandsAt (eq k) es xs e ys × (length xs ≡ j)
       → put eq es k v b ≡ set_value (eq k) es v
@@ -61,7 +61,7 @@ module _ {K V : Type 0} (eq : K → K → Bool) where
       → put eq es k v (j + 1) ≡ set_value (eq k) es v
   put_after_its_place es k v j p = kept_by es k v j (j + 1) (inr refl) (stands_from_place (eq k) es j p)
 
-  -- ---- in a list taken apart at the key
+  -- ---- in a list split at the key
 
   pub put_back_absent : (es : List (K × V)) (k : K) (v : V) → NonePasses (eq k) es
       → put eq es k v (length es) ≡ es ++ (k, v) ∷ []
@@ -109,7 +109,7 @@ module _ {K V : Type 0} (eq : K → K → Bool) (laws : IsEquivalence eq) where
       IsEntries-insert eq laws (take j (without eq es k)) (stored_key eq es k, v) (drop j (without eq es k))
       (none_stored es k j d) (rw (take-append-drop j (without eq es k)) (IsEntries-without es k d))
 
-  -- ---- what a look-up finds afterwards
+  -- ---- lookups after a put
 
   pub lookup_entry-put : (q : K) (es : List (K × V)) (k : K) (v : V) (b : ℕ) → IsEntries eq es
       → lookup_entry (eq q) (put eq es k v b) ≡ cond (eq k q) (Some (stored_key eq es k, v))
@@ -122,7 +122,7 @@ module _ {K V : Type 0} (eq : K → K → Bool) (laws : IsEquivalence eq) where
       let same = laws.congr k k0 q (stored_key-equal eq laws k es) in
       grind (arith, found, same, take-append-drop j zs, lookup_entry-without eq laws q k es d)
 
--- ---- a value that is changed leaves every place
+-- ---- a new value at a key leaves every place
 
 module _ {K V : Type 0} (test : K → Bool) where
   pub place_of-set_value : (other : K → Bool) (es : List (K × V)) (v : V)
@@ -130,7 +130,7 @@ module _ {K V : Type 0} (test : K → Bool) where
   place_of-set_value other [] v = refl
   place_of-set_value other (e ∷ es) v = grind (arith, place_of-set_value other es v)
 
--- ---- and what every other key has
+-- ---- it also leaves the pair of every other key
 
 module _ {K V : Type 0} (eq : K → K → Bool) (laws : IsEquivalence eq) where
   pub lookup_entry-set_value_other : (q : K) (es : List (K × V)) (k : K) (v : V) → eq k q ≡ false

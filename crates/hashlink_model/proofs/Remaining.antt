@@ -1,4 +1,4 @@
--- What a look-up finds where only an end of the entries remains.
+-- What a lookup finds if only an end of the entries is left.
 use Rattle.hashlink_model.proofs.Names.{◌≡◌, ◌≤◌, Bool, true, false, List, [], ◌∷◌, ◌++◌, length, drop, Some}
 use Rattle.hashlink_model.proofs.Names.{sym, ap, ◌∙◌, subst, arith, append_assoc, None, IsEquivalence, lookup}
 use Rattle.hashlink_model.proofs.Names.{lookup_entry, length-append, IsEntries, put, without, stored_key}
@@ -9,7 +9,7 @@ use Rattle.hashlink_model.proofs.Puts.{put_back, IsEntries-put}
 use Rattle.hashlink_model.proofs.Afterwards.{lookup_entry-put_other}
 use Rattle.hashlink_model.proofs.Places.{none_before}
 
--- an end that is not empty has the last one
+-- an end that is not empty has the last element
 pub last_stays : {X : Type 0} (xs : List X) (x : X) (front back : List X) → xs ++ x ∷ [] ≡ front ++ back
     → 1 ≤ length back → (zs : List X) × (back ≡ zs ++ x ∷ [])
 last_stays xs x [] back i l = (xs, sym i)
@@ -18,7 +18,7 @@ last_stays [] x (f ∷ front) back i l = let n = ap length i in let m =
 last_stays (y ∷ xs) x (f ∷ front) back i l = last_stays xs x front back (ap (drop 1) i) l
 
 module _ {K V : Type 0} (eq : K → K → Bool) (laws : IsEquivalence eq) where
-  -- what is found in an end is what is found in the whole
+  -- a lookup that finds an entry in an end finds it in the whole list
   pub found_in_end : (q : K) (e : K × V) (front back : List (K × V)) → IsEntries eq (front ++ back)
       → lookup_entry (eq q) back ≡ Some e → lookup_entry (eq q) (front ++ back) ≡ Some e
   found_in_end q e [] back d l = l

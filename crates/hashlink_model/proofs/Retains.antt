@@ -1,5 +1,5 @@
--- What a retain leaves: in the list's own order, with keys pairwise unequal, and a filter where the closure
--- is a predicate.
+-- The entries after a retain: in the list's own order, with keys pairwise unequal, and a filter if the
+-- closure is a predicate.
 use Rattle.hashlink_model.proofs.Names.{recursion_from_All, keys_of, ◌≡◌, Bool, true, false, cond, List, []}
 use Rattle.hashlink_model.proofs.Names.{◌∷◌, ◌++◌, Option, None, Some, filter, refl, sym, ap, ap₂, ◌∙◌, subst}
 use Rattle.hashlink_model.proofs.Names.{arith, IsEquivalence, AllByRecursion, cons_option, lookup_entry}
@@ -99,7 +99,7 @@ module _ {K V : Type 0} (eq : K → K → Bool) (laws : IsEquivalence eq) where
       (recursion_from_All (Contains es) es (All-contains_itself es)))
 
 module _ {F K V : Type 0} (T : F → K → V → Bool → V → F → Type 0) where
-  -- no key comes in
+  -- no key is added
   pub none_kept : (test : K → Bool) (f : F) (es new : List (K × V)) (g : F) → KeepsInOrder T f es new g
       → NonePasses test es → NonePasses test new
   none_kept test f [] new g r n = rw r.0 tt
@@ -114,7 +114,7 @@ module _ {F K V : Type 0} (T : F → K → V → Bool → V → F → Type 0) wh
         let none = none_kept (eq e.0) r.2 es r.3 g r.5 (IsEntries-head eq e es d) in
         rw r.6 (grind (arith, rest, IsEntries-cons eq (e.0, r.1) r.3 none rest))
 
-    -- ---- in the list's own order is one of the orders
+    -- ---- the list's own order is one of the orders
 
     skip : (x : K × V) (es kept : List (K × V)) → AllByRecursion (λ e. eq e.0 x.0 ≡ false) es
         → in_order_of eq es (x ∷ kept) ≡ in_order_of eq es kept
@@ -133,7 +133,7 @@ module _ {F K V : Type 0} (T : F → K → V → Bool → V → F → Type 0) wh
         subst (λ zs. in_order_of eq (e ∷ es) zs ≡ zs) (sym r.6)
         (grind (arith, skipped, lookup_entry-none (eq e.0) r.3 m, rest, laws.refl e.0))
 
--- ---- how the closure ends
+-- ---- the closure after the calls
 
 module _ {F K V : Type 0} (T : F → K → V → Bool → V → F → Type 0) (Stays : F → Type 0)
     (keeps : (f : F) (k : K) (v : V) (b : Bool) (w : V) (g : F) → T f k v b w g → Stays f → Stays g) where
@@ -146,7 +146,7 @@ module _ {F K V : Type 0} (T : F → K → V → Bool → V → F → Type 0) (S
       → KeepsInSomeOrder T eq f es new g → Stays f → Stays g
   stays_in_some_order eq f es new g r s = stays_in_order f r.order r.kept g r.called s
 
--- where each call is determined, so is what is kept and how the closure ends
+-- if the results of each call are determined, so are the entries kept and the closure after the calls
 module _ {F K V : Type 0} (T : F → K → V → Bool → V → F → Type 0) (answer : F → K → V → Bool)
     (written : F → K → V → V) (next : F → K → V → F) where
   abbrev pub kept_by : F → List (K × V) → List (K × V)

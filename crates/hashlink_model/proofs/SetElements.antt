@@ -37,7 +37,7 @@ module _ {T V : Type 0} (test : T → Bool) where
   keys-filter p [] = refl
   keys-filter p (e ∷ es) = grind (arith, keys-filter p es)
 
-  -- a key that is set at the place of an equal one
+  -- a key that is stored at the place of an equal one
   pub keys-set_key_at : (es : List (T × V)) (j : ℕ) (t : T) → place_of test es ≡ Some j
       → keys_of (set_key_at es j t) ≡ swap_key test (keys_of es) t
   keys-set_key_at [] j t p = refl
@@ -133,7 +133,7 @@ module _ {T S : Type 0} (old new : SetState T S) (e : T × Unit {0}) where
   pops_back_elements s = let p = pops_back old new e s in ap keys_of p.0
       ∙ map-append (λ e. e.0) new.entries (e ∷ [])
 
--- ---- where an element is put
+-- ---- the place at which an element is put
 
 module _ {T : Type 0} (eq : T → T → Bool) where
   pub removed_pairs : (ts : List T) (t : T) → keys_of (without eq (pairs_of ts) t) ≡ remove_key (eq t) ts
@@ -154,7 +154,7 @@ module _ {T : Type 0} (eq : T → T → Bool) where
     pub entries_of_pairs : (ts : List T) → IsDistinct eq ts → IsEntries eq (pairs_of ts)
     entries_of_pairs ts d = subst (IsDistinct eq) (sym (keys_of-pairs_of ts)) d
 
-    -- an element that stands at j, or is put directly behind itself
+    -- an element at j, and one that is put directly behind itself
     pub place_in_pairs : (ts : List T) (j : ℕ) (x t : T) → IsDistinct eq ts → slice_get ts j
         ≡ Some x → eq t x ≡ true → place_of (eq t) (pairs_of ts) ≡ Some j
     place_in_pairs ts j x t d at e =

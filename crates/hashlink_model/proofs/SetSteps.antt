@@ -1,4 +1,4 @@
--- What stands after the steps of a set.
+-- Elements after the steps of a set.
 use Rattle.hashlink_model.proofs.Names.{◌≡◌, ℕ, zero, suc, ◌+◌, Bool, true, false, cond, ◌||◌, List, [], ◌∷◌}
 use Rattle.hashlink_model.proofs.Names.{◌++◌, sym, length, take, drop, slice_get, Some, refl, ap, ap₂, ◌∙◌}
 use Rattle.hashlink_model.proofs.Names.{arith, IsEquivalence, keys_of, is_member, swap_key, is_some-lookup}
@@ -102,7 +102,7 @@ module _ {T : Type 0} (eq : T → T → Bool) (laws : IsEquivalence eq) where
       let pushed : is_member eq ts t ≡ false → IsDistinct eq (ts ++ t ∷ []) = IsDistinct-push laws ts t d in
       grind (arith, pushed, IsDistinct_swap_key t ts d)
 
-  -- ---- an element that is equal leaves, and the one given takes its place
+  -- ---- an equal element is taken out, and the given one is stored at its place
 
   pub swapped_here : (t x : T) (us vs : List T) → IsDistinct eq (us ++ x ∷ vs) → eq t x ≡ true
       → swap_key (eq t) (us ++ x ∷ vs) t ≡ us ++ t ∷ vs

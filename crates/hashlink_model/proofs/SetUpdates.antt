@@ -1,10 +1,10 @@
--- What a look-up of an element finds after a step, from what a look-up of the map's keys finds.
-use Rattle.hashlink_model.proofs.Names.{◌≡◌, Bool, true, false, cond, List, Option, None, Some, is_some, refl}
-use Rattle.hashlink_model.proofs.Names.{sym, ap, ◌∙◌, keys_of, lookup, is_some-lookup, is_member}
+-- What a lookup of an element finds after a step, from what a lookup of the map's keys finds.
+use Rattle.hashlink_model.proofs.Names.{◌≡◌, Bool, true, false, cond, List, Option, is_some, refl}
+use Rattle.hashlink_model.proofs.Names.{sym, ap, ◌∙◌, keys_of, lookup, is_some-lookup}
 use Rattle.std.specs.Map.{KeepsOthers}
 use Rattle.std.specs.Set.{KeepsOthers as KeepsOtherElements}
-use Rattle.hashlink_model.specs.Lookups.{UpdatesBy, UpdatesPopped, KeepsLookups}
-use Rattle.hashlink_model.specs.Lookups.{SetUpdatesBy, SetUpdatesPopped, SetKeepsLookups}
+use Rattle.hashlink_model.specs.Lookups.{UpdatesBy, KeepsLookups}
+use Rattle.hashlink_model.specs.Lookups.{SetUpdatesBy, SetKeepsLookups}
 
 is_some-cond : {X : Type 0} (b : Bool) (x y : Option X)
     → is_some (cond b x y) ≡ cond b (is_some x) (is_some y)

@@ -1,5 +1,5 @@
--- A list of entries at the first key that passes a test: `xs ++ e ∷ ys`, where e passes and none of xs does;
--- or no key passes.
+-- A list of entries, split at the first key that passes a test: `xs ++ e ∷ ys`, in which e passes and none of
+-- xs does. Or no key passes.
 use Rattle.hashlink_model.proofs.Names.{◌≡◌, ℕ, Bool, true, false, List, [], ◌∷◌, ◌++◌, length, None, Some}
 use Rattle.hashlink_model.proofs.Names.{◌⊎◌, inl, inr, refl, sym, ap, ◌∙◌, lookup, lookup_entry, lookup_key}
 use Rattle.hashlink_model.proofs.Names.{remove_entry, set_value, NonePasses, same_Some, place_of, IsKeyTest}
@@ -9,7 +9,7 @@ use Rattle.std.proofs.Math.Path.{fun_ext}
 pub use Rattle.std.proofs.lemmas.Map.{lookup-none}
 
 module _ {K V : Type 0} (test : K → Bool) where
-  -- e is the first entry of es whose key passes, xs stands before it and ys after it
+  -- e is the first entry of es whose key passes, xs is before it and ys after it
   pub record StandsAt (es xs : List (K × V)) (e : K × V) (ys : List (K × V)) : Type 0 where
     pub is : es ≡ xs ++ e ∷ ys
     pub passes : test e.0 ≡ true
@@ -27,12 +27,12 @@ module _ {K V : Type 0} (test : K → Bool) where
       let later = ap (λ r. x ∷ r) s.3.is in
       inr (x ∷ s.0, s.1, s.2, record { is = later; passes = s.3.passes; before = (t, s.3.before) })
 
-  -- no key passes, or the list is taken apart at the first that does
+  -- no key passes, or the list is split at the first one that does
   pub splits : (es : List (K × V)) → NonePasses test es ⊎ Stands es
   splits [] = inl tt
   splits (x ∷ es) = either_by x es (test x.0) refl (splits es)
 
-  -- ---- where no key passes
+  -- ---- if no key passes
 
   pub place_of-none : (es : List (K × V)) → NonePasses test es → place_of test es ≡ None
   place_of-none [] n = refl
@@ -54,7 +54,7 @@ module _ {K V : Type 0} (test : K → Bool) where
   set_value-none [] v n = refl
   set_value-none (x ∷ es) v n = rw n.0 (ap (λ r. x ∷ r) (set_value-none es v n.1))
 
-  -- ---- where e is the first entry whose key passes
+  -- ---- if e is the first entry whose key passes
 
   module _ (e : K × V) (ys : List (K × V)) (t : test e.0 ≡ true) where
     pub place_of-here : (xs : List (K × V)) → NonePasses test xs → place_of test (xs ++ e ∷ ys)
@@ -85,7 +85,7 @@ module _ {K V : Type 0} (test : K → Bool) where
     set_value-here v [] n = rw t refl
     set_value-here v (x ∷ xs) n = rw n.0 (ap (λ r. x ∷ r) (set_value-here v xs n.1))
 
-  -- ---- from what a look-up found
+  -- ---- from the result of a lookup
 
   pub none_from_lookup : (es : List (K × V)) → lookup test es ≡ None → NonePasses test es
   none_from_lookup es l = none_passes_from_lookup test es l
@@ -102,7 +102,7 @@ module _ {K V : Type 0} (test : K → Bool) where
         (s.0, s.1, s.2, s.3, same_Some (length s.0) j (sym here ∙ ap (place_of test) (sym s.3.is) ∙ p)))
   ]
 
-  -- ---- a test of keys that passes one is the equality with it
+  -- ---- a test of keys that passes a key is the equality with it
 
   module _ (eq : K → K → Bool) (tells : IsKeyTest eq test) (es : List (K × V)) where
     pub key_from_lookup : (w : V) → lookup test es ≡ Some w → (k : K) × (test ≡ eq k)

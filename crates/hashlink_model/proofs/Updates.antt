@@ -1,4 +1,4 @@
--- What a look-up finds after each kind of step, from the list that the step leaves.
+-- What a lookup finds after each kind of step, from the list that the step leaves.
 use Rattle.hashlink_model.proofs.Names.{◌≡◌, ℕ, Bool, true, false, cond, List, [], ◌∷◌, ◌++◌, Option, None}
 use Rattle.hashlink_model.proofs.Names.{Some, Result, Ok, Err, inl, inr, refl, sym, ap, ◌∙◌, subst, is_some}
 use Rattle.hashlink_model.proofs.Names.{append-nil, IsEquivalence, lookup, lookup_entry, remove_entry, set_value}
@@ -22,14 +22,14 @@ use Rattle.hashlink_model.proofs.Distinct.{IsEntries-tail}
 use Rattle.hashlink_model.proofs.Afterwards.{lookup-put, lookup-put_same, lookup-moved, moved_match-none}
 use Rattle.hashlink_model.proofs.Retains.{none_kept}
 
--- a key that a query finds fails each test that is apart from it
+-- a key that a query finds fails each test that is apart from the query
 fails_apart : {K : Type 0} (test other : K → Bool) → AreApart test other → (k : K) → other k ≡ true
     → test k ≡ false
 fails_apart test other apart k y =
     ⊎_elim (λ t. absurd (true≢false (sym y ∙ apart k t))) (λ n. n) (cases_Bool (test k))
 
 module _ {K V : Type 0} (eq : K → K → Bool) where
-  -- what holds of each key that fails the test holds of each query for such keys
+  -- what holds for each key that fails the test holds for each query for such keys
   keeps_others : (test : K → Bool) (old new : List (K × V))
       → ((q : K) → test q ≡ false → lookup (eq q) new ≡ lookup (eq q) old) → KeepsOthers eq test old new
   unfolding KeepsOthers
@@ -47,7 +47,7 @@ module _ {K V : Type 0} (eq : K → K → Bool) where
         | inr s ↦ found s.1.0 s.3.passes
       ]
 
-  -- what each key finds, and the test itself, is all
+  -- it is enough to show what each key finds, and what the test finds
   updates_by : (test : K → Bool) (old new : List (K × V)) (w : Option V)
       → ((q : K) → lookup (eq q) new ≡ cond (test q) w (lookup (eq q) old)) → lookup test new ≡ w
       → UpdatesBy eq test old new w
@@ -72,7 +72,7 @@ module _ {K V : Type 0} (eq : K → K → Bool) (laws : IsEquivalence eq) where
       updates_by eq (eq k) es (put eq es k v b) (Some v) (λ q. lookup-put eq laws q es k v b d)
       (lookup-put_same eq laws k es k v b d (laws.refl k))
 
-  -- goal: the look-ups after an insert that is not refused
+  -- goal: the lookups after an insert that is not refused
   pub updates-inserted : {A E : Type 0} (r : Result A E) (es new : List (K × V)) (k : K) (v : V) (b : ℕ)
       → IsEntries eq es → OnOk r (new ≡ put eq es k v b) → OnOk r (Updates eq es new k (Some v))
   updates-inserted (Ok x) es new k v b d is =
@@ -93,13 +93,13 @@ module _ {K V : Type 0} (eq : K → K → Bool) (laws : IsEquivalence eq) where
           | inr s ↦ here_by eq test tells s.1.0 s.3.passes es new None each
         ])
 
-    -- goal: the look-ups after a removal
+    -- goal: the lookups after a removal
     pub updates-left : (es new : List (K × V)) → IsEntries eq es → new ≡ remove_entry test es
         → UpdatesBy eq test es new None
     updates-left es new d is =
         subst (λ zs. UpdatesBy eq test es zs None) (sym is) (updates-removed es d)
 
-    -- ---- a value that is written
+    -- ---- a write of a value
 
     pub updates-written : (es : List (K × V)) (w : V) → IsSome (lookup test es)
         → UpdatesBy eq test es (set_value test es w) (Some w)
@@ -141,7 +141,7 @@ module _ {K V : Type 0} (eq : K → K → Bool) (laws : IsEquivalence eq) where
       keeps_others eq test es (moved_match test es b) (λ q n. moved_each q es b d),
     )
 
-    -- goal: the look-ups once a value was written that a move lent
+    -- goal: the lookups once a value was written that a move lent
     pub updates-lent_moved : (es : List (K × V)) (b : ℕ) → IsEntries eq es → IsSome (lookup test es)
         → UpdatesLent eq test es (moved_match test es b)
     updates-lent_moved es b d there = λ w.
@@ -165,7 +165,7 @@ module _ {K V : Type 0} (eq : K → K → Bool) (laws : IsEquivalence eq) where
       = remove_entry-here (eq e.0) e [] (laws.refl e.0) es before ∙ append-nil es in
       updates-left (eq e.0) (laws.congr e.0) (es ++ e ∷ []) es d (sym gone)
 
-  -- goal: the look-ups after a pop
+  -- goal: the lookups after a pop
   pub updates-pop_front : (o : Option (K × V)) (es new : List (K × V)) → IsEntries eq es
       → TakesFirst (λ e. e) es o new → UpdatesPopped eq es new o
   updates-pop_front None es new d t = tt
@@ -215,7 +215,7 @@ module _ {F K V : Type 0} (T : F → K → V → Bool → V → F → Type 0) (e
       (sym (ap (lookup (eq q)) r.6 ∙ at_another q e.0 r.1 r.3 r.0 n)) rest))
       (cases_Bool (eq q e.0))
 
-  -- goal: the look-ups after a retain
+  -- goal: the lookups after a retain
   pub updates-retained : (f : F) (es kept new : List (K × V)) (g : F) → IsEntries eq es
       → KeepsInOrder T f es kept g → new ≡ kept → UpdatesKept T eq es new
   updates-retained f es kept new g d r is = subst (UpdatesKept T eq es) (sym is) (

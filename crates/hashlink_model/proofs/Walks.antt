@@ -1,4 +1,4 @@
--- What a walk from both ends gives and leaves.
+-- What an iterator from both ends returns and leaves.
 use Rattle.hashlink_model.proofs.Names.{◌≡◌, suc, ◌-◌, List, [], ◌∷◌, ◌++◌, length, Option, None, Some}
 use Rattle.hashlink_model.proofs.Names.{option_to_list, refl, sym, ap, ◌∙◌, arith, append_assoc, cons_option}
 use Rattle.hashlink_model.proofs.Names.{TakesFirst, append-nil, length-append, length-take, length-drop}
@@ -39,7 +39,7 @@ module _ {X : Type 0} where
   cons_append None xs ys = refl
   cons_append (Some x) xs ys = refl
 
-  -- what was given from either end and what is left are the list: each entry comes once
+  -- what was returned from both ends and what is left is the list: each entry is returned once
   pub walk_splits : (ss : List End) (xs : List X) → given_front ss xs
       ++ (walk_leaves ss xs ++ given_back ss xs) ≡ xs
   walk_splits [] xs = append-nil xs
@@ -57,7 +57,7 @@ module _ {X : Type 0} where
   length_step Front xs = length-drop 1 xs
   length_step Back xs = let c = length-take (length xs - 1) xs in omega arith
 
-  -- the size hint is what is left: each step takes one off, and none where nothing is left
+  -- the size hint is the number of elements left: each step lowers it by one, down to 0
   pub length-walk_leaves : (ss : List End) (xs : List X) → length (walk_leaves ss xs) ≡ length xs - length ss
   length-walk_leaves [] xs = omega arith
   length-walk_leaves (s ∷ ss) xs =

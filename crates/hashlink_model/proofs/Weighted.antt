@@ -1,4 +1,4 @@
--- The longest end of the entries that a budget allows.
+-- The longest end of the entries within a budget.
 use Rattle.hashlink_model.proofs.Names.{◌≡◌, ℕ, ◌≤◌, Bool, true, false, cond, List, [], ◌∷◌, ◌++◌, length}
 use Rattle.hashlink_model.proofs.Names.{refl, ◌∙◌, ap, arith, le_refl, length-append, IsEntries, without}
 use Rattle.hashlink_model.proofs.Names.{stored_key, Option, nat_tests}

@@ -1,4 +1,4 @@
--- The definitions at keys that are a text and a number and are compared by the text alone, so that equal keys
+-- The definitions for keys that are a text and a number and are compared only by the text, so that equal keys
 -- may be different objects. Texts are numbered.
 use Rattle.std.specs.Prelude.{ℕ, Bool, List, length, nat_eq}
 use Rattle.hashlink_model.specs.Cache as cache

@@ -1,4 +1,4 @@
--- What every contract of the containers cites: lists of entries, and the steps that a map may take.
+-- The definitions that every contract of the containers uses: lists of entries, and the steps of a map.
 pub mod Algebra
 pub mod Cache
 pub mod Compare

@@ -1,4 +1,4 @@
--- What a look-up finds after a change of the entries, in the words of std's maps and sets.
+-- What a lookup finds after a change of the entries, in the words of std's maps and sets.
 use Rattle.std.specs.Prelude.{◌≡◌, ◌⊎◌, ℕ, ◌<◌, Bool, false, cond, List, length, Option, Some, None, IfSome}
 use Rattle.std.specs.Prelude.{MatchOption}
 use Rattle.std.specs.List.{list_any}
@@ -8,19 +8,21 @@ use Rattle.std.specs.Set.{KeepsOthers as KeepsOtherElements}
 use Rattle.hashlink_model.specs.Entries.{put}
 
 module _ {K V : Type 0} (eq : K → K → Bool) where
-  -- a key that passes the test has w now (`None`: it is absent), and each other key has what it had. The
-  -- parts are: of every key; of the test itself; of a key that does not pass; of a query for such keys
+  -- the keys that pass the test have the value w now, or are absent if w is `None`; lookups of other keys are
+  -- unchanged. The four parts are for every key, for the test itself, for a key that does not pass, and for a
+  -- query for such keys
   abbrev pub UpdatesBy : (K → Bool) → List (K × V) → List (K × V) → Option V → Type 0
   UpdatesBy test old new w =
       ((q : K) → lookup (eq q) new ≡ cond (test q) w (lookup (eq q) old)) × (lookup test new ≡ w)
       × ((q : K) → test q ≡ false → lookup (eq q) new ≡ lookup (eq q) old) × KeepsOthers eq test old new
 
-  -- the test's key had a value, which is lent while the entries are es: once w is written there the key has w,
-  -- and each other key has what it had
+  -- the test passes a key with a value, which is lent while the entries are es. Once w is written there, the
+  -- key has w, and lookups of other keys are unchanged
   abbrev pub UpdatesLent : (K → Bool) → List (K × V) → List (K × V) → Type 0
   UpdatesLent test old es = (w : V) → UpdatesBy test old (set_value test es w) (Some w)
 
-  -- each key has what it had: every key, the test itself, and each query that is apart from it
+  -- all lookups are unchanged. The three parts are for every key, for the test, and for each query apart from
+  -- it
   abbrev pub KeepsLookups : (K → Bool) → List (K × V) → List (K × V) → Type 0
   KeepsLookups test old new =
       ((q : K) → lookup (eq q) new ≡ lookup (eq q) old) × (lookup test new ≡ lookup test old)
@@ -31,46 +33,48 @@ module _ {K V : Type 0} (eq : K → K → Bool) where
   abbrev pub Updates : List (K × V) → List (K × V) → K → Option V → Type 0
   Updates old new k w = UpdatesBy eq (eq k) old new w
 
-  -- the key stands last, and its value is lent: once w is written there the key has w, and each other key has
-  -- what it had
+  -- the key is put last, and its value is lent. Once w is written there, the key has w, and lookups of other
+  -- keys are unchanged
   abbrev pub UpdatesLast : List (K × V) → K → Type 0
   UpdatesLast old k = (w : V) → UpdatesBy eq (eq k) old (put eq old k w (length old)) (Some w)
 
-  -- the entry that a pop returned is absent now, and each other key has what it had
+  -- the key of the entry that a pop returned is absent now, and lookups of other keys are unchanged
   abbrev pub UpdatesPopped : List (K × V) → List (K × V) → Option (K × V) → Type 0
   UpdatesPopped old new popped = IfSome popped (λ e. UpdatesBy eq (eq e.0) old new None)
 
-  -- each key but k has what it had, or was evicted
+  -- a lookup of each key but k is unchanged, or finds nothing, since the key was evicted
   abbrev pub EvictsOthers : List (K × V) → List (K × V) → K → Type 0
   EvictsOthers old new k =
       (q : K) → eq k q ≡ false → (lookup (eq q) new ≡ None) ⊎ (lookup (eq q) new ≡ lookup (eq q) old)
 
-  -- an insert into a cache of the capacity `cap`: the key has v now, unless that is 0, and where there was a
-  -- place each other key has what it had
+  -- an insert into a cache with the capacity `cap`: the key has v now, unless `cap` is 0. Lookups of other
+  -- keys are unchanged, or the keys were evicted; none was evicted if there were fewer entries than `cap`
   abbrev pub UpdatesWithin : ℕ → List (K × V) → List (K × V) → K → V → Type 0
   UpdatesWithin cap old new k v =
       (0 < cap → lookup (eq k) new ≡ Some v) × EvictsOthers old new k
       × (length old < cap → UpdatesBy eq (eq k) old new (Some v))
 
-  -- an insert into a cache with a budget: the key has v now
+  -- an insert into a cache with a budget: the key has v now, and lookups of other keys are unchanged, or the
+  -- keys were evicted
   abbrev pub UpdatesFitting : List (K × V) → List (K × V) → K → V → Type 0
   UpdatesFitting old new k v = (lookup (eq k) new ≡ Some v) × EvictsOthers old new k
 
 module _ {F K V : Type 0} (T : F → K → V → Bool → V → F → Type 0) where
-  -- what `found` is of the key of an entry at which a closure was called: what that call left there, or
-  -- nothing, as it answered
+  -- `found` is what a lookup finds at the key of the entry e after a closure was called on e: the value that
+  -- the call left, or nothing, as the call's result decides
   abbrev pub AsAnswered : Option V → K × V → Type 0
   AsAnswered found e =
       (f : F) × (b : Bool) × (w : V) × (g : F) × T f e.0 e.1 b w g × (found ≡ cond b (Some w) None)
 
-  -- a retain: at each key that was there the closure was called, and its answer decides. No other key is there
+  -- a retain: the closure was called on each entry, and its result decides whether the entry is left. No
+  -- other key is present
   abbrev pub UpdatesKept : (K → K → Bool) → List (K × V) → List (K × V) → Type 0
   UpdatesKept eq old new =
       ((q : K) → MatchOption (lookup_entry (eq q) old) (lookup (eq q) new ≡ None)
       (AsAnswered (lookup (eq q) new)))
       × ((test : K → Bool) → lookup test old ≡ None → lookup test new ≡ None)
 
--- the same of a set, where a look-up answers whether an element is there
+-- the same for a set, in which a lookup returns whether an element is present
 module _ {T : Type 0} (eq : T → T → Bool) where
   abbrev pub SetUpdatesBy : (T → Bool) → List T → List T → Bool → Type 0
   SetUpdatesBy test old new b =

@@ -1,5 +1,4 @@
--- What a contract sees of a map, and the steps between two such states. A call's contract names the step that
--- it takes.
+-- A map, as contracts see it, and the steps between two such states. The contract of a call names its step.
 use Rattle.std.specs.Prelude.{◌≡◌, ℕ, ◌-◌, ◌+◌, ◌*◌, ◌≤◌, ◌<◌, max, Bool, List, [], length, Option, None}
 use Rattle.std.specs.Prelude.{Some, Result, MatchOption, MatchResult, insert, remove, refl}
 use Rattle.std.specs.Coded.{Coded, code_by, coded×, coded_list, coded_ℕ}
@@ -7,8 +6,8 @@ use Rattle.std.specs.Int.{IsPowerOfTwo}
 use Rattle.std.specs.Map.{lookup}
 use Rattle.hashlink_model.specs.Entries.{put, moved_at, set_value_at, set_key_at}
 
--- the entries, how many spare nodes there are, for how many nodes there is room, how many links of nodes were
--- stored so far, and the hasher
+-- the entries, the number of free nodes, the room (for how many nodes), how many links were stored so far,
+-- and the hasher
 pub record MapState (K V S : Type 0) : Type 0 where
   pub entries : List (K × V)
   pub spare : ℕ
@@ -16,14 +15,14 @@ pub record MapState (K V S : Type 0) : Type 0 where
   pub link_writes : ℕ
   pub hasher : S
 
--- a count of stored links did not fall, and grew by `most` at most
+-- the count of stored links did not fall, and grew by at most `most`
 pub record StoresAtMost (most old new : ℕ) : Type 0 where
   pub grows : old ≤ new
   pub bound : new ≤ old + most
 
--- a room that is to hold n nodes: as it was where it holds them, else at most twice as much as they need, or
--- 8. It grows to a power of two, so a room that holds n nodes has grown no more often than n has binary
--- digits
+-- the room of a step that needs room for n nodes. If there was enough, it is unchanged; else it is at most
+-- twice n, and at most 8 if n is below 4. It grows only to powers of two, so a room for n nodes has grown at
+-- most as often as n has binary digits
 pub record RoomFor (n old new : ℕ) : Type 0 where
   pub grows : old ≤ new
   pub same : n ≤ old → new ≡ old
@@ -34,18 +33,18 @@ module _ {K V S : Type 0} where
   abbrev pub map_state : List (K × V) → ℕ → ℕ → ℕ → S → MapState K V S
   map_state es n r w s = record { entries = es; spare = n; room = r; link_writes = w; hasher = s }
 
-  -- a state is stored as the tuple of its fields
+  -- a state is coded as the tuple of its fields
   abbrev pub map_state_code : Coded K → Coded V → Coded S → Coded (MapState K V S)
   map_state_code k v s = code_by (List (K × V) × (ℕ × (ℕ × (ℕ × S))))
       (coded× (coded_list (coded× k v)) (coded× coded_ℕ (coded× coded_ℕ (coded× coded_ℕ s))))
       (λ m. (m.entries, (m.spare, (m.room, (m.link_writes, m.hasher)))))
       (λ p. map_state p.0 p.1.0 p.1.1.0 p.1.1.1.0 p.1.1.1.1) (λ _. refl)
 
-  -- a map as it is made: nothing in it, and no memory taken
+  -- a new map: no entry, and no memory
   abbrev pub empty_map : S → MapState K V S
   empty_map s = map_state [] 0 0 0 s
 
-  -- how many nodes a map keeps: those of its entries and the spare ones
+  -- the number of a map's nodes: those of its entries and the free ones
   abbrev pub node_count : MapState K V S → ℕ
   node_count m = length m.entries + m.spare
 
@@ -53,14 +52,14 @@ module _ {K V S : Type 0} where
   abbrev pub HasRoom : MapState K V S → Type 0
   HasRoom m = node_count m ≤ m.room
 
-  -- every node is kept, and one is made only where there are more entries than nodes
+  -- every node is kept, and one is made only if there are more entries than nodes
   abbrev pub KeepsNodes : MapState K V S → MapState K V S → Type 0
   KeepsNodes old new = node_count new ≡ max (node_count old) (length new.entries)
 
-  -- ---- what may become of a state, by the entries `es` that it has now
+  -- ---- changes of a state, by its entries `es` afterwards
 
-  -- as many nodes are spare as before, and `most` links were stored at most: a move, or a key or a value that
-  -- was written
+  -- as many nodes are free as before, and at most `most` links were stored: a move, or a write of a key or a
+  -- value
   pub record Changes (old new : MapState K V S) (es : List (K × V)) (most : ℕ) : Type 0 where
     pub entries : new.entries ≡ es
     pub spare : new.spare ≡ old.spare
@@ -68,7 +67,7 @@ module _ {K V S : Type 0} where
     pub link_writes : StoresAtMost most old.link_writes new.link_writes
     pub hasher : new.hasher ≡ old.hasher
 
-  -- a new pair went in, into a spare node where there was one, and there is room for each node
+  -- a new pair was added, in a free node if there was one, and there is room for each node
   pub record Adds (old new : MapState K V S) (es : List (K × V)) : Type 0 where
     pub entries : new.entries ≡ es
     pub more : length es ≡ length old.entries + 1
@@ -78,7 +77,7 @@ module _ {K V S : Type 0} where
     pub link_writes : StoresAtMost 4 old.link_writes new.link_writes
     pub hasher : new.hasher ≡ old.hasher
 
-  -- an entry left, and its node is spare
+  -- an entry was removed, and its node is free
   pub record Removes (old new : MapState K V S) (es : List (K × V)) : Type 0 where
     pub entries : new.entries ≡ es
     pub fewer : length es + 1 ≡ length old.entries
@@ -87,7 +86,7 @@ module _ {K V S : Type 0} where
     pub link_writes : StoresAtMost 3 old.link_writes new.link_writes
     pub hasher : new.hasher ≡ old.hasher
 
-  -- nothing changed but the room, which may be one for n more entries now
+  -- only the room may have changed: it may have grown so that n more entries fit
   pub record Grows (n : ℕ) (old new : MapState K V S) : Type 0 where
     pub entries : new.entries ≡ old.entries
     pub spare : new.spare ≡ old.spare
@@ -95,13 +94,13 @@ module _ {K V S : Type 0} where
     pub link_writes : new.link_writes ≡ old.link_writes
     pub hasher : new.hasher ≡ old.hasher
 
-  -- ---- by places, which count from 0
+  -- ---- by places, counted from 0
 
-  -- a new pair went in at the place b
+  -- a new pair was added at the place b
   abbrev pub AddsAt : MapState K V S → MapState K V S → ℕ → K → V → Type 0
   AddsAt old new b k v = Adds old new (insert old.entries b (k, v))
 
-  -- the entry at the place j left
+  -- the entry at the place j was removed
   abbrev pub RemovesAt : MapState K V S → MapState K V S → ℕ → Type 0
   RemovesAt old new j = Removes old new (remove old.entries j)
 
@@ -116,30 +115,29 @@ module _ {K V S : Type 0} where
   abbrev pub SetsKeyAt : MapState K V S → MapState K V S → ℕ → K → Type 0
   SetsKeyAt old new j k = Changes old new (set_key_at old.entries j k) 0
 
-  -- the state with v as the value at the place j, as a write through what was lent leaves it
+  -- the state with v as the value at the place j, which a write through a loan leaves
   abbrev pub with_value : MapState K V S → ℕ → V → MapState K V S
   with_value m j v = record m { entries = set_value_at m.entries j v }
 
-  -- ---- an insert, by its answer
+  -- ---- an insert, by its result
 
   module _ (eq : K → K → Bool) where
-    -- the only case in which an insert may be refused for memory: the key is absent, and no node is spare
+    -- the only case in which an insert may be refused for memory: the key is absent, and no node is free
     pub record MayRefuse (old : MapState K V S) (k : K) : Type 0 where
       pub absent : lookup (eq k) old.entries ≡ None
       pub no_spare : old.spare ≡ 0
 
-    -- an absent key went in at the place b
+    -- an absent key was added at the place b
     pub record AddsEntry (old new : MapState K V S) (k : K) (v : V) (b : ℕ) : Type 0 where
       pub absent : lookup (eq k) old.entries ≡ None
       pub adds : Adds old new (put eq old.entries k v b)
 
-    -- the key that was there was put at the place b with a new value, and its old value was w
+    -- the present key was put at the place b with a new value, and its old value was w
     pub record PutsEntry (old new : MapState K V S) (k : K) (v : V) (b : ℕ) (w : V) : Type 0 where
       pub old_value : lookup (eq k) old.entries ≡ Some w
       pub puts : Changes old new (put eq old.entries k v b) 6
 
-    -- an insert that was refused, which only the rule allows: the pair is handed back, and no entry and no
-    -- spare node changed
+    -- an insert was refused, which it may be: the pair is handed back, and no entry and no free node changed
     pub record RefusesEntry (old new : MapState K V S) (k : K) (v : V) (pair : K × V) : Type 0 where
       pub may_refuse : MayRefuse old k
       pub handed_back : pair ≡ (k, v)

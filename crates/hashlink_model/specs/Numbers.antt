@@ -1,4 +1,4 @@
--- The definitions at keys, values and elements that are numbers, for rows that they compute to.
+-- The definitions for keys, values and elements that are numbers, for examples to which they compute.
 use Rattle.std.specs.Prelude.{ℕ, Bool, true, not, List, length, fold, Option, nat_eq}
 use Rattle.std.specs.Map as map
 use Rattle.std.specs.Ordering.{nat_cmp}
@@ -124,11 +124,11 @@ cache_uses = cache.cache_uses nat_eq
 abbrev pub last_entries : Pairs → ℕ → Pairs
 last_entries = cache.last_entries
 
--- the cache's entry for a key that is looked up after an eviction, and its `or_insert`
+-- the cache's entry for a key, which is looked up after an eviction, and its `or_insert`
 abbrev pub cache_or_insert : Pairs → ℕ → ℕ → ℕ → Pairs
 cache_or_insert es cap k v = or_insert (cache.front_evicted es cap) k v
 
--- the same of each pair in turn
+-- the same for each pair in turn
 abbrev pub cache_or_inserts : Pairs → ℕ → Pairs → Pairs
 cache_or_inserts es cap pairs = fold (λ zs p. cache_or_insert zs cap p.0 p.1) es pairs
 

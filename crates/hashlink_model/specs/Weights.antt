@@ -1,4 +1,4 @@
--- Entries whose values carry a weight, and the longest end of them that a budget allows.
+-- Entries whose values have a weight, and their longest end within a budget.
 use Rattle.std.specs.Prelude.{◌≡◌, ◌≤◌, ◌<◌, Option, ℕ, Bool, List, [], ◌∷◌, length, sum_by, if◌then◌else◌}
 use Rattle.std.specs.Prelude.{nat_le}
 use Rattle.hashlink_model.specs.Cache.{InsertsLast}
@@ -20,7 +20,7 @@ module _ {K V : Type 0} where
   abbrev pub weighted_put : (K → K → Bool) → List (K × (V × ℕ)) → ℕ → K → V → ℕ → List (K × (V × ℕ))
   weighted_put eq es budget k v weight = fitting (put eq es k (v, weight) (length es)) budget
 
--- a map whose values carry weights, and the budget
+-- a map whose values have weights, and the budget
 pub record WeightedState (K V S : Type 0) : Type 0 where
   pub map : MapState K (V × ℕ) S
   pub budget : ℕ
@@ -31,8 +31,8 @@ pub record IsTooHeavy {K V S : Type 0} (old new : WeightedState K V S) (weight :
   pub unchanged : new ≡ old
 
 module _ {K V S : Type 0} (eq : K → K → Bool) where
-  -- an insert that was accepted: the map's insert of the pair with its weight, and then the fitting end is
-  -- kept; w is the old value with its weight
+  -- an insert was accepted: the map's insert of the pair with its weight, after which the fitting end is
+  -- left; w is the old value with its weight
   pub record WeightedInserts (old new : WeightedState K V S) (k : K) (v : V) (weight : ℕ)
       (w : Option (V × ℕ)) : Type 0 where
     pub not_too_heavy : weight ≤ old.budget
@@ -41,7 +41,7 @@ module _ {K V S : Type 0} (eq : K → K → Bool) where
     pub keeps : KeepsOnly between new.map (fitting between.entries old.budget)
     pub budget : new.budget ≡ old.budget
 
-  -- one that memory was refused for
+  -- an insert was refused for memory
   pub record WeightedRefuses (old new : WeightedState K V S) (k : K) (v : V) (weight : ℕ) : Type 0 where
     pub not_too_heavy : weight ≤ old.budget
     pub refuses : RefusesEntry eq old.map new.map k (v, weight) (k, (v, weight))

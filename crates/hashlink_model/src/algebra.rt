@@ -1,4 +1,4 @@
-//! Rows and laws of set algebra.
+//! Examples and laws of set algebra.
 ghost use Rattle.std.specs.Prelude.{◌≡◌, ℕ, ◌+◌, ◌-◌, ◌^◌, ◌≤◌, Bool, true, false, not, List, [], ◌∷◌, None};
 ghost use Rattle.std.specs.Prelude.{Some, length, filter};
 ghost use Rattle.std.specs.Cmp.{IsEquivalence};
@@ -14,7 +14,7 @@ ghost use Rattle.hashlink_model.specs.Algebra.{symmetric_difference_hint};
 ghost use Rattle.hashlink_model.specs.Algebra.{part_hint};
 ghost use Rattle.hashlink_model.specs.Numbers as numbers;
 
-/// `1 2` and `3 1` together, from either side.
+/// `1 2` and `3 1` combined, in both orders.
 pub fn sets_together()
     ensures union { numbers.union (1 ∷ 2 ∷ []) (3 ∷ 1 ∷ []) ≡ 1 ∷ 2 ∷ 3 ∷ [] }
     ensures other_union { numbers.union (3 ∷ 1 ∷ []) (1 ∷ 2 ∷ []) ≡ 3 ∷ 1 ∷ 2 ∷ [] }
@@ -23,14 +23,14 @@ pub fn sets_together()
     ensures difference { numbers.difference (1 ∷ 2 ∷ []) (3 ∷ 1 ∷ []) ≡ 2 ∷ [] }
 {}
 
-/// What an iterator over one side has left may all be passed over, or may all be returned.
+/// An iterator over one side may pass over all elements left, or return them all.
 pub fn hints_along_one_side()
     ensures two { part_hint {T = ℕ} (1 ∷ 2 ∷ []) ≡ (0, Some 2) }
     ensures none { part_hint {T = ℕ} [] ≡ (0, Some 0) }
 {}
 
-/// The size hints along the union of `1 2` and `3 1`: at the start, after one step, and at its end, before
-/// and after the step that returns `None`.
+/// The size hints along the union of `1 2` and `3 1`: at the start, after one step, and before and after the
+/// step that returns `None`.
 pub fn hints_along_a_union()
     ensures start { union_hint {T = ℕ} (record { left = 1 ∷ 2 ∷ []; right = 3 ∷ 1 ∷ [] }) ≡ (2, Some 4) }
     ensures step { numbers.union_step (1 ∷ 2 ∷ []) (record { left = 1 ∷ 2 ∷ []; right = 3 ∷ 1 ∷ [] })
@@ -48,7 +48,7 @@ pub fn hints_along_a_union()
     ensures too_many { at_most_both (2 ^ 64 - 1) 1 ≡ None }
 {}
 
-/// The members are those that the words say.
+/// The results of set algebra have the members that their names promise.
 pub fn members_of_set_algebra<T>()
     ensures union { (eq : T → T → Bool) → IsEquivalence eq → (xs ys : List T) → IsUnion eq xs ys
         (union_of eq xs ys) }
@@ -60,7 +60,7 @@ pub fn members_of_set_algebra<T>()
         → IsSymmetricDifference eq xs ys (symmetric_difference_of eq xs ys) }
 {}
 
-/// No two elements of what two sets yield together are equal.
+/// No two elements of a result of set algebra are equal.
 pub fn set_algebra_keeps_elements_unequal<T>()
     ensures union { (eq : T → T → Bool) → IsEquivalence eq → (xs ys : List T) → IsDistinct eq xs
         → IsDistinct eq ys
@@ -92,7 +92,7 @@ pub fn subset_and_disjoint_by_membership<T>()
         → is_disjoint eq xs ys ≡ true }
 {}
 
-/// A lazy iterator begins with all that the two sets yield together, and each step takes the first of what is
+/// A lazy iterator begins with the whole result of set algebra, and each step takes the first of the elements
 /// left.
 pub fn lazy_walks_give_set_algebra<T>()
     ensures union { (eq : T → T → Bool) (xs ys : List T)
@@ -107,7 +107,7 @@ pub fn lazy_walks_give_set_algebra<T>()
         (left_to_give p q (pair_step p q w).1) }
 {}
 
-/// The size hints are bounds of what is left.
+/// The size hints are bounds on the number of elements left.
 pub fn hints_are_bounds<T>()
     ensures above { (p q : T → Bool) (w : PairWalk T) → length (left_to_give p q w)
         ≤ length w.left + length w.right }
@@ -115,8 +115,8 @@ pub fn hints_are_bounds<T>()
         (left_to_give (λ _. true) q w) }
 {}
 
-/// An iterator over one side returns, step by step, the first of what passes, and what it has left to return
-/// is within its size hint.
+/// Each step of an iterator over one side returns the first of the elements left that pass. The number of
+/// elements left that pass is within its size hint.
 pub fn a_walk_over_one_side<T>()
     ensures step { (p : T → Bool) (xs : List T)
         → TakesFirst (λ y. y) (filter p xs) (first_passing p xs).0 (filter p (first_passing p xs).1) }

@@ -1,4 +1,4 @@
-//! Rows and laws of caches.
+//! Examples and laws of caches.
 ghost use Rattle.std.specs.Prelude.{◌≡◌, ℕ, ◌+◌, ◌-◌, ◌*◌, ◌≤◌, ◌<◌, min, max, Bool, true, false, nat_eq};
 ghost use Rattle.std.specs.Prelude.{List, []};
 ghost use Rattle.std.specs.Prelude.{◌∷◌, ◌++◌, Option, None, Some, Result, Ok, Err, length, drop, take};
@@ -18,7 +18,7 @@ ghost use Rattle.hashlink_model.specs.Entry.{EntryState, VacantInserts};
 ghost use Rattle.hashlink_model.specs.Labels as labels;
 ghost use Rattle.hashlink_model.specs.Numbers as numbers;
 
-/// A cache of capacity 0 is empty after its insert, and an entry keeps one pair in it.
+/// A cache of capacity 0 is empty after an insert. An insert through an entry leaves one pair in it.
 pub fn a_cache_without_places()
     ensures or_insert { numbers.cache_or_insert [] 0 1 10 ≡ (1, 10) ∷ [] }
     ensures insert { numbers.cache_insert ((1, 10) ∷ []) 0 1 11 ≡ [] }
@@ -27,7 +27,7 @@ pub fn a_cache_without_places()
     ensures entry { front_evicted {K = ℕ} {V = ℕ} ((1, 12) ∷ []) 0 ≡ [] }
 {}
 
-/// An entry can exceed the capacity by one, and the next entry then evicts one pair at the front.
+/// An entry can bring a cache beyond its capacity by one. The next entry then evicts one pair, at the front.
 pub fn an_entry_passes_the_capacity_by_one()
     ensures insert { numbers.cache_insert [] 1 1 10 ≡ (1, 10) ∷ [] }
     ensures or_insert { numbers.cache_or_insert ((1, 10) ∷ []) 1 2 20 ≡ (1, 10) ∷ (2, 20) ∷ [] }
@@ -36,8 +36,8 @@ pub fn an_entry_passes_the_capacity_by_one()
         ≡ (3, 30) ∷ (2, 20) ∷ [] }
 {}
 
-/// If a cache exceeds its capacity, by one or by more, an insert leaves the last pairs: all that exceed the
-/// capacity are evicted, even if the key is present.
+/// An insert into a cache that exceeds its capacity, by one or by more, leaves only as many pairs as the
+/// capacity, the last ones, even if the key is present.
 pub fn an_insert_drops_all_that_are_too_many()
     ensures one { numbers.cache_insert ((1, 10) ∷ (2, 20) ∷ []) 1 3 30 ≡ (3, 30) ∷ [] }
     ensures two { numbers.cache_insert ((1, 10) ∷ (3, 30) ∷ (2, 20) ∷ []) 1 4 40 ≡ (4, 40) ∷ [] }
@@ -49,8 +49,8 @@ pub fn an_insert_drops_all_that_are_too_many()
         ≡ (4, 40) ∷ [] }
 {}
 
-/// A hit moves its entry to the back, and the least recently used one is evicted. A smaller capacity keeps
-/// the last pairs.
+/// A hit moves its entry to the back, so an insert evicts the least recently used one. A smaller capacity
+/// keeps the last pairs.
 pub fn a_hit_is_kept()
     ensures hit { numbers.cache_get ((1, 10) ∷ (2, 20) ∷ []) 1 ≡ (2, 20) ∷ (1, 10) ∷ [] }
     ensures insert { numbers.cache_insert ((2, 20) ∷ (1, 10) ∷ []) 2 3 30 ≡ (1, 10) ∷ (3, 30) ∷ [] }
@@ -59,7 +59,8 @@ pub fn a_hit_is_kept()
         (7, 70) ∷ (8, 80) ∷ [] }
 {}
 
-/// Uses keep the keys of the smaller cache an end of the larger one's, and plain reads do not.
+/// With uses, the keys of the smaller cache are an end of those of the larger one. With plain reads, they are
+/// not.
 pub fn uses_keep_an_end_and_reads_do_not()
     ensures small { numbers.cache_insert (numbers.cache_insert [] 1 1 10) 1 2 20 ≡ (2, 20) ∷ [] }
     ensures large { numbers.cache_insert (numbers.cache_insert [] 2 1 10) 2 2 20 ≡ (1, 10) ∷ (2, 20) ∷ [] }
@@ -68,7 +69,7 @@ pub fn uses_keep_an_end_and_reads_do_not()
     ensures small_read { numbers.cache_get ((2, 20) ∷ []) 1 ≡ (2, 20) ∷ [] }
 {}
 
-/// Inserts up to 6 in a cache of four, six more through entries, and what is left of them.
+/// Inserts of 5 and 6 into a full cache of capacity 4, and six more pairs inserted through entries.
 pub fn entries_leave_one_more_than_the_capacity()
     ensures inserts { cache_extended {V = ℕ} nat_eq ((1, 10) ∷ (2, 20) ∷ (3, 30) ∷ (4, 40) ∷ []) 4
         ((5, 50) ∷ (6, 60) ∷ [])
@@ -81,8 +82,8 @@ pub fn entries_leave_one_more_than_the_capacity()
         ≡ (8, 80) ∷ (9, 90) ∷ (10, 100) ∷ (11, 110) ∷ (12, 120) ∷ [] }
 {}
 
-/// Four pairs extend a cache of two: each is inserted in turn, so a present one moves to the back and the
-/// least recently used ones are evicted.
+/// Four pairs extend a cache of capacity 2. Each is inserted in turn, so a present one moves to the back, and
+/// the least recently used ones are evicted.
 pub fn an_extend_inserts_in_turn()
     ensures two { cache_extended {V = ℕ} nat_eq ((1, 10) ∷ (2, 20) ∷ []) 2
         ((3, 30) ∷ (2, 21) ∷ (4, 40) ∷ (2, 22) ∷ [])
@@ -90,8 +91,8 @@ pub fn an_extend_inserts_in_turn()
     ensures none { cache_extended {V = ℕ} nat_eq ((1, 10) ∷ []) 0 ((1, 11) ∷ []) ≡ [] }
 {}
 
-/// A hit of `get` returns the value and moves its entry to the back, a miss changes no entry. A capacity that
-/// is set keeps the last entries and evicts the others.
+/// A hit of `get` returns the value and moves its entry to the back, and a miss changes no entry. A smaller
+/// capacity keeps the last entries and evicts the others.
 pub fn what_a_get_and_a_capacity_leave<S>()
     ensures hit { (old new : CacheState ℕ ℕ S) (r : Option ℕ) → old.map.entries ≡ (1, 10) ∷ (2, 20) ∷ []
         → CacheGets nat_eq old new 1 r
@@ -110,14 +111,14 @@ pub fn what_a_get_and_a_capacity_leave<S>()
         → new.map.spare ≡ old.map.spare + 2 }
 {}
 
-/// The least recently used pair is the first one: reads that move nothing do not change it, a hit of `get`
-/// does.
+/// The least recently used pair is the first one. Reads that move nothing do not change this, and a hit of
+/// `get` does.
 pub fn the_first_is_the_least_recently_used()
     ensures peeked { numbers.lookup ((2, 20) ∷ (3, 30) ∷ (4, 40) ∷ (5, 50) ∷ (6, 60) ∷ []) 2 ≡ Some 20 }
     ensures hit { numbers.cache_get ((4, 40) ∷ (5, 50) ∷ (6, 60) ∷ []) 4 ≡ (5, 50) ∷ (6, 60) ∷ (4, 40) ∷ [] }
 {}
 
-/// Uses of 1, 2, 1, 3 in a cache of two leave 1 and 3; in a cache of none nothing is left.
+/// Uses of 1, 2, 1, 3 in a cache of capacity 2 leave 1 and 3. With capacity 0 nothing is left.
 pub fn uses_in_a_row()
     ensures two { numbers.cache_uses 2 ((1, 10) ∷ (2, 20) ∷ (1, 30) ∷ (3, 40) ∷ []) ≡ (1, 10) ∷ (3, 40) ∷ [] }
     ensures none { numbers.cache_uses 0 ((1, 10) ∷ (1, 10) ∷ []) ≡ [] }
@@ -127,7 +128,7 @@ pub fn uses_in_a_row()
         (2, 21) ∷ (5, 50) ∷ []) ≡ (4, 40) ∷ (1, 10) ∷ (2, 20) ∷ (5, 50) ∷ [] }
 {}
 
-/// Two caches of one and of two places, with equal keys that are different objects: an end up to equality.
+/// Two caches, of capacity 1 and 2, with equal keys that are different objects: an end up to equality.
 pub fn an_end_up_to_equality()
     ensures small { labels.cache_insert (labels.cache_insert (labels.cache_insert [] 1 (7, 1) 1) 1 (8, 1) 2) 1
         (7, 2) 3
@@ -137,7 +138,7 @@ pub fn an_end_up_to_equality()
         ≡ ((8, 1), 2) ∷ ((7, 1), 3) ∷ [] }
 {}
 
-/// A removal from both caches keeps the smaller an end of the larger.
+/// A removal from both caches leaves the smaller one an end of the larger one.
 pub fn a_removal_from_both_caches()
     ensures small { numbers.remove (numbers.cache_insert (numbers.cache_insert [] 1 1 10) 1 2 20) 2 ≡ [] }
     ensures large { numbers.remove (numbers.cache_insert (numbers.cache_insert [] 2 1 10) 2 2 20) 2
@@ -156,14 +157,14 @@ pub fn an_eviction_drops_at_most_one<K, V>()
         → front_evicted es cap ≡ last_entries es cap }
 {}
 
-/// The last entries are an end of the list, as many as there are, and at most n.
+/// The last n entries are an end of the list: n of them, or all if there are fewer.
 pub fn the_last_entries<K, V>()
     ensures length { (es : List (K × V)) (n : ℕ) → length (last_entries es n) ≡ min n (length es) }
     ensures end { (es : List (K × V)) (n : ℕ) → take (length es - n) es ++ last_entries es n ≡ es }
 {}
 
-/// A cache has at most its capacity of entries after its insert, however many it had before, and all of them
-/// if there is a place. Its keys are pairwise unequal.
+/// After an insert, a cache has at most its capacity of entries, however many it had before. If it had fewer
+/// than its capacity, no entry is evicted. Its keys are pairwise unequal.
 pub fn an_insert_comes_within_the_capacity<K, V>()
     ensures at_most { (eq : K → K → Bool) (es : List (K × V)) (cap : ℕ) (k : K) (v : V)
         → length (cache_put eq es cap k v) ≤ cap }
@@ -178,8 +179,8 @@ pub fn an_insert_comes_within_the_capacity<K, V>()
         → IsEntries eq (drop n es) }
 {}
 
-/// A cache's insert returns the old value and leaves the last entries of the map's insert. One that fails has
-/// an absent key and no spare node, and evicts nothing.
+/// An insert into a cache returns the old value, and leaves the last entries of those that the map's insert
+/// leaves. If it fails, its key is absent and no node is free, and it evicts nothing.
 pub fn what_a_cache_insert_leaves<K, V, S>()
     ensures answer { (eq : K → K → Bool) (old new : CacheState K V S) (k : K) (v : V) (w : Option V)
         → CacheInserts eq old new k v (Ok w)
@@ -197,8 +198,8 @@ pub fn what_a_cache_insert_leaves<K, V, S>()
         ≡ max (node_count old.map) (length (put eq old.map.entries k v (length old.map.entries))) }
 {}
 
-/// A hit of `get` leaves its entry last with the stored key and its value, a miss leaves every entry. Neither
-/// makes a node or sets the capacity.
+/// A hit of `get` moves its entry to the back with the stored key and its value, and a miss changes nothing.
+/// Neither makes a node or changes the capacity.
 pub fn what_a_hit_and_a_miss_leave<K, V, S>()
     ensures hit { (eq : K → K → Bool) (old new : CacheState K V S) (k : K) (w : V)
         → CacheGets eq old new k (Some w)
@@ -213,7 +214,7 @@ pub fn what_a_hit_and_a_miss_leave<K, V, S>()
         → new.cap ≡ old.cap }
 {}
 
-/// A capacity n that is set leaves the last n entries, or all if there are no more, and every node.
+/// Setting the capacity to n leaves the last n entries, or all if there are at most n, and every node.
 pub fn what_a_capacity_leaves<K, V, S>()
     ensures length { (old new : CacheState K V S) (n : ℕ) → SetsCapacity old new n
         → length new.map.entries ≡ min n (length old.map.entries) }
@@ -226,7 +227,7 @@ pub fn what_a_capacity_leaves<K, V, S>()
         → new.map.entries ≡ old.map.entries }
 {}
 
-/// After a hit, a use, inserts in turn, an eviction and a smaller capacity no two keys are equal, as before.
+/// After a hit, a use, inserts in turn, an eviction and a smaller capacity, no two keys are equal, as before.
 pub fn a_cache_keeps_keys_unequal<K, V>()
     ensures get { (eq : K → K → Bool) → IsEquivalence eq → (es : List (K × V)) (k : K) → IsEntries eq es
         → IsEntries eq (cache_get eq es k) }
@@ -243,8 +244,8 @@ pub fn a_cache_keeps_keys_unequal<K, V>()
         → IsEntries eq (last_entries es n) }
 {}
 
-/// After the insert into a cache with a place the key has the new value, and every other key that is still
-/// present has its old one.
+/// After an insert into a cache of at least capacity 1, the key has the new value, and every other key that
+/// is still present has its old pair.
 pub fn lookup_after_a_cache_insert<K, V>()
     ensures at_key { (eq : K → K → Bool) → IsEquivalence eq → (q : K) (es : List (K × V))
         (cap : ℕ) (k : K) (v : V)
@@ -256,8 +257,8 @@ pub fn lookup_after_a_cache_insert<K, V>()
         → lookup_entry (eq q) es ≡ Some e }
 {}
 
-/// After a use in a cache with a place the key has its old value, or the given one if it was absent, and
-/// every other key that is still present has its old one.
+/// After a use in a cache of at least capacity 1, the key has its old value, or the given one if it was
+/// absent. Every other key that is still present has its old pair.
 pub fn lookup_after_a_use<K, V>()
     ensures at_key { (eq : K → K → Bool) → IsEquivalence eq → (q : K) (es : List (K × V))
         (cap : ℕ) (k : K) (v : V)
@@ -269,8 +270,8 @@ pub fn lookup_after_a_use<K, V>()
         → lookup_entry (eq q) es ≡ Some e }
 {}
 
-/// Pairs that extend a cache may come in two parts. A cache of at most n entries, where n is no less than its
-/// capacity, has at most n after them.
+/// Pairs that extend a cache may be given in two parts. A cache with at most n entries, for an n that is at
+/// least its capacity, has at most n afterwards.
 pub fn a_cache_extended_in_two_parts<K, V>()
     ensures parts { (eq : K → K → Bool) (es : List (K × V)) (cap : ℕ) (xs ys : List (K × V))
         → cache_extended eq es cap (xs ++ ys) ≡ cache_extended eq (cache_extended eq es cap xs) cap ys }
@@ -279,8 +280,8 @@ pub fn a_cache_extended_in_two_parts<K, V>()
         → length (cache_extended eq es cap pairs) ≤ n }
 {}
 
-/// A cache of at most n entries beyond its capacity stays so under each of its calls that is made of these
-/// steps. After a capacity that is set, and after an insert that succeeds, there is none beyond it.
+/// A cache with at most n entries beyond its capacity stays so under each call that is made of these steps.
+/// After its capacity is set, and after an insert that succeeds, it has none beyond it.
 pub fn a_bound_beyond_the_capacity_is_kept<K, V, S>()
     ensures insert { (old new : CacheState K V S) (n : ℕ) (eq : K → K → Bool) (k : K) (v : V)
         (r : Result (Option V) (K × V))
@@ -319,8 +320,8 @@ pub fn a_bound_beyond_the_capacity_is_kept<K, V, S>()
         → length (cache_use eq es cap k v) ≤ n }
 {}
 
-/// An entry of a cache first evicts the front if there are more entries than the capacity, so one insert
-/// through it stays within a bound above the capacity. If an entry was evicted, its node is spare, and that
+/// An entry of a cache first evicts the front if there are more entries than the capacity. So one insert
+/// through it stays within a bound above the capacity. If an entry was evicted, its node is free, and this
 /// insert cannot fail.
 pub fn what_an_entry_of_a_cache_lets_in<K, V, S, A>()
     ensures entered { (eq : K → K → Bool) (old : CacheState K V S) (k : K) (e : EntryState K V S)
@@ -340,9 +341,9 @@ pub fn what_an_entry_of_a_cache_lets_in<K, V, S, A>()
         → (e.map.entries ≡ (2, 20) ∷ []) × (e.place ≡ None) × (e.key ≡ 1) }
 {}
 
-/// How many links an insert stores at most: four if the key is absent, six if it is present, and three for
-/// each entry that it evicts. So these are seven and nine if it evicts one, and four for an absent key if
-/// there is a place.
+/// The most links that an insert stores: four if the key is absent and six if it is present, and three for
+/// each entry that it evicts. So at most seven or nine if it evicts one entry, and four for an absent key if
+/// it evicts none.
 pub fn links_of_a_cache_insert<K, V, S>()
     ensures new_key { (eq : K → K → Bool) (old new : CacheState K V S) (k : K) (v : V)
         → CacheInserts eq old new k v (Ok None)
@@ -371,8 +372,8 @@ pub fn links_of_a_cache_insert<K, V, S>()
         → StoresAtMost (3 * (length old.map.entries - n)) old.map.link_writes new.map.link_writes }
 {}
 
-/// An insert that evicts an entry leaves more nodes than the capacity and a spare one among them. This stays
-/// so, and no insert fails, while only inserts lengthen the cache and no node is freed.
+/// An insert that evicts an entry leaves more nodes than the capacity, at least one of which is free. This
+/// stays so, and no insert fails, as long as only inserts lengthen the cache and no node is freed.
 pub fn no_refusal_once_an_entry_was_dropped<K, V, S>()
     ensures dropped { (old new : CacheState K V S) (eq : K → K → Bool) (k : K) (v : V) (w : Option V)
         → CacheInserts eq old new k v (Ok w) → old.cap
@@ -391,7 +392,7 @@ pub fn no_refusal_once_an_entry_was_dropped<K, V, S>()
         → HasNodeToSpare new }
 {}
 
-/// A use returns the value that its key had, and leaves what a hit or an insert leaves.
+/// A use returns the old value of its key, and leaves what a hit or an insert leaves.
 pub fn what_a_use_leaves<K, V, S>()
     ensures entries { (eq : K → K → Bool) (old new : CacheState K V S) (k : K) (v : V) (w : Option V)
         → CacheUses eq old new k v (Ok w)

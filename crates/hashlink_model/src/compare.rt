@@ -1,4 +1,4 @@
-//! Rows and laws of comparisons and of what is hashed.
+//! Examples and laws of comparisons and of hashing.
 ghost use Rattle.std.specs.Prelude.{◌≡◌, ℕ, Bool, true, false, nat_eq, List, [], ◌∷◌, Option, None, Some};
 ghost use Rattle.std.specs.Cmp.{IsEquivalence, IsPartialEquivalence, IsPartialOrder, IsTotalOrder};
 ghost use Rattle.std.specs.List.{AllZip};
@@ -11,7 +11,7 @@ ghost use Rattle.hashlink_model.specs.Compare.{entries_hash_input};
 ghost use Rattle.hashlink_model.specs.Compare.{elements_eq, elements_hash_input};
 ghost use Rattle.hashlink_model.specs.Numbers as numbers;
 
-/// The order of the entries counts, and so do the values.
+/// Equality depends on the order of the entries and on the values.
 pub fn equality_sees_the_order()
     ensures turned { numbers.equal ((1, 1) ∷ (2, 2) ∷ []) ((2, 2) ∷ (1, 1) ∷ []) ≡ false }
     ensures same { numbers.equal ((1, 1) ∷ (2, 2) ∷ []) ((1, 1) ∷ (2, 2) ∷ []) ≡ true }
@@ -23,7 +23,7 @@ pub fn equality_sees_the_order()
         ≡ true }
 {}
 
-/// The first place that differs decides, and not the length; a proper beginning is less.
+/// The first place that differs decides, not the length. A proper beginning is less.
 pub fn order_is_by_place_and_not_by_length()
     ensures turned { numbers.order ((1, 1) ∷ (2, 2) ∷ []) ((2, 2) ∷ (1, 1) ∷ []) ≡ Less }
     ensures beginning { numbers.order ((1, 1) ∷ []) ((1, 1) ∷ (2, 2) ∷ []) ≡ Less }
@@ -37,8 +37,8 @@ pub fn entries_are_hashed_in_order()
         ≡ 1 ∷ 10 ∷ 2 ∷ 20 ∷ [] }
 {}
 
-/// Equality of maps is an equivalence, and where that of keys and of values means the same object, that of
-/// maps means the same list.
+/// Equality of maps is an equivalence. If equal keys are the same and equal values are the same, then equal
+/// maps are the same list.
 pub fn equality_of_entries<K, V>()
     ensures equivalence { (eqk : K → K → Bool) (eqv : V → V → Bool) → IsEquivalence eqk → IsEquivalence eqv
         → IsEquivalence (entries_eq eqk eqv) }
@@ -47,7 +47,7 @@ pub fn equality_of_entries<K, V>()
         → xs ≡ ys }
 {}
 
-/// The order of maps is total and agrees with equality where those of keys and values are and do.
+/// The order of maps is total if those of keys and values are. It agrees with equality if theirs do.
 pub fn order_of_entries<K, V>()
     ensures total { (cmpk : K → K → Ordering) (cmpv : V → V → Ordering) → IsTotalOrder cmpk
         → IsTotalOrder cmpv
@@ -59,7 +59,7 @@ pub fn order_of_entries<K, V>()
         → entries_eq eqk eqv xs ys ≡ eq_by_cmp (entries_cmp cmpk cmpv) xs ys }
 {}
 
-/// Equal maps feed a hasher alike where equal keys and equal values do.
+/// Equal maps feed a hasher alike if equal keys do and equal values do.
 pub fn equal_entries_are_hashed_alike<K, V, W>()
     ensures { (eqk : K → K → Bool) (eqv : V → V → Bool) (hashk : K → List W) (hashv : V → List W)
         → ((x y : K) → eqk x y ≡ true → hashk x ≡ hashk y) → ((x y : V) → eqv x y ≡ true → hashv x ≡ hashv y)
@@ -74,7 +74,7 @@ pub fn a_clone_is_equal<K, V>()
         → entries_eq eqk eqv es (extended eqk [] clones) ≡ true }
 {}
 
-/// If comparisons of keys and values always have a result, that of maps is the total one's.
+/// If comparisons of keys and values always have a result, the partial order of maps is the total one.
 pub fn partial_order_of_entries<K, V>()
     ensures { (partk : K → K → Option Ordering) (partv : V → V → Option Ordering) (cmpk : K → K → Ordering)
         (cmpv : V → V → Ordering)
@@ -83,8 +83,8 @@ pub fn partial_order_of_entries<K, V>()
         → entries_partial_cmp partk partv xs ys ≡ Some (entries_cmp cmpk cmpv xs ys) }
 {}
 
-/// Sets are compared and hashed by their elements in order: equality is an equivalence, and equal sets feed a
-/// hasher alike.
+/// Sets are compared and hashed by their elements in order. Their equality is an equivalence, and equal sets
+/// feed a hasher alike.
 pub fn sets_compare_in_order<T, W>()
     ensures equivalence { (eq : T → T → Bool) → IsEquivalence eq → IsEquivalence (elements_eq eq) }
     ensures hashed_alike { (eq : T → T → Bool) (hash : T → List W)
@@ -93,8 +93,8 @@ pub fn sets_compare_in_order<T, W>()
         → elements_hash_input hash xs ≡ elements_hash_input hash ys }
 {}
 
-/// Keys and values may have only a partial equality and a partial order: those of maps are then partial ones
-/// too, and agree. So are those of sets.
+/// If the equality and the order of keys and values are only partial, then those of maps are partial too, and
+/// agree. The equality of sets then is partial too.
 pub fn partial_comparisons<K, V>()
     ensures equality { (eqk : K → K → Bool) (eqv : V → V → Bool) → IsPartialEquivalence eqk
         → IsPartialEquivalence eqv
@@ -106,8 +106,8 @@ pub fn partial_comparisons<K, V>()
     ensures elements { (eq : K → K → Bool) → IsPartialEquivalence eq → IsPartialEquivalence (elements_eq eq) }
 {}
 
-/// Values that are equal to nothing, and compare with nothing: a map of one is not equal to itself, and is
-/// ordered by its first key alone.
+/// Values that equal nothing and do not compare: a map with one is not equal to itself, and a first key that
+/// differs decides the order.
 pub fn values_without_comparison()
     ensures unequal { entries_eq nat_eq (λ (v w : ℕ). false) ((1, 1) ∷ []) ((1, 1) ∷ []) ≡ false }
     ensures unordered { entries_partial_cmp (λ k j. Some (nat_cmp k j)) (λ (v w : ℕ). None) ((1, 1) ∷ [])

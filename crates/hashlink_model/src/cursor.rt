@@ -1,4 +1,4 @@
-//! Rows and laws of cursors.
+//! Examples and laws of cursors.
 ghost use Rattle.std.specs.Prelude.{Result, Err, ◌≡◌, ℕ, ◌+◌, ◌<◌, ◌≤◌, Bool, List, [], ◌∷◌, ◌++◌, Option};
 ghost use Rattle.std.specs.Prelude.{None, Some, length, slice_get, cond};
 ghost use Rattle.std.specs.Cmp.{IsEquivalence};
@@ -18,8 +18,8 @@ pub fn an_empty_map_has_the_guard_alone()
     ensures on_guard { numbers.place_kept [] [] 0 ≡ 0 }
 {}
 
-/// At 4 in `3 4`, an insert of 5 goes before it. At 3 a step back leads to the guard, before which 6 goes
-/// last. At 5 the key 4, which is after it, moves before it.
+/// At 4 in `3 4`, 5 is inserted before it. At 3, a step back leads to the guard, before which 6 is inserted
+/// last. At 5, the key 4, which is after it, moves before it.
 pub fn cursor_inserts_before()
     ensures five { numbers.insert_before ((3, 3) ∷ (4, 4) ∷ []) 5 5 1 ≡ (3, 3) ∷ (5, 5) ∷ (4, 4) ∷ [] }
     ensures to_guard { preceding_place 3 0 ≡ 3 }
@@ -33,12 +33,13 @@ pub fn cursor_inserts_before()
         ≡ 2 }
 {}
 
-/// A key that is inserted before itself stays and takes the value.
+/// A key that is inserted before itself stays and takes the new value.
 pub fn cursor_inserts_before_itself()
     ensures { numbers.insert_before ((2, 2) ∷ (3, 3) ∷ (4, 4) ∷ []) 3 5 1 ≡ (2, 2) ∷ (3, 5) ∷ (4, 4) ∷ [] }
 {}
 
-/// At 1 the last key moves behind it, and the cursor stays on 1; at the guard an insert after it goes first.
+/// At 1, the last key moves behind it, and the cursor stays on 1. At the guard, an insert after it puts the
+/// pair first.
 pub fn cursor_inserts_after()
     ensures moved { numbers.insert_after ((1, 1) ∷ (2, 2) ∷ (3, 3) ∷ []) 3 33 0 ≡ (1, 1) ∷
         (3, 33) ∷ (2, 2) ∷ [] }
@@ -47,7 +48,8 @@ pub fn cursor_inserts_after()
     ensures at_guard { numbers.insert_after ((1, 10) ∷ []) 2 20 1 ≡ (2, 20) ∷ (1, 10) ∷ [] }
 {}
 
-/// A key from before the cursor is inserted after it: every place between moves up, and the cursor's with it.
+/// A key before the cursor is inserted after it. The entries between move one place to the front, and the
+/// cursor's with them.
 pub fn cursor_follows_its_entry()
     ensures moved { numbers.insert_after ((1, 1) ∷ (2, 2) ∷ (3, 3) ∷ []) 1 11 1 ≡ (2, 2) ∷
         (1, 11) ∷ (3, 3) ∷ [] }
@@ -55,7 +57,8 @@ pub fn cursor_follows_its_entry()
         ((2, 2) ∷ (1, 11) ∷ (3, 3) ∷ []) 1 ≡ 0 }
 {}
 
-/// In an empty map an insert before the guard and one after it: the first stands last, the second first.
+/// Two inserts into an empty map: one before the guard, which is then the last, and one after it, which is
+/// the first.
 pub fn cursor_inserts_into_an_empty_map()
     ensures before { numbers.insert_before [] 1 10 0 ≡ (1, 10) ∷ [] }
     ensures on_guard { numbers.place_kept [] ((1, 10) ∷ []) 0 ≡ 1 }
@@ -63,7 +66,7 @@ pub fn cursor_inserts_into_an_empty_map()
     ensures still_on_guard { numbers.place_kept ((1, 10) ∷ []) ((2, 20) ∷ (1, 10) ∷ []) 1 ≡ 2 }
 {}
 
-/// Inserts after one entry: the later stands nearer to it.
+/// Two inserts after one entry: the pair inserted later is nearer to it.
 pub fn cursor_inserts_after_one_entry()
     ensures first { numbers.insert_after ((1, 10) ∷ []) 2 20 0 ≡ (1, 10) ∷ (2, 20) ∷ [] }
     ensures second { numbers.insert_after ((1, 10) ∷ (2, 20) ∷ []) 3 30 0 ≡ (1, 10) ∷ (3, 30) ∷ (2, 20) ∷ [] }
@@ -79,7 +82,7 @@ pub fn places_are_a_ring()
     ensures previous_of_first { (n : ℕ) → preceding_place n 0 ≡ n }
 {}
 
-/// After an insert anywhere a cursor stands on the entry that it stood on, or on the guard.
+/// After an insert at any place, a cursor is on the entry that it was on, or on the guard.
 pub fn cursor_stays_on_its_entry<K, V>()
     ensures entry { (eq : K → K → Bool) → IsEquivalence eq
         → (es : List (K × V)) (i : ℕ) (e : K × V) (k : K) (v : V) (b : ℕ) → IsEntries eq es
@@ -97,8 +100,8 @@ pub fn cursor_stays_on_its_entry<K, V>()
         → place_kept eq old new i ≤ length new }
 {}
 
-/// An absent key goes directly before or after the cursor's entry, and what is inserted after the guard goes
-/// first.
+/// An absent key is inserted directly before or after the cursor's entry. Whatever is inserted after the
+/// guard is the first.
 pub fn cursor_inserts_an_absent_key<K, V>()
     ensures before { (eq : K → K → Bool) → IsEquivalence eq
         → (xs : List (K × V)) (e : K × V) (ys : List (K × V)) (k : K) (v : V)
@@ -114,7 +117,7 @@ pub fn cursor_inserts_an_absent_key<K, V>()
         ≡ (stored_key eq es k, v) ∷ without eq es k }
 {}
 
-/// An insert that fails leaves the entries and the cursor.
+/// An insert that fails changes neither the entries nor the cursor's place.
 pub fn a_refused_insert_leaves_the_cursor<K, V, S>()
     ensures before { (eq : K → K → Bool) → IsEquivalence eq
         → (old new : CursorState K V S) (k : K) (v : V) (pair : K × V) → IsEntries eq old.map.entries
@@ -128,8 +131,8 @@ pub fn a_refused_insert_leaves_the_cursor<K, V, S>()
         → (new.map.entries ≡ old.map.entries) × (new.place ≡ old.place) }
 {}
 
-/// A cursor stands on an entry or on the guard, also after each move and each insert; a move on and one back
-/// lead to where it was.
+/// A cursor is on an entry or on the guard, even after a move or an insert. A move forward and one back lead
+/// to where it was.
 pub fn where_a_cursor_stands<K, V, S>()
     ensures next { (c : CursorState K V S) → IsCursor (at_place c (place_next c)) }
     ensures previous { (c : CursorState K V S) → IsCursor (at_place c (place_previous c)) }

@@ -1,4 +1,4 @@
-//! Rows and laws of lists of entries.
+//! Examples and laws of lists of entries.
 ghost use Rattle.std.specs.Prelude.{◌≡◌, ℕ, ◌+◌, Bool, true, false, List, [], ◌∷◌, ◌++◌, None, Some};
 ghost use Rattle.std.specs.Prelude.{length};
 ghost use Rattle.std.specs.Cmp.{IsEquivalence};
@@ -16,7 +16,7 @@ pub fn moves_to_either_end()
         ≡ (4, 40) ∷ (2, 20) ∷ (3, 30) ∷ (5, 50) ∷ (1, 10) ∷ [] }
 {}
 
-/// An insert moves a present key to the back, a replace leaves it at its place.
+/// An insert moves a present key to the back, and a replace leaves it at its place.
 pub fn insert_moves_and_replace_stays()
     ensures insert { numbers.insert ((1, 1) ∷ (2, 2) ∷ (3, 3) ∷ (4, 4) ∷ []) 3 5
         ≡ (1, 1) ∷ (2, 2) ∷ (4, 4) ∷ (3, 5) ∷ [] }
@@ -25,7 +25,7 @@ pub fn insert_moves_and_replace_stays()
     ensures replace_absent { numbers.replace ((1, 10) ∷ []) 2 20 ≡ (1, 10) ∷ (2, 20) ∷ [] }
 {}
 
-/// Inserts at both ends in turn, and one at the front of a present key.
+/// Inserts at both ends in turn, the last of them of a present key at the front.
 pub fn inserts_at_both_ends()
     ensures three { numbers.insert_front (numbers.insert (numbers.insert_front [] 1 1) 2 2) 3 3
         ≡ (3, 3) ∷ (1, 1) ∷ (2, 2) ∷ [] }
@@ -33,7 +33,7 @@ pub fn inserts_at_both_ends()
     ensures old_value { numbers.lookup ((3, 3) ∷ (1, 1) ∷ (2, 2) ∷ []) 2 ≡ Some 2 }
 {}
 
-/// A whole run: inserts at both ends, a replace, a move, and a removal of the first pair.
+/// A sequence of steps: inserts at both ends, a replace, a move, and a removal of the first pair.
 pub fn a_run_of_steps()
     ensures { numbers.remove
         (numbers.to_back
@@ -45,7 +45,7 @@ pub fn a_run_of_steps()
         ≡ (1, 1) ∷ (2, 4) ∷ [] }
 {}
 
-/// A key that is put before its own place, and one that is put after it: the places between close up.
+/// A key is put behind its own place, and another before its own: the entries between move up by one.
 pub fn places_close_up()
     ensures forward { numbers.put ((1, 1) ∷ (2, 2) ∷ (3, 3) ∷ (4, 4) ∷ []) 1 9 3
         ≡ (2, 2) ∷ (3, 3) ∷ (1, 9) ∷ (4, 4) ∷ [] }
@@ -62,7 +62,7 @@ pub fn insert_keeps_the_stored_key()
     ensures { labels.insert (((7, 1), 10) ∷ ((8, 1), 20) ∷ []) (7, 2) 11 ≡ ((8, 1), 20) ∷ ((7, 1), 11) ∷ [] }
 {}
 
-/// Inserts of many pairs in a row: the last of two with one key moves it and decides the value.
+/// Inserts of many pairs in turn: the second of two with one key moves it and decides the value.
 pub fn extend_is_inserts_in_a_row()
     ensures { numbers.extend [] ((1, 10) ∷ (2, 20) ∷ (1, 11) ∷ []) ≡ (2, 20) ∷ (1, 11) ∷ [] }
 {}
@@ -79,7 +79,7 @@ pub fn steps_keep_keys_unequal<K, V>()
         → IsEntries eq (moved eq es k b) }
 {}
 
-/// A new key makes the list longer by one, a removed one shorter by one, and every other step leaves the
+/// A new key makes the list longer by one, and a removed one shorter by one. Every other step keeps the
 /// length.
 pub fn lengths_after_steps<K, V>()
     ensures put_absent { (eq : K → K → Bool) (es : List (K × V)) (k : K) (v : V) (b : ℕ)
@@ -133,7 +133,7 @@ pub fn lookup_after_move<K, V>()
         → lookup (eq q) (moved eq es k b) ≡ lookup (eq q) es }
 {}
 
-/// A key that is put at the length stands last, one that is put at 0 stands first, and the others keep their
+/// A key that is put at the length is the last, and one that is put at 0 the first. The others keep their
 /// order.
 pub fn put_at_either_end<K, V>()
     ensures back { (eq : K → K → Bool) (es : List (K × V)) (k : K) (v : V)
@@ -145,7 +145,7 @@ pub fn put_at_either_end<K, V>()
         → without eq (put eq es k v b) k ≡ without eq es k }
 {}
 
-/// A key that is put where it stands, or directly after itself, takes the value and changes no place.
+/// A key that is put at its own place, or directly after itself, takes the value and changes no place.
 pub fn put_where_it_stands<K, V>()
     ensures there { (eq : K → K → Bool) (es : List (K × V)) (k : K) (v : V) (j : ℕ)
         → place_of (eq k) es ≡ Some j
@@ -159,7 +159,7 @@ pub fn put_where_it_stands<K, V>()
         → place_of other (set_value test es v) ≡ place_of other es }
 {}
 
-/// The last of two puts at one end decides the value.
+/// The second of two puts at one end decides the value.
 pub fn put_twice_is_once<K, V>()
     ensures back { (eq : K → K → Bool) → IsEquivalence eq → (es : List (K × V)) (k : K)
         (v w : V) → IsEntries eq es
@@ -178,8 +178,8 @@ pub fn move_twice_is_once<K, V>()
         → moved eq (moved eq es k 0) k 0 ≡ moved eq es k 0 }
 {}
 
-/// After an insert at the back the last pair has an equal key and the new value, after one at the front the
-/// first pair has.
+/// After an insert at the back, the last pair has the new value and a key equal to the given one. After an
+/// insert at the front, the first pair has.
 pub fn the_end_after_an_insert<K, V>()
     ensures back { (eq : K → K → Bool) → IsEquivalence eq → (es : List (K × V)) (k : K) (v : V)
         → (xs : List (K × V)) × (k0 : K) × (put eq es k v (length es) ≡ xs ++ (k0, v) ∷ [])
@@ -188,8 +188,8 @@ pub fn the_end_after_an_insert<K, V>()
         → (xs : List (K × V)) × (k0 : K) × (put eq es k v 0 ≡ (k0, v) ∷ xs) × (eq k k0 ≡ true) }
 {}
 
-/// Many inserts keep the keys pairwise unequal, and a list's own pairs inserted in turn into an empty one
-/// give the list.
+/// Inserts of many pairs keep the keys pairwise unequal. A list's own pairs, inserted in turn into an empty
+/// list, give the list.
 pub fn extend_from_empty<K, V>()
     ensures keys { (eq : K → K → Bool) → IsEquivalence eq → (es pairs : List (K × V)) → IsEntries eq es
         → IsEntries eq (extended eq es pairs) }

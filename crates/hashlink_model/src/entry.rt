@@ -1,4 +1,4 @@
-//! Rows and laws of entries, with a given key and raw.
+//! Examples and laws of entries and raw entries.
 ghost use Rattle.std.specs.Prelude.{◌≡◌, ◌+◌, ◌≤◌, ◌<◌, ℕ, Bool, true, List, [], ◌∷◌, ◌++◌, None, Some};
 ghost use Rattle.std.specs.Prelude.{length, cond, slice_get, remove, nat_eq};
 ghost use Rattle.std.specs.Cmp.{IsEquivalence};
@@ -14,7 +14,7 @@ ghost use Rattle.hashlink_model.specs.MapState.{MapState};
 ghost use Rattle.hashlink_model.specs.Labels as labels;
 ghost use Rattle.hashlink_model.specs.Numbers as numbers;
 
-/// `insert_entry` on an occupied entry puts the given key at the back, also if it is a different object from
+/// `insert_entry` on an occupied entry puts the given key at the back, even if it is a different object from
 /// the stored key.
 pub fn key_in_hand_goes_in()
     ensures vacant { numbers.place_of ((1, 1) ∷ (2, 2) ∷ (3, 3) ∷ []) 4 ≡ None }
@@ -25,15 +25,15 @@ pub fn key_in_hand_goes_in()
         ≡ ((7, 2), 10) ∷ ((8, 1), 20) ∷ [] }
 {}
 
-/// A raw entry's value is replaced at its place. `or_insert` moves a present key to the back and inserts an
-/// absent one there.
+/// The value of a raw entry is replaced at its place. `or_insert` moves a present key to the back, and
+/// inserts an absent one there.
 pub fn raw_entries_write_and_move()
     ensures value { numbers.set_value_at ((1, 10) ∷ (2, 20) ∷ []) 1 21 ≡ (1, 10) ∷ (2, 21) ∷ [] }
     ensures absent { numbers.or_insert ((1, 10) ∷ (2, 21) ∷ []) 3 30 ≡ (1, 10) ∷ (2, 21) ∷ (3, 30) ∷ [] }
     ensures there { numbers.or_insert ((1, 10) ∷ (2, 20) ∷ []) 1 99 ≡ (2, 20) ∷ (1, 10) ∷ [] }
 {}
 
-/// The steps on occupied entries one after another.
+/// Several steps on occupied entries in sequence.
 pub fn entry_steps_in_a_row()
     ensures insert_entry { numbers.insert_entry ((1, 10) ∷ (2, 20) ∷ []) 0 1 11 ≡ (2, 20) ∷ (1, 11) ∷ [] }
     ensures replace_entry { numbers.replace_entry ((2, 20) ∷ (1, 11) ∷ []) 0 2 22 ≡ (2, 22) ∷ (1, 11) ∷ [] }
@@ -49,8 +49,7 @@ pub fn or_insert_is_a_move_or_an_insert<K, V>()
         → or_insert eq es k v ≡ put eq es k v (length es) }
 {}
 
-/// A key that replaces an equal one keeps the keys pairwise unequal, and so does every other step on an
-/// entry.
+/// A key that replaces an equal one keeps the keys pairwise unequal. So does every other step on an entry.
 pub fn entries_keep_keys_unequal<K, V>()
     ensures insert_entry { (eq : K → K → Bool) → IsEquivalence eq
         → (es : List (K × V)) (j : ℕ) (e : K × V) (h : K) (v : V) → IsEntries eq es → slice_get es j ≡ Some e
@@ -93,8 +92,8 @@ pub fn lookup_after_entry_steps<K, V>()
         ≡ cond (eq h q) (Some (h, v)) (lookup_entry (eq q) es) }
 {}
 
-/// A step that replaces a key or a value alone keeps the other one of its entry, and every other key has its
-/// old pair.
+/// A step that replaces only the key, or only the value, of an entry keeps the other part. Every other key
+/// has its old pair.
 pub fn lookup_after_a_key_or_a_value_alone<K, V>()
     ensures insert_value { (eq : K → K → Bool) → IsEquivalence eq
         → (q : K) (es : List (K × V)) (j : ℕ) (e : K × V) (v : V) → IsEntries eq es → slice_get es j ≡ Some e
@@ -110,7 +109,7 @@ pub fn lookup_after_a_key_or_a_value_alone<K, V>()
         ≡ cond (eq e.0 q) (Some (e.0, v)) (lookup_entry (eq q) es) }
 {}
 
-/// What is replaced changes no place.
+/// A replaced key or value changes no place.
 pub fn replacing_leaves_every_place<K, V>()
     ensures { (eq : K → K → Bool) → IsEquivalence eq → (q : K) (es : List (K × V)) (j : ℕ)
         (e : K × V) (h : K) (v : V)
@@ -128,7 +127,7 @@ pub fn vacant_where_nothing_is_found<K, V>()
         → place_of (eq k) es ≡ None }
 {}
 
-/// What is done at the place of a key is what is done at the key.
+/// A step at the place of a key is the same step at the key.
 pub fn at_a_place_is_at_its_key<K, V>()
     ensures removed { (eq : K → K → Bool) (es : List (K × V)) (k : K) (j : ℕ) → place_of (eq k) es ≡ Some j
         → remove es j ≡ without eq es k }
@@ -146,7 +145,8 @@ pub fn at_a_place_is_at_its_key<K, V>()
         → insert_entry es j h v ≡ without eq es e.0 ++ (h, v) ∷ [] }
 {}
 
-/// A key or a value that is replaced leaves the other part of its entry as it was, and stores no link.
+/// A step that replaces only a key, or only a value, keeps the other part of the entry. A replaced key stores
+/// no link.
 pub fn what_is_replaced_alone<S>()
     ensures value { numbers.set_value_at ((1, 10) ∷ (2, 20) ∷ []) 1 21 ≡ (1, 10) ∷ (2, 21) ∷ [] }
     ensures past_the_end { numbers.set_value_at ((1, 10) ∷ (2, 20) ∷ []) 2 21 ≡ (1, 10) ∷ (2, 20) ∷ [] }
@@ -162,8 +162,8 @@ pub fn what_is_replaced_alone<S>()
         → (e ≡ (1, 10)) × (new.entries ≡ (2, 20) ∷ (1, 11) ∷ []) × (new.link_writes ≤ old.link_writes + 6) }
 {}
 
-/// An entry stands where its key does, so on an entry of the map or nowhere; so does a raw entry, by whatever
-/// test it was found.
+/// The place of an entry is that of its key, so it is an entry's of the map, or none. The same holds for a
+/// raw entry, whatever test found it.
 pub fn where_an_entry_stands<K, V, S>()
     ensures occupied { (eq : K → K → Bool) (e : EntryState K V S) (j : ℕ) → IsEntry eq e → e.place ≡ Some j
         → (x : K × V) × (slice_get e.map.entries j ≡ Some x) × (eq e.key x.0 ≡ true) }
@@ -179,7 +179,7 @@ pub fn where_an_entry_stands<K, V, S>()
         → ⊥ }
 {}
 
-/// No step on an occupied entry changes the length but a removal.
+/// Inserts, replaces and moves of an occupied entry keep the length.
 pub fn lengths_after_entry_steps<K, V>()
     ensures insert_value { (es : List (K × V)) (j : ℕ) (v : V) → length (insert_value es j v) ≡ length es }
     ensures insert_entry { (es : List (K × V)) (j : ℕ) (h : K) (v : V) → length

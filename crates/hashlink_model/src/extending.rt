@@ -1,4 +1,4 @@
-//! Rows and laws of many items in a row.
+//! Examples and laws of many items in turn.
 ghost use Rattle.std.specs.Prelude.{◌≡◌, ℕ, ◌+◌, ◌-◌, ◌^◌, ◌≤◌, ◌<◌, Bool, nat_eq, List, [], ◌∷◌, ◌++◌};
 ghost use Rattle.std.specs.Prelude.{length};
 ghost use Rattle.hashlink_model.specs.Entries.{extended};
@@ -6,8 +6,8 @@ ghost use Rattle.hashlink_model.specs.MapState.{MapState};
 ghost use Rattle.hashlink_model.specs.Steps.{Drains};
 ghost use Rattle.hashlink_model.specs.Many.{AcceptsAll, StopsAt, MadeFrom, InsertsPair};
 
-/// Three pairs, of which the last has the key of the first, make a map of two. Of two pairs that extend it,
-/// the insert of the second fails.
+/// Three pairs, the last with the key of the first, make a map of two entries. Two pairs extend it, and the
+/// insert of the second fails.
 pub fn items_in_a_row<S>()
     ensures made { (s : S) (m : MapState ℕ ℕ S) → MadeFrom (InsertsPair nat_eq)
         ((1, 10) ∷ (2, 20) ∷ (1, 11) ∷ []) s m
@@ -18,7 +18,7 @@ pub fn items_in_a_row<S>()
         → (taken ≡ 1) × (back ≡ (3, 30)) × (new.entries ≡ (1, 11) ∷ (2, 21) ∷ []) }
 {}
 
-/// Items whose inserts succeed are inserted at the back in turn, and may come in two parts.
+/// Items whose inserts succeed are inserted at the back in turn. They may be given in two parts.
 pub fn accepted_items<K, V, S>()
     ensures entries { (eq : K → K → Bool) (old new : MapState K V S) (items : List (K × V))
         → AcceptsAll (InsertsPair eq) old items new
@@ -28,8 +28,8 @@ pub fn accepted_items<K, V, S>()
         → AcceptsAll (InsertsPair eq) a (xs ++ ys) c }
 {}
 
-/// If the insert of one item fails, those before it stay inserted, it is returned, and the spare nodes are
-/// used up. So as many items as a drain left spare nodes are all inserted.
+/// If the insert of an item fails, the items before it stay inserted, the item is returned, and every free
+/// node has been used. So the inserts of as many items as there are free nodes after a drain cannot fail.
 pub fn a_refused_item<K, V, S>()
     ensures entries { (eq : K → K → Bool) (old new : MapState K V S) (items : List (K × V))
         (taken : ℕ) (back : K × V) (left : List (K × V))

@@ -1,4 +1,4 @@
-//! The definitions that the contracts of the containers cite, tried by rows that they compute to and by their
+//! The definitions that the contracts of the containers use, with examples to which they compute, and their
 //! laws. Each function has an empty body: its contract is the statement.
 #![tactic(auto)]
 

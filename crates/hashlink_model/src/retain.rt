@@ -1,4 +1,4 @@
-//! Rows and laws of retention.
+//! Examples and laws of retains.
 ghost use Rattle.std.specs.Prelude.{◌≡◌, ℕ, Bool, true, List, [], ◌∷◌, filter, nat_eq};
 ghost use Rattle.std.specs.Cmp.{IsEquivalence};
 ghost use Rattle.std.specs.Map.Calls.{CalledAtPair};
@@ -7,7 +7,7 @@ ghost use Rattle.hashlink_model.specs.Retain.{KeepsInSomeOrder, KeepsInOrder, in
 ghost use Rattle.hashlink_model.specs.RetainRows.{PushesOdd, TimesTen, one_to_six};
 
 /// A closure that pushes odd keys to a list and returns false for them: it has pushed them in the list's
-/// order, and the even ones are left.
+/// order, and the even keys are left.
 pub fn retain_with_a_closure_that_collects()
     ensures { KeepsInOrder PushesOdd [] one_to_six ((2, 2) ∷ (4, 4) ∷ (6, 6) ∷ []) (1 ∷ 3 ∷ 5 ∷ []) }
 {}
@@ -17,13 +17,13 @@ pub fn retain_with_a_closure_that_writes()
     ensures { KeepsInOrder TimesTen 0 ((1, 1) ∷ (2, 2) ∷ (3, 3) ∷ []) ((1, 10) ∷ (3, 30) ∷ []) 0 }
 {}
 
-/// What was kept along another order stands in the list's own.
+/// Entries kept by calls in another order are left in the list's own order.
 pub fn what_is_kept_stands_in_order()
     ensures { in_order_of {V = ℕ} nat_eq ((1, 1) ∷ (2, 2) ∷ (3, 3) ∷ []) ((3, 30) ∷ (1, 10) ∷ [])
         ≡ (1, 10) ∷ (3, 30) ∷ [] }
 {}
 
-/// What the calls made of a closure is known: what it has collected, and whatever each call keeps true of it.
+/// The closure after the calls: what it has collected, and any property that each call keeps.
 pub fn what_a_closure_ends_as<K, V, F: FnMut(&K, &mut V) -> bool>()
     ensures collected { (kept : List (ℕ × ℕ)) (g : List ℕ) → KeepsInOrder PushesOdd [] one_to_six kept g
         → (kept ≡ (2, 2) ∷ (4, 4) ∷ (6, 6) ∷ []) × (g ≡ 1 ∷ 3 ∷ 5 ∷ []) }
@@ -47,7 +47,7 @@ pub fn what_a_closure_ends_as<K, V, F: FnMut(&K, &mut V) -> bool>()
         → stays g ≡ true }
 {}
 
-/// With a predicate both retains are a filter, whatever else the closure does with its state.
+/// With a predicate both retains are a filter, whatever the closure does with its own state.
 pub fn retain_by_a_predicate_is_a_filter<K, V, F: FnMut(&K, &mut V) -> bool>()
     ensures some_order { (eq : K → K → Bool) → IsEquivalence eq → (p : K × V → Bool)
         →

@@ -1,4 +1,4 @@
-//! Rows and laws of sets.
+//! Examples and laws of sets.
 ghost use Rattle.std.specs.Prelude.{◌≡◌, ℕ, ◌+◌, Bool, true, false, not, ◌||◌, nat_eq, List, [], ◌∷◌, ◌++◌};
 ghost use Rattle.std.specs.Prelude.{Option};
 ghost use Rattle.std.specs.Prelude.{Some, Ok, Err, is_some, length, filter, cond, slice_get, slice_set};
@@ -19,13 +19,13 @@ ghost use Rattle.hashlink_model.specs.Sets.{stored_element, SetInserts, GetsOrIn
 ghost use Rattle.hashlink_model.specs.Labels as labels;
 ghost use Rattle.hashlink_model.specs.Numbers as numbers;
 
-/// A replace stores the new object, an insert keeps the old one and moves it.
+/// A replace stores the new object. An insert keeps the old one and moves it.
 pub fn which_object_a_set_keeps()
     ensures replace { labels.replaced ((7, 1) ∷ []) (7, 2) ≡ (7, 2) ∷ [] }
     ensures insert { labels.insert_element ((7, 1) ∷ (8, 1) ∷ []) (7, 2) ≡ (8, 1) ∷ (7, 1) ∷ [] }
 {}
 
-/// Inserts move elements that are present, replaces leave them, and a drain returns elements from both ends.
+/// Inserts move elements that are present, and replaces leave them at their places.
 pub fn a_set_in_order()
     ensures get_or_insert { numbers.insert_element (1 ∷ 2 ∷ 3 ∷ []) 1 ≡ 2 ∷ 3 ∷ 1 ∷ [] }
     ensures absent { numbers.insert_element (2 ∷ 3 ∷ 1 ∷ []) 4 ≡ 2 ∷ 3 ∷ 1 ∷ 4 ∷ [] }
@@ -34,8 +34,8 @@ pub fn a_set_in_order()
         ≡ 2 ∷ 1 ∷ [] }
 {}
 
-/// A set is the map with values of type `()`: its elements and its entries say the same, and an element is
-/// put as a key is.
+/// A set is a map with values of type `()`. Its elements determine its entries, and an element is put as a
+/// key is.
 pub fn a_set_is_a_map<T>()
     ensures entries { (es : List (T × Unit {0})) → pairs_of (keys_of es) ≡ es }
     ensures elements { (ts : List T) → keys_of (pairs_of ts) ≡ ts }
@@ -51,8 +51,8 @@ pub fn set_steps_keep_elements_unequal<T>()
         → IsDistinct eq (replaced eq ts t) }
 {}
 
-/// After an element is put or replaced the members are the old ones and the given one, and the set is longer
-/// by one exactly if it was new.
+/// After an element is put or replaced, the members are the old ones and the given one. The set is longer by
+/// one exactly if it was absent.
 pub fn members_after_set_steps<T>()
     ensures put { (eq : T → T → Bool) → IsEquivalence eq → (ts : List T) (t : T) (b : ℕ) (q : T)
         → is_member eq (put_element eq ts t b) q ≡ (eq t q || is_member eq ts q) }
@@ -68,8 +68,8 @@ pub fn members_after_set_steps<T>()
         → length (replaced eq ts t) ≡ length ts }
 {}
 
-/// A replace stores the given element at the place of the equal one, and an absent one last. Every other
-/// element stays at its place.
+/// A replace stores the given element at the place of the equal one, or at the back if there is none. Every
+/// other element stays at its place.
 pub fn replacing_leaves_every_element<T>()
     ensures there { (eq : T → T → Bool) → IsEquivalence eq → (ts : List T) (t x : T)
         (j : ℕ) → IsDistinct eq ts
@@ -82,7 +82,7 @@ pub fn replacing_leaves_every_element<T>()
         → slice_get (replaced eq ts t) i ≡ Some x }
 {}
 
-/// The elements after the map's steps on a set, and what those return.
+/// The elements after the map's steps on a set, and the results of the steps.
 pub fn elements_after_steps<T, S>()
     ensures insert { (eq : T → T → Bool) (old new : SetState T S) (t : T) (b : ℕ) (w : Option (Unit {0}))
         → Inserts eq old new t tt b (Ok w)
@@ -107,8 +107,8 @@ pub fn elements_after_steps<T, S>()
         → elements_of old ≡ elements_of new ++ e.0 ∷ [] }
 {}
 
-/// What the set's own steps leave and return: an insert says whether the element was new and keeps the stored
-/// object. A replace returns that object and stores the new one at its place.
+/// The results of the set's own steps, and the elements afterwards. An insert returns whether the element was
+/// new, and keeps the stored object. A replace returns this object, and stores the new one at its place.
 pub fn what_set_steps_leave<T, S>()
     ensures insert { (eq : T → T → Bool) (old new : SetState T S) (t : T) (b : Bool)
         → SetInserts eq old new t (Ok b)
@@ -125,8 +125,8 @@ pub fn what_set_steps_leave<T, S>()
         → (o ≡ Some 3) × (elements_of new ≡ 2 ∷ 3 ∷ 1 ∷ []) }
 {}
 
-/// An element that is put last or first stands there as the object that the set has for it, and a second put
-/// at that end changes nothing; nor does one at the place where it stands, or directly behind itself.
+/// An element that is put last or first is there as the object that the set has for it. A second put at the
+/// same end changes nothing, nor does a put at the element's own place or directly behind itself.
 pub fn where_an_element_is_put<T>()
     ensures back { (eq : T → T → Bool) (ts : List T) (t : T)
         → put_element eq ts t (length ts) ≡ remove_key (eq t) ts ++ stored_element eq ts t ∷ [] }
@@ -147,8 +147,8 @@ pub fn where_an_element_is_put<T>()
         → put_element eq ts t (j + 1) ≡ ts }
 {}
 
-/// A set's own elements inserted in turn into an empty set give the set, and equal clones of them an equal
-/// one.
+/// A set's own elements, inserted in turn into an empty set, give the set. Equal clones of them give an equal
+/// set.
 pub fn a_set_from_elements<T>()
     ensures own { (eq : T → T → Bool) → IsEquivalence eq → (ts : List T) → IsDistinct eq ts
         → keys_of (extended eq [] (pairs_of ts)) ≡ ts }

@@ -1,4 +1,4 @@
-//! Rows and laws of the states of a map and the steps between them.
+//! Examples and laws of the states of a map, and of the steps between them.
 ghost use Rattle.std.specs.Prelude.{◌≡◌, ℕ, ◌+◌, ◌≤◌, ◌<◌, max, Bool, true, false, List, [], ◌∷◌, ◌++◌};
 ghost use Rattle.std.specs.Prelude.{Option, None};
 ghost use Rattle.std.specs.Prelude.{Some, Result, Ok, Err, IsOk, length, nat_eq};
@@ -13,8 +13,8 @@ ghost use Rattle.hashlink_model.specs.Steps.{PopsFront, PopsBack, KeepsOnly, Wri
 ghost use Rattle.hashlink_model.specs.Steps.{MovesAndWrites, RemovesKey, Clears, Drains, Reserves, Shrinks};
 ghost use Rattle.hashlink_model.specs.Steps.{IsMadeWith};
 
-/// An insert fails only if its key is absent and no node is spare. The pair is returned, and no entry and no
-/// spare node changes.
+/// An insert fails only if its key is absent and no node is free. It then returns the pair and changes no
+/// entry.
 pub fn a_refused_insert_changes_nothing<K, V, S>()
     ensures absent { (eq : K → K → Bool) (old new : MapState K V S) (k : K) (v : V) (b : ℕ) (pair : K × V)
         → Inserts eq old new k v b (Err pair)
@@ -30,8 +30,8 @@ pub fn a_refused_insert_changes_nothing<K, V, S>()
         → new.entries ≡ old.entries }
 {}
 
-/// Two entries, one removed: the node is spare and serves the next absent key, whose insert cannot fail. The
-/// one after that may fail.
+/// One of three entries is removed: its node is free and serves the next absent key, whose insert cannot
+/// fail. After that no node is free.
 pub fn a_spare_node_serves_the_next_key<S>()
     ensures removed { (old new : MapState ℕ ℕ S) → old.spare ≡ 0
         → Removes old new (without nat_eq ((1, 10) ∷ (2, 20) ∷ (3, 30) ∷ []) 2)
@@ -43,8 +43,8 @@ pub fn a_spare_node_serves_the_next_key<S>()
         → new.spare ≡ 0 }
 {}
 
-/// A drain leaves no entry and a spare node for each, also if it ends early. A clear leaves the spare nodes
-/// as they were.
+/// A drain leaves no entry and a free node for each, even if it ends early. A clear leaves the nodes that
+/// were free before.
 pub fn what_a_drain_and_a_clear_leave<K, V, S>()
     ensures drained { (old new : MapState K V S) → Drains old new
         → (new.entries ≡ []) × (new.spare ≡ old.spare + length old.entries) }
@@ -52,8 +52,8 @@ pub fn what_a_drain_and_a_clear_leave<K, V, S>()
         × (new.spare ≡ old.spare) }
 {}
 
-/// A value that is written keeps its entry's place and stores no link, a move keeps the value, and neither
-/// makes a node spare; a move of an absent key changes nothing.
+/// A write of a value keeps its entry's place, makes no node free and stores no link. A move keeps the value.
+/// A move of an absent key changes nothing.
 pub fn what_a_write_and_a_move_leave<S>()
     ensures written { (old new : MapState ℕ ℕ S) (w : ℕ) → old.entries ≡ (1, 10) ∷ (2, 20) ∷ []
         → WritesEntry nat_eq old new 1 11 w
@@ -70,8 +70,8 @@ pub fn what_a_write_and_a_move_leave<S>()
         → new.entries ≡ (2, 20) ∷ (1, 11) ∷ [] }
 {}
 
-/// A replace of a present key returns the old value, leaves the key at its place and stores no link. One of
-/// an absent key is an insert.
+/// A replace of a present key returns the old value, leaves the key at its place and stores no link. A
+/// replace of an absent key is an insert.
 pub fn what_a_replace_leaves<K, V, S>()
     ensures there { (old new : MapState ℕ ℕ S) (w : ℕ) → old.entries ≡ (1, 10) ∷ (2, 20) ∷ []
         → Replaces nat_eq old new 1 11 (Ok (Some w))
@@ -87,8 +87,7 @@ pub fn what_a_replace_leaves<K, V, S>()
         → new.link_writes ≡ old.link_writes }
 {}
 
-/// A write keeps every key and its place and changes one value, a move changes no value, and both keep every
-/// node.
+/// A write changes one value and keeps every key at its place. A move changes no value. Both keep every node.
 pub fn writes_and_moves_keep_the_keys<K, V, S>()
     ensures written_keys { (eq : K → K → Bool) (old new : MapState K V S) (k : K) (v w : V)
         → WritesEntry eq old new k v w
@@ -118,8 +117,8 @@ pub fn writes_and_moves_keep_the_keys<K, V, S>()
         → node_count new ≡ node_count old }
 {}
 
-/// A reserve for a hundred more entries on a map of two leaves the entries and makes room for 102. If there
-/// is enough room it cannot fail, and if it fails it changes nothing.
+/// A reserve for a hundred more entries on a map of two entries leaves them and makes room for 102. If there
+/// is enough room, it cannot fail. If it fails, it changes nothing.
 pub fn what_a_reserve_leaves<K, V, S, E>()
     ensures enough { (old new : MapState ℕ ℕ S) → old.entries ≡ (1, 10) ∷ (2, 20) ∷ []
         → Reserves {E = E} old new 100 (Ok tt)
@@ -130,8 +129,9 @@ pub fn what_a_reserve_leaves<K, V, S, E>()
         → IsOk r × (new ≡ old) }
 {}
 
-/// A shrink leaves no spare node, whether it fails or not, so that an insert of the next absent key may fail.
-/// A shrink that fails keeps the room, none raises it, and a map without entries has no room afterwards.
+/// After a shrink that fails, the entries and the room are as before, but no node is free: an insert of an
+/// absent key may fail. No shrink raises the room, and one that succeeds leaves room for the entries only. A
+/// shrink without entries cannot fail, and leaves no room.
 pub fn what_a_shrink_leaves<K, V, S, E>()
     ensures empty { (old new : MapState K V S) (r : Result (Unit {0}) E) → old.entries
         ≡ [] → Shrinks old new r
@@ -146,7 +146,7 @@ pub fn what_a_shrink_leaves<K, V, S, E>()
         → new.room ≡ 1 }
 {}
 
-/// A removal by key returns the stored pair, and one of an absent key changes nothing.
+/// A removal by key returns the stored pair. A removal of an absent key changes nothing.
 pub fn what_a_removal_leaves<S>()
     ensures there { (old new : MapState ℕ ℕ S) (r : Option (ℕ × ℕ)) → old.entries ≡ (1, 10) ∷
         (2, 20) ∷ (3, 30) ∷ []
@@ -157,14 +157,14 @@ pub fn what_a_removal_leaves<S>()
         → (r ≡ None) × (new ≡ old) }
 {}
 
-/// A map that is made with room for ten entries has none; one with room for none is the empty map.
+/// A map made with room for ten entries has no entry. One made with room for none is the empty map.
 pub fn what_a_map_is_made_with<K, V, S>()
     ensures some { (s : S) (m : MapState K V S) → IsMadeWith 10 s m
         → (m.entries ≡ []) × (10 ≤ m.room) × (m.hasher ≡ s) }
     ensures none { (s : S) (m : MapState K V S) → IsMadeWith 0 s m → m ≡ empty_map s }
 {}
 
-/// Steps that only remove entries: two in a row are one, and a removal is one. No step of the kind adds an
+/// Two steps that only remove entries are together such a step, and a removal is one. No such step adds an
 /// entry.
 pub fn steps_that_take_away<K, V, S>()
     ensures removal { (old new : MapState K V S) (es : List (K × V)) → Removes old new es
@@ -179,7 +179,7 @@ pub fn steps_that_take_away<K, V, S>()
         → ⊥ }
 {}
 
-/// A pop removes the first or the last entry and returns it, as a removal by its key does. In an empty map it
+/// A pop removes the first or the last entry and returns it, as a removal by its key does. On an empty map it
 /// changes nothing.
 pub fn what_a_pop_leaves<K, V, S>()
     ensures front { (old new : MapState K V S) (e : K × V) → PopsFront old new (Some e)
@@ -194,8 +194,8 @@ pub fn what_a_pop_leaves<K, V, S>()
         → without eq (es ++ e ∷ []) e.0 ≡ es }
 {}
 
-/// How many nodes a map keeps: an insert of an absent key makes one only if none is spare, a removal keeps
-/// it, a shrink frees the spare ones.
+/// The number of a map's nodes: an insert of an absent key makes a node only if none is free, a removal keeps
+/// the node, and a shrink releases the free ones.
 pub fn nodes_after_steps<K, V, S, E>()
     ensures adds { (old new : MapState K V S) (es : List (K × V)) → Adds old new es
         → node_count new ≡ max (node_count old) (length new.entries) }
@@ -210,7 +210,7 @@ pub fn nodes_after_steps<K, V, S, E>()
         → node_count new ≡ length old.entries }
 {}
 
-/// There is room for each node in a map as it is made, and after every step of one that had it.
+/// An empty map has room for each of its nodes. A step from a map that has such room leads to one that has.
 pub fn room_after_steps<K, V, S, E>()
     ensures empty { (s : S) → HasRoom (empty_map {K = K} {V = V} s) }
     ensures inserts { (eq : K → K → Bool) (old new : MapState K V S) (k : K) (v : V) (b : ℕ)
@@ -231,8 +231,8 @@ pub fn room_after_steps<K, V, S, E>()
     ensures shrinks { (old new : MapState K V S) (r : Result (Unit {0}) E) → Shrinks old new r → HasRoom new }
 {}
 
-/// Every node is kept, and one is made only if there are more entries than nodes: by each step but a clear
-/// and a shrink.
+/// Each step except a clear and a shrink keeps every node, and makes one only if there are more entries than
+/// nodes.
 pub fn every_node_is_kept<K, V, S, E>()
     ensures inserts { (old new : MapState K V S) (eq : K → K → Bool) (k : K) (v : V) (b : ℕ)
         (r : Result (Option V) (K × V))
@@ -264,8 +264,8 @@ pub fn every_node_is_kept<K, V, S, E>()
         → KeepsNodes old new }
 {}
 
-/// So nodes become fewer only by a clear, which leaves the spare ones, and by a shrink. A map that has no
-/// fewer nodes than one that was longer has a spare one, and no insert into it fails.
+/// So only a clear and a shrink make nodes fewer, and a clear leaves the nodes that were free. A map that has
+/// at least as many nodes as a longer one has a free node, so no insert into it fails.
 pub fn a_map_shorter_than_it_was<K, V, S>()
     ensures never_fall { (old new : MapState K V S) → KeepsNodes old new → node_count old ≤ node_count new }
     ensures cleared { (old new : MapState K V S) → Clears old new → node_count new ≡ old.spare }

@@ -1,4 +1,4 @@
-//! Rows and laws of iterators.
+//! Examples and laws of iterators.
 ghost use Rattle.std.specs.Prelude.{◌≡◌, ℕ, ◌-◌, Bool, List, [], ◌∷◌, ◌++◌, Option, None, Some, length};
 ghost use Rattle.std.specs.Map.{keys_of, set_value};
 ghost use Rattle.std.specs.Map.Iter.{TakesFirst, TakesLast};
@@ -9,7 +9,7 @@ ghost use Rattle.hashlink_model.specs.Walk.{step_gives, step_leaves, walk_gives,
 ghost use Rattle.hashlink_model.specs.Walk.{given_back};
 ghost use Rattle.hashlink_model.specs.Numbers as numbers;
 
-/// Two from the front, two from the back, and then `None` from both.
+/// Two steps from the front, two from the back, and then `None` from both.
 pub fn a_walk_from_both_ends()
     ensures gives { walk_gives {X = ℕ} (Front ∷ Front ∷ Back ∷ Back ∷ Back ∷ Front ∷ []) (1 ∷ 2 ∷ 3 ∷ 4 ∷ [])
         ≡ Some 1 ∷ Some 2 ∷ Some 4 ∷ Some 3 ∷ None ∷ None ∷ [] }
@@ -25,20 +25,21 @@ pub fn a_walk_writes_in_place()
         ≡ (1, 17) ∷ (3, 30) ∷ (2, 23) ∷ [] }
 {}
 
-/// A step from the front takes the first of what is left, one from the back the last.
+/// A step from the front takes the first of the entries left, and a step from the back the last.
 pub fn a_step_takes_an_end<X>()
     ensures front { (xs : List X) → TakesFirst (λ x. x) xs (first_of xs) (after_first_of xs) }
     ensures back { (xs : List X) → TakesLast (λ x. x) xs (last_of xs) (before_last_of xs) }
 {}
 
-/// Whatever ends the steps come from, each entry is returned once: what came from the front, what is left and
-/// what came from the back are the list.
+/// Each entry is returned once, from whichever ends the steps are. Those returned from the front, those left
+/// and those returned from the back are together the list.
 pub fn a_walk_gives_each_entry_once<X>()
     ensures { (steps : List End) (xs : List X)
         → given_front steps xs ++ (walk_leaves steps xs ++ given_back steps xs) ≡ xs }
 {}
 
-/// The size hint is what is left. If nothing is left, both ends return `None` from then on.
+/// Each step leaves one entry fewer, as long as there is one. If none is left, both ends return `None` from
+/// then on.
 pub fn a_walk_ends<X>()
     ensures hint { (steps : List End) (xs : List X) → length (walk_leaves steps xs)
         ≡ length xs - length steps }
@@ -46,7 +47,7 @@ pub fn a_walk_ends<X>()
     ensures for_good { (end : End) → ◌≡◌ {A = List X} (step_leaves end []) [] }
 {}
 
-/// A value that is written at the place of a key is the key's value, and no key changes.
+/// A write at the place of a key changes the key's value, and no key.
 pub fn a_write_changes_one_value<K, V>()
     ensures value { (test : K → Bool) (es : List (K × V)) (j : ℕ) (w : V) → place_of test es ≡ Some j
         → set_value_at es j w ≡ set_value test es w }

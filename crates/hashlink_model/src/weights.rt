@@ -1,4 +1,4 @@
-//! Rows and laws of entries with weights.
+//! Examples and laws of entries with weights.
 ghost use Rattle.std.specs.Prelude.{Bool, true, false, ◌≡◌, ℕ, ◌+◌, ◌^◌, ◌-◌, ◌≤◌, nat_eq, Option, List, []};
 ghost use Rattle.std.specs.Prelude.{◌∷◌};
 ghost use Rattle.std.specs.Prelude.{◌++◌, Some, None, length};
@@ -9,7 +9,7 @@ ghost use Rattle.hashlink_model.specs.Weights.{WeightedState, WeightedInserts, W
 ghost use Rattle.hashlink_model.specs.Weights.{total_weight, fitting, weighted_put};
 ghost use Rattle.hashlink_model.specs.Numbers as numbers;
 
-/// Inserts into a cache of budget 10, of budget 5, and of the greatest budget.
+/// Inserts into caches with the budgets 10 and 5, with the greatest budget, and with 0.
 pub fn inserts_within_a_budget()
     ensures three { numbers.weighted_insert ((1, (10, 4)) ∷ (2, (20, 4)) ∷ []) 10 3 30 4
         ≡ (2, (20, 4)) ∷ (3, (30, 4)) ∷ [] }
@@ -34,8 +34,8 @@ pub fn fitting_is_the_longest_end_that_fits<K, V>()
         → length ys ≤ length (fitting (xs ++ ys) budget) }
 {}
 
-/// After an insert within a budget no two keys are equal, the pair is the last one, and the weights sum to at
-/// most the budget.
+/// After an insert within a budget, no two keys are equal, and the weights sum to at most the budget. If the
+/// pair is not too heavy, an entry is left.
 pub fn what_an_insert_within_a_budget_leaves<K, V>()
     ensures keys { (eq : K → K → Bool) → IsEquivalence eq
         → (es : List (K × (V × ℕ))) (budget : ℕ) (k : K) (v : V) (weight : ℕ) → IsEntries eq es
@@ -47,8 +47,8 @@ pub fn what_an_insert_within_a_budget_leaves<K, V>()
         → 1 ≤ length (weighted_put eq es budget k v weight) }
 {}
 
-/// After an insert within a budget of a pair that is not too heavy the key has the new value and weight, and
-/// every other key that is still present has its old ones.
+/// After an insert within a budget of a pair that is not too heavy, the key has the new value and weight.
+/// Every other key that is still present has its old pair.
 pub fn lookup_after_an_insert_within_a_budget<K, V>()
     ensures at_key { (eq : K → K → Bool) → IsEquivalence eq
         → (q : K) (es : List (K × (V × ℕ))) (budget : ℕ) (k : K) (v : V) (weight : ℕ) → IsEntries eq es
@@ -61,8 +61,9 @@ pub fn lookup_after_an_insert_within_a_budget<K, V>()
         → lookup_entry (eq q) es ≡ Some e }
 {}
 
-/// An insert that succeeds leaves the fitting end within the budget and returns the old value. One that is
-/// too heavy changes nothing. One that fails to allocate changes no entry. No insert is both.
+/// An insert that succeeds leaves the fitting end within the budget and returns the old value. One that fails
+/// to allocate has an absent key, finds no free node and changes no entry. No insert of a pair that is too
+/// heavy succeeds.
 pub fn what_inserts_within_a_budget_leave<K, V, S>()
     ensures entries { (eq : K → K → Bool) (old new : WeightedState K V S) (k : K) (v : V) (weight : ℕ)
         (w : Option (V × ℕ))

@@ -1,4 +1,4 @@
--- One block is taken out of an arena's and put back. Assumes `Logic`.
+-- One block of an arena, taken out and put back. Assumes `Logic`.
 use Rattle.hashlink_nodes.proofs.Cuts.{cut_at}
 use Rattle.hashlink_nodes.proofs.Names
 use Names.{◌++◌, id⊢, ◌≡◌, ℕ, ◌+◌, ◌^◌, ◌<◌, arith, List, [], ◌∷◌, Option, None, Some, IsSome, refl, sym}
@@ -9,12 +9,12 @@ use Names.{Model, Ty, Val, full_share, fact, fact_i, fact_use, lone, part_out, R
 use Names.{null_ptr, block_lent, block_owns, blocks_lent, blocks_own, links_offset, is_small, Links, Kept}
 use Names.{alter, entry_in, same_node, Node}
 
--- what a look-up found
+-- what a lookup found
 pub found : {X : Type 0} (o : Option X) → IsSome o → (x : X) × (o ≡ Some x)
 found (Some x) t = (x, refl)
 found None t = absurd (cc t)
 
--- and the entry of what was found
+-- the entry of the block that a lookup found
 pub found_entry : {T : Type 0} (o : Option (Kept T)) → IsSome (entry_in o)
     → (k : Kept T) × (e : ℕ × T) × (o ≡ Some k) × (k.entry ≡ Some e)
 found_entry None t = absurd (cc t)
@@ -49,7 +49,7 @@ module _ (R : RattleType) {M : Type 1} {𝓤 : Ura M} (𝓛 : Logic 𝓤) (n : N
         let rest = sem 𝓛 (blocks_lent R (xs ++ (n, x) ∷ ys) κ) in
         via 𝓤 rest (snd∗ 𝓤 (sem 𝓛 (block_lent R b.0.at b.1 κ)) rest) (shown κ xs)
 
-  -- the block of n comes out
+  -- the block of n is taken out
   pub blocks_cut : (bs : Entries) (x : Kept R.Denot) → lookup (same_node n) bs ≡ Some x
       → ent 𝓤 (sem 𝓛 (blocks_own R bs))
       (sep 𝓤 (sem 𝓛 (One x)) (sem 𝓛 (blocks_own R (remove_entry (same_node n) bs))))
@@ -59,7 +59,7 @@ module _ (R : RattleType) {M : Type 1} {𝓤 : Ura M} (𝓛 : Logic 𝓤) (n : N
       (sep 𝓤 (sem 𝓛 (One t.1)) (sem 𝓛 (blocks_own R t.2))))
       (λ i. (sym c.0.is i, c.1 i, sym c.0.removed i)) (out_of c.0.value c.0.after c.0.before)
 
-  -- a block goes to the place of the one that came out
+  -- a block is put where another one was taken out
   pub blocks_glue : (bs : Entries) (x : Kept R.Denot) (f : Kept R.Denot → Kept R.Denot)
       → lookup (same_node n) bs ≡ Some x
       → ent 𝓤 (sep 𝓤 (sem 𝓛 (One (f x))) (sem 𝓛 (blocks_own R (remove_entry (same_node n) bs))))
@@ -71,7 +71,7 @@ module _ (R : RattleType) {M : Type 1} {𝓤 : Ura M} (𝓛 : Logic 𝓤) (n : N
       (λ i. (c.1 i, sym c.0.removed i, sym (c.0.altered f) i))
       (back_in (f c.0.value) c.0.after c.0.before)
 
-  -- a `&` to the arena shows the value of n
+  -- a `&` to the arena shows the block of n
   pub block_seen : (κ : Lft) (bs : Entries) (x : Kept R.Denot) → lookup (same_node n) bs ≡ Some x
       → ent 𝓤 (sem 𝓛 (blocks_lent R bs κ)) (sem 𝓛 (block_lent R n.at x κ))
   block_seen κ bs x e =
@@ -83,7 +83,7 @@ module _ (R : RattleType) {M : Type 1} {𝓤 : Ura M} (𝓛 : Logic 𝓤) (𝓜 
   abbrev τ : Ty
   τ = lone Links.mir
 
-  -- no two blocks lie at one place, since their links have bytes
+  -- two blocks have different addresses, since their links have bytes
   clash : (p : Ptr) (x y : Kept R.Denot)
       → ent 𝓤 (sep 𝓤 (sem 𝓛 (block_owns R p x)) (sem 𝓛 (block_owns R p y))) (never 𝓤)
   clash (block_ptr b o) x y =
@@ -106,7 +106,7 @@ module _ (R : RattleType) {M : Type 1} {𝓤 : Ura M} (𝓛 : Logic 𝓤) (𝓜 
       qed 𝓛 (‵ (block_owns R null_ptr x) ∷ ‵ (block_owns R null_ptr y) ∷ []) ∵
       fsplit3 ! $ move ! (2 ∷ []) $ fsplit ! $ keep ! (0 ∷ []) $ done !
 
-  -- a block that is owned beside an arena's is none of them
+  -- a block that is owned besides an arena's is none of the arena's
   pub apart_from : (n : Node) (x : Kept R.Denot) (bs : List (Node × Kept R.Denot))
       → ent 𝓤 (sep 𝓤 (sem 𝓛 (block_owns R n.at x)) (sem 𝓛 (blocks_own R bs)))
       (fact 𝓤 (lookup (same_node n) bs ≡ None))
@@ -121,7 +121,7 @@ module _ (R : RattleType) {M : Type 1} {𝓤 : Ura M} (𝓛 : Logic 𝓤) (𝓜 
       ]) refl
 
 module _ {M : Type 1} {𝓤 : Ura M} {𝓛 : Logic 𝓤} {K : Type 0} {Γ : List (Item 𝓤)} {G : Goal 𝓤 𝓛.H} where
-  -- a fact that two entries show is learned, and they stay
+  -- a fact that follows from two items becomes known, and the two stay
   pub knows : K → {i j : Item 𝓤} (φ : Type 0) → ent 𝓤 (sep 𝓤 (mean 𝓛 i) (mean 𝓛 j)) (fact 𝓤 φ)
       → (φ → Seq K 𝓛 (i ∷ j ∷ Γ) G)
       → Seq K 𝓛 (i ∷ j ∷ Γ) G
@@ -130,7 +130,7 @@ module _ {M : Type 1} {𝓤 : Ura M} {𝓛 : Logic 𝓤} {K : Type 0} {Γ : List
       keep t (0 ∷ []) $ done t in
       record { prf = fact_use 𝓤 φ shown.prf (λ x. (k x).prf) }
 
-  -- what a number is below is learned
+  -- the bound on a number becomes known
   pub small_seen : (R : RattleType) → K → (e : Option (ℕ × R.Denot))
       → (IfSome e (λ x. x.0 < 2 ^ 48) → Seq K 𝓛 Γ G) → Seq K 𝓛 (‵ (is_small R e) ∷ Γ) G
   small_seen R t None k = drop t $ k tt

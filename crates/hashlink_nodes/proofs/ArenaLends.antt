@@ -1,5 +1,5 @@
--- An arena lends a part of a block, by `&` and by `&mut`. A function of it gives its code, which computes
--- an address alone, and where the part is in a block. Assumes `Logic`.
+-- An arena lends a part of a block, by `&` and by `&mut`. The lemmas need the function's code, which only
+-- computes an address, and the offset of the part in a block. Assumes `Logic`.
 use Rattle.hashlink_nodes.proofs.Names
 use Names.{word_had, part_of, Fn, Callee, Model, Closed, Running, fact_i, via, ex_i, Item, Step, step, mean}
 use Names.{now, prop, upd, One, Signature, Slot, ◌+ₚ◌, Ended, Clauses, at_exit, closing, Meets, block_owns}
@@ -22,7 +22,7 @@ use prog.Memory.{field_of}
 use Rattle.hashlink_nodes.proofs.ArenaSteps.{Mark, Nd, no_box, args_are}
 use Rattle.hashlink_nodes.proofs.ArenaBlocks.{blocks_cut, blocks_glue}
 
--- the signature of a function that lends what the arena has at a node
+-- the signature of a function that lends a part of the block of a node
 abbrev signed : Slot 2 → Slot 2 → Signature
 signed self result = record {
   lifetimes = 2;
@@ -31,7 +31,7 @@ signed self result = record {
   result = result;
 }
 
--- its code, where it lends the field k of a block by references of this mutability
+-- its code, if it lends the field k of a block by references of this mutability
 abbrev lending : RattleType → RattleType → Mutability → ℕ → Fn
 lending R P m k = record {
   lifetimes = 1;
@@ -55,7 +55,7 @@ module _ {M : Type 1} (𝓤 : Ura M) (𝓛 : Logic 𝓤) (𝓜 : Model 𝓤 𝓛
   abbrev R : RattleType
   R = param 0 T
 
-  -- the address of the part of a block at p is what is returned
+  -- the returned address is that of the part of the block at p
   abbrev Address : Ptr → (Val → SProp 𝓤) → Item 𝓤
   Address p Post =
       some (λ (x : ℕ × ℕ). raw (fact 𝓤 (p ≡ block_ptr x.0 x.1)) ⊛ raw (Post (vptr x.0 (x.1 + off))))
@@ -66,7 +66,7 @@ module _ {M : Type 1} (𝓤 : Ura M) (𝓛 : Logic 𝓤) (𝓜 : Model 𝓤 𝓛
   abbrev Runs : List Val → (Val → SProp 𝓤) → SProp 𝓤
   Runs vs Post = let 𝓣 = tables 𝓤 H 𝓜 𝓡 𝓡.env in WpFn 𝓤 H 𝓣.C 𝓣.Λ fn vs Post
 
-  -- the code returns that address
+  -- the code returns this address
   found : {τ : Ty} → field_of (layout (blocks.the_row R)) nth ≡ just (τ, off) → (Post : Val → SProp 𝓤)
       (rb ro : ℕ) (p : Ptr) (Q : SProp 𝓤)
       → ent 𝓤 Q (mean 𝓛 (later (Address p Post))) → ent 𝓤 Q (Runs (vptr rb ro ∷ word p ∷ []) Post)
@@ -96,7 +96,7 @@ module _ {M : Type 1} (𝓤 : Ura M) (𝓛 : Logic 𝓤) (𝓜 : Model 𝓤 𝓛
       use0 𝓛 (raw (fact 𝓤 (p ≡ block_ptr b o))) (fact_i 𝓤 (p ≡ block_ptr b o) (emp 𝓤) e) $ join ! $ done !)
       (ex_i 𝓤 (λ (x : ℕ × ℕ). sep 𝓤 (fact 𝓤 (p ≡ block_ptr x.0 x.1)) (Post (vptr x.0 (x.1 + off)))) (b, o))
 
-  -- a part is lent by `&`, or by `&mut`
+  -- a part is lent by `&`, and by `&mut`
   abbrev S : Ended
   S = record {
     signature = signed (RefOf (0 ∷ []) tt (plain (λ _. arena_row R)) (λ _. tt))
@@ -122,7 +122,7 @@ module _ {M : Type 1} (𝓤 : Ura M) (𝓛 : Logic 𝓤) (𝓜 : Model 𝓤 𝓛
       abbrev Z : Type 0
       Z = (walk_of 𝓛 S shared_stays c).Ghost
 
-      -- what is asked, and what is then seen of the part
+      -- what the function requires, and what is then seen of the part
       pub record Shares : Type 2 where
         pub Asked : Arena R.Denot → Node → Type 0
         pub Seen : (a : Arena R.Denot) (n : Node) → Asked a n → Type 0
@@ -188,7 +188,7 @@ module _ {M : Type 1} (𝓤 : Ura M) (𝓛 : Logic 𝓤) (𝓜 : Model 𝓤 𝓛
       abbrev Z' : Type 0
       Z' = (walk_of 𝓛 S' lent_stays c).Ghost
 
-      -- the part w of the block k comes out of what the block owns, and another goes in
+      -- `part` is taken out of what the block k owns, and any w can be put there
       pub record Held (n : Node) (k : Kept R.Denot) (change : P.Denot → Kept R.Denot → Kept R.Denot) : Type
           2 where
         pub part : P.Denot
@@ -201,7 +201,7 @@ module _ {M : Type 1} (𝓤 : Ura M) (𝓛 : Logic 𝓤) (𝓜 : Model 𝓤 𝓛
 
       module _ {change : P.Denot → Kept R.Denot → Kept R.Denot} (a : Arena R.Denot) {n : Node}
           {k : Kept R.Denot} (h : Held n k change) (rb ro b o : ℕ) (vs : List Val) where
-        -- all but the part
+        -- everything but the part
         abbrev Rest : Fml
         Rest =
             fsep (h.rest n.at)

@@ -1,4 +1,4 @@
--- A `&` to an arena is made where one to each part of its blocks is. Assumes `Logic`.
+-- A `&` to an arena, from a `&` to each part of its blocks. Assumes `Logic`.
 use Rattle.hashlink_nodes.proofs.Names
 use Names.{ℕ, List, [], ◌∷◌, Option, Some, None, Ura, Lft, Incl, ftrue, Logic, ⊑_static, usize, Laws}
 use Names.{Sharable, copy_shared, RattleType, RowLaws, Ptr, ShrLaws, said, beside, beside_shr_laws}

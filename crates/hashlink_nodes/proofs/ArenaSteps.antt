@@ -1,4 +1,4 @@
--- What the walks of the arena's functions share. Assumes `Logic`.
+-- What the proofs of the arena's functions share. Assumes `Logic`.
 use Rattle.hashlink_nodes.proofs.Names.{ℕ, ◌<◌, ty_int, Good, ◌≡◌, ◌^◌, List, [], ◌∷◌, refl, subst, Ura, lit<}
 use Rattle.hashlink_nodes.proofs.Names.{int_big, w64, Fits, Val, vint, vstruct, vcons, vnil, SProp, ent, emp}
 use Rattle.hashlink_nodes.proofs.Names.{guard_i, via, fact, fact_i, prop, raw, use0, Item, Goal, Seq, Step}
@@ -11,7 +11,7 @@ use Rattle.std.specs.contracts.alloc.Global as heap
 use Rattle.std.proofs.alloc.Global.TheLaws as heap_laws
 use Rattle.std.proofs.BoxSteps.Form.{Bx}
 
--- the arena's own field, which takes no bytes
+-- the arena's only field, which takes no bytes
 abbrev pub Mark : RattleType → RattleType
 Mark R = Struct (shape (A.the_type R))
 
@@ -30,7 +30,7 @@ mark_made R 𝓛 =
 pub fits_word : {n : ℕ} → n < 2 ^ 64 → Good (ty_int w64) (vint w64 n)
 fits_word p = (tt, record { fits = p })
 
--- what std's lemmas on machine values ask for beside a row, and do not look at
+-- what std's lemmas on machine values require besides a row, and do not use
 abbrev pub as_handle : (R : RattleType) → Laws R → Al
 as_handle R L = record {
   row = R;
@@ -50,7 +50,7 @@ abbrev pub no_box : Bx
 no_box = record { row = Heap; laws = heap_laws.the_row_laws; al = heap_handle }
 
 module _ {M : Type 1} {𝓤 : Ura M} {𝓛 : Logic 𝓤} {K : Type 0} {Γ : List (Item 𝓤)} {E : Env 𝓤 𝓛.H} where
-  -- the number of a block that has no pair, as it is written
+  -- the number of a block that has no pair, as the code has it
   pub no_entry : K → Opd K 𝓛 Γ E (int_big w64 (2 ^ 48)) (vint w64 (2 ^ 48))
   no_entry t = record {
     go = λ Kt h. via 𝓤 (Kt (vint w64 (2 ^ 48))) h

@@ -1,4 +1,4 @@
--- What the calls of a ring cite: each from the ring as it is opened to the ring as it is closed.
+-- Lemmas for the calls of a ring, each from the ring as it is opened to the ring as it is closed.
 use Rattle.hashlink_nodes.proofs.Names
 use Names.{◌≡◌, ℕ, ◌+◌, ◌-◌, ◌^◌, ◌<◌, [], ◌∷◌, ◌++◌, length, Option, Some, None, refl, sym, ap, ◌∙◌, subst}
 use Names.{arith, keys_of, unwrap_or, remove_entry, set_value, option_map, append-nil, length-append}
@@ -17,8 +17,8 @@ use Rattle.hashlink_nodes.proofs.Opening.{length-gap, Leaves, NodeAt, Opened, le
 use Rattle.hashlink_nodes.proofs.Opening.{empty, known}
 
 module _ {K V : Type 0} where
-  -- ---- an entry goes in
-  -- the node n holds it, and is beside the ring, which has len entries once it is in
+  -- ---- an entry is inserted
+  -- the node n holds it, and is not yet in the ring, which will have len entries
   pub record Ready (s : State K V) (n g first : Node) (h : Held K V) (len spare : ℕ) (v : Ring K V) : Type 0
     where
       pub ring : IsRing s (n ∷ []) g first v
@@ -26,7 +26,7 @@ module _ {K V : Type 0} where
       pub is_len : length v.entries + 1 ≡ len
       pub is_spare : length v.free ≡ spare
 
-  -- it goes in between p and q, and es are the entries then
+  -- the node is inserted between p and q, and es are the entries then
   pub record Into (s : State K V) (n g first p q : Node) (len spare : ℕ) (v : Ring K V) (es : Entries K V) :
       Type 0 where
     pub fits : AreThere s n p q
@@ -78,7 +78,7 @@ module _ {K V : Type 0} where
         (ring (at.cut.before ++ (n, at.cut.value) ∷ at.cut.after) v.free v.link_writes)
     cut_open = subst (λ es. IsRing s [] g first (ring es v.free v.link_writes)) at.cut.is at.whole.ring
 
-    -- it holds something else
+    -- it holds another entry
     pub set_held : {s' : State K V} (w : Held K V) → s' ≡ hold n (Some w) s
         → Leaves s' guard first len spare (ring (set_value (same_node n) v.entries w) v.free v.link_writes)
     set_held {s'} w is =
@@ -94,7 +94,7 @@ module _ {K V : Type 0} where
     renewed change is =
         set_held (change at.cut.value) (is ∙ ap (λ o. hold n (option_map change o) s) at.here.holds)
 
-    -- its entry is taken and put in again, with another number
+    -- its pair is taken out, and put back with another number
     pub renumbered : {s₁ s₂ : State K V} {pair : K × V} (i : ℕ) → s₁ ≡ hold n None s
         → option_map pair_of (s.held n) ≡ Some pair → s₂ ≡ hold n (Some (held i pair.0 pair.1)) s₁
         → Leaves s₂ guard first len spare
@@ -104,14 +104,14 @@ module _ {K V : Type 0} where
         set_held (with_number at.cut.value i)
         (held_anew _ _ _ s is₁ is₂ ∙ (λ j. hold n (Some (held i (sym e j).0 (sym e j).1)) s))
 
-    -- it leaves the ring
+    -- it is taken out of the ring
     pub taken_out : {s₁ : State K V} → s₁ ≡ detached n s
         → IsRing s₁ (n ∷ []) g first (ring rest v.free (v.link_writes + 2))
     taken_out {s₁} is =
         subst (λ es. IsRing s₁ (n ∷ []) g first (ring es v.free (v.link_writes + 2)))
         (sym at.cut.removed) (detach at.cut.value at.cut.before at.cut.after cut_open is)
 
-    -- it is spare then
+    -- it is the first free node then
     pub removed : {s₁ s₂ s₃ : State K V} → s₁ ≡ detached n s → s₂ ≡ hold n None s₁ →
         s₃ ≡ store_next n first s₂
         → Leaves s₃ guard n (len - 1) (spare + 1) (ring rest (n ∷ v.free) (v.link_writes + 2 + 1))
@@ -119,7 +119,7 @@ module _ {K V : Type 0} where
         leaves at.is (spared (holds_now (taken_out is₁) None is₂) (held_now s₁ is₂) is₃)
         (omega (arith, length-removed v.entries at.cut, at.whole.is_len)) (omega (arith, at.whole.is_spare))
 
-    -- or it goes in elsewhere
+    -- or it can be inserted elsewhere
     pub ready_moved : {s₁ : State K V} → s₁ ≡ detached n s
         → Ready s₁ n g first at.cut.value len spare (ring rest v.free (v.link_writes + 2))
     ready_moved is = record {
@@ -130,7 +130,7 @@ module _ {K V : Type 0} where
     }
 
   -- ---- a new entry
-  -- the first spare node
+  -- the first free node
   pub spare_of : {s : State K V} {g first : Node} {len spare : ℕ} {v : Ring K V}
       → Opened s g first len spare v → 0 < spare → Taken s g first v
   spare_of {s} {g} {first} {v = v} o some =
@@ -150,7 +150,7 @@ module _ {K V : Type 0} where
         is_spare = omega (arith, length-drop 1 v.free, o.is_spare);
       }
 
-  -- the guard is there, or was made
+  -- there is a guard, or it was made
   pub guarded_now : {n : Inside K V} {s' : State K V} {g : Node} {v : Ring K V} → IsSound n → ring_of n ≡ v
       → GuardIs (state_of n.pool) s' n.guard g
       → Opened s' g n.first_spare n.len n.spare v
@@ -169,7 +169,7 @@ module _ {K V : Type 0} where
             (λ i. (sym m.1 i, sym m.0 i)) (opened sound view some)
       ]) refl is
 
-  -- and stays, if nothing else comes in
+  -- the guard stays even if nothing else is inserted
   pub guard_stays : {n : Inside K V} {p p' : Pool K V} {g : Node} {v : Ring K V} → IsSound n → ring_of n ≡ v
       → GuardIs (state_of n.pool) (state_of p) n.guard g → p' ≡ p
       → Leaves (state_of p') (Some g) n.first_spare n.len n.spare v
@@ -190,7 +190,7 @@ module _ {K V : Type 0} where
         is_spare = o.is_spare;
       }
 
-  -- ---- nodes are given back
+  -- ---- blocks are freed
   pub spare_gone : {s s' : State K V} {guard : Option Node} {g first first' : Node} {len spare : ℕ}
       {v : Ring K V} → guard ≡ Some g → Opened s g first len spare v → 0 < spare → first' ≡ s.next first
       → Drops first s s'
@@ -201,7 +201,7 @@ module _ {K V : Type 0} where
       (leaves is (dropped (spare_of o some).ring drops) o.is_len
       (omega (arith, length-drop 1 v.free, o.is_spare)))
 
-  -- an entry whose node is none of those before it is found at its node
+  -- a lookup by a node finds its entry, if no entry before it has this node
   found_here : (xs : Entries K V) (n : Node) (h : Held K V) (ys : Entries K V) → IsOff n (keys_of xs)
       → (lookup (same_node n) (xs ++ (n, h) ∷ ys) ≡ Some h)
       × (remove_entry (same_node n) (xs ++ (n, h) ∷ ys) ≡ xs ++ ys)
@@ -288,7 +288,7 @@ module _ {K V : Type 0} where
     pub last_in : InRing (state_of n.pool) m last.value
     last_in = in_ring o.ring last.before m last.value [] last.is
 
-    -- it is none of those before it
+    -- the last node is none of those before it
     pub last_off : IsOff m (keys_of last.before)
     last_off =
         let ks = keys_of last.before in
@@ -313,7 +313,7 @@ module _ {K V : Type 0} where
         (omega (arith, o.is_len, ap length last.is, length-append last.before ((m, last.value) ∷ [])))
         o.is_spare
 
-  -- the guard is the last to go
+  -- the guard's block is freed last
   pub guard_gone : {s s' : State K V} {g first : Node} {len spare : ℕ} {v : Ring K V} →
       Opened s g first len spare v
       → v.entries ≡ [] → v.free ≡ [] → Drops g s s'

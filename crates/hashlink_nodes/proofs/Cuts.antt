@@ -1,5 +1,5 @@
--- A node of a list of entries, and a place in it: what comes before, what comes after, and what the words of
--- the contracts say there.
+-- A node of a list of entries, and a place in the list: the entries before and after it, and the values of
+-- the contracts' definitions there.
 use Rattle.hashlink_nodes.proofs.Names.{subst, alter, ◌≡◌, Bool, true, false, cond, List, [], ◌∷◌, ◌++◌}
 use Rattle.hashlink_nodes.proofs.Names.{Option, None, Some, refl, sym, ap, ◌∙◌, is_some, slice_get, unwrap_or}
 use Rattle.hashlink_nodes.proofs.Names.{lookup, lookup_entry, remove_entry, set_value, keys_of, append_assoc}
@@ -12,8 +12,8 @@ pub same_some : {X : Type 0} {x y : X} → Some x ≡ Some y → x ≡ y
 same_some e = cc
 
 module _ {X : Type 0} where
-  -- a node that the list has, with the entries before and after it, and what the words of the contracts say
-  -- of it
+  -- a node in the list, with the entries before and after it, and the values of the contracts' definitions at
+  -- it
   pub record Cut (es : List (Node × X)) (n : Node) : Type 0 where
     pub before : List (Node × X)
     pub value : X
@@ -72,7 +72,7 @@ module _ {X : Type 0} where
         }
       ]) refl there
 
-  -- where a look-up found x
+  -- the node at which a lookup found x
   pub cut_at : (es : List (Node × X)) (n : Node) (x : X) → lookup (same_node n) es ≡ Some x
       → (c : Cut es n) × (c.value ≡ x)
   cut_at es n x e = let c = cut es n (ap is_some e) in (c, same_some (sym c.looked ∙ e))
@@ -82,14 +82,14 @@ module _ {X : Type 0} where
   last-pushed a [] e = refl
   last-pushed a (x ∷ xs) e = last-pushed x.0 xs e
 
-  -- where put sets an entry into the list
+  -- the place at which put inserts an entry into the list
   pub record Gap (es : List (Node × X)) (put : Node × X → List (Node × X)) : Type 0 where
     pub before : List (Node × X)
     pub after : List (Node × X)
     pub is : es ≡ before ++ after
     pub puts : (e : Node × X) → put e ≡ before ++ e ∷ after
 
-  -- right before a place
+  -- the place directly before a place
   pub record BeforePlace (es : List (Node × X)) (g : Node) (place : Option Node) : Type 0 where
     pub gap : Gap es (λ e. put_before place e es)
     pub node : unwrap_or place g ≡ head_or g (keys_of gap.after)
@@ -108,7 +108,7 @@ module _ {X : Type 0} where
     beside = c.comes_before None;
   }
 
-  -- right after a place
+  -- the place directly after a place
   pub record AfterPlace (es : List (Node × X)) (g : Node) (place : Option Node) : Type 0 where
     pub gap : Gap es (λ e. put_after place e es)
     pub node : unwrap_or place g ≡ last_or g (keys_of gap.before)

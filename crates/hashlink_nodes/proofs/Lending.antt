@@ -1,4 +1,4 @@
--- What a ring is where a node of it holds another value, written behind a `&mut` to the old one.
+-- The ring after a node's value was replaced by one that was written through a `&mut`.
 use Rattle.hashlink_nodes.proofs.Names.{◌≡◌, Some, ap, sym, subst, ◌∙◌, option_map, option_map_or, set_value}
 use Rattle.hashlink_nodes.proofs.Names.{lookup, Node, Inside, Ring, same_node, state_of, pool_with, IsSound}
 use Rattle.hashlink_nodes.proofs.Names.{ring_of, Held, Holds, pair_of, ring, with_value, entry_in, refl}

@@ -1,10 +1,11 @@
--- Lemmas on the blocks of an arena, and on the ring that their links make.
+-- Lemmas on the blocks of an arena, and on the ring made by their links.
 pub mod Names
 pub mod ArenaBlocks
 pub mod ArenaLends
 pub mod ArenaSharing
 pub mod ArenaSteps
 pub mod Calls
+pub mod Crosses
 pub mod Cuts
 pub mod Rings
 pub mod Lending

@@ -1,4 +1,4 @@
--- What the proofs of this crate import again and again.
+-- The names that many proofs of this crate import.
 use Rattle.hashlink_nodes.specs
 pub use Rattle.std.proofs.Common.{Bool, Bor, IfSome, IsNone, IsSome, List, MutBor, None, OnOk, Option, Some}
 pub use Rattle.std.proofs.Common.{T, [], ap, append-nil, append_assoc, arith, cond, false, is_some, length}

@@ -5,9 +5,12 @@ use Rattle.hashlink_nodes.proofs.Names.{Node, State, IsRing, Ring, IsPlace, next
 use Rattle.hashlink_nodes.proofs.Paths.{head_or, last_or, all_left, all_right}
 use Rattle.hashlink_nodes.proofs.Cuts.{before_place, after_place}
 use Rattle.hashlink_nodes.proofs.Rings.{Entries, Full, linked}
+use Rattle.hashlink_nodes.proofs.Opening.{node_in}
+use Rattle.hashlink_nodes.proofs.Names.{lookup, same_node, state_of, Inside, IsSound, ring_of, Held}
+use Rattle.std.specs.Prelude.{IfNone}
 
 module _ {K V : Type 0} where
-  -- r if it holds an entry, which the guard does not
+  -- r if it holds an entry, and none for the guard, which holds none
   abbrev pub if_full : State K V → Node → Option Node
   if_full s r = then_some (is_some (s.held r)) r
 
@@ -54,14 +57,31 @@ module _ {K V : Type 0} where
           is = ap (if_full s) is ∙ full_last s g None at.gap.before none full ∙ sym at.beside;
         }
 
-  -- what is returned where the node is not tested for an entry
+  -- the node that is returned if it is not tested for an entry
   pub told : {s : State K V} {q r : Node} {answer : Option Node} → NextTo s q r answer
       → IfSome answer (λ m. r ≡ m)
   told {s} {r = r} t =
       subst (λ o. IfSome o (λ m. r ≡ m)) t.is
       (elim (is_some (s.held r)) as (λ b. IfSome (then_some b r) (λ m. r ≡ m)) [ true ↦ refl | false ↦ tt ])
 
--- beside no node there is none
+  -- the node that is returned in place of the guard is not in the ring
+  pub untold : {n : Inside K V} → IsSound n → {v : Ring K V} → ring_of n ≡ v → {q r : Node}
+      → {answer : Option Node} → NextTo (state_of n.pool) q r answer
+      → IfNone answer (lookup (same_node r) v.entries ≡ None)
+  untold {n} sound {v} view {r = r} t =
+      let found = lookup (same_node r) v.entries in
+      let s = state_of n.pool in
+      subst (λ o. IfNone o (found ≡ None)) t.is
+      ((elim found as (λ o. found ≡ o → IfNone (if_full s r) (o ≡ None)) [
+        | None ↦ λ none. let nothing : Option (Held K V) = None in
+            elim (is_some (s.held r)) as (λ b. IfNone (then_some b r) (nothing ≡ nothing))
+            [ true ↦ tt | false ↦ refl ]
+        | Some h ↦ λ there.
+            subst (λ o. IfNone (then_some (is_some o) r) (Some h ≡ None))
+            (sym (node_in sound view r (ap is_some there)).here.holds) tt
+      ]) refl)
+
+-- an empty ring has no next and no previous node
 pub none_beside : (place : Option Node) → (None ≡ next_place [] place) × (None ≡ prev_place [] place)
 none_beside None = (refl, refl)
 none_beside (Some n) = (refl, refl)

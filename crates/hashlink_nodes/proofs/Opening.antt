@@ -1,4 +1,4 @@
--- How a ring is opened, what is known of it then, and how it is closed.
+-- A ring is opened, which gives these facts, and closed again.
 use Rattle.hashlink_nodes.proofs.Names
 use Names.{◌≡◌, ℕ, ◌+◌, ◌^◌, ◌<◌, List, [], ◌∷◌, ◌++◌, length, Option, Some, None, refl, sym, ap, ◌∙◌, subst}
 use Names.{arith, is_some, IfSome, AllByRecursion, IsDistinct, keys_of, lookup, remove_entry, length-append}
@@ -97,7 +97,7 @@ module _ {K V : Type 0} where
     abbrev s : State K V
     s = state_of n.pool
 
-    -- where there is no guard there is no node
+    -- if there is no guard, there is no node
     pub empty : n.guard ≡ None → v ≡ ring [] [] v.link_writes
     unfolding entries_of
     empty is =
@@ -155,7 +155,7 @@ module _ {K V : Type 0} where
           some = omega (arith, o.is_len, length-removed v.entries c);
         }
 
-    -- where a node is held there is a guard
+    -- if the ring has a node, there is a guard
     pub guard_of : (m : Node) → Holds v.entries m → (g : Node) × (n.guard ≡ Some g)
     guard_of m there = guarded (λ is. cc (subst (λ (r : Ring K V). Holds r.entries m) (empty is) there))
 

@@ -1,4 +1,4 @@
--- Paths along links, and what stays of them where one link changes.
+-- Paths along links, and their parts that a change of one link leaves.
 use Rattle.hashlink_nodes.proofs.Names
 use Names.{true, ◌≡◌, ℕ, zero, suc, false, cond, List, [], ◌∷◌, ◌++◌, length, refl, sym, ap, ◌∙◌, subst}
 use Names.{IsDistinct-head, IsDistinct-tail, IsDistinct-cons, IsDistinct-IsPermutation, AllByRecursion}
@@ -41,7 +41,7 @@ pub set_at_twice : {X : Type 0} (f : Node → X) (n m : Node) (x y : X)
 set_at_twice f n m x y =
     elim (same_node m n) as (λ z. cond z y (cond z x (f m)) ≡ cond z y (f m)) [ true ↦ refl | false ↦ refl ]
 
--- ---- nodes that differ
+-- ---- nodes that are distinct
 module _ {X : Type 0} (P : X → Type 0) where
   pub all_left : (xs ys : List X) → AllByRecursion P (xs ++ ys) → AllByRecursion P xs
   all_left [] ys h = tt
@@ -55,7 +55,7 @@ module _ {X : Type 0} (P : X → Type 0) where
   all_both [] ys h k = k
   all_both (x ∷ xs) ys h k = (h.0, all_both xs ys h.1 k)
 
-  -- without the one in the middle, and with it
+  -- a fact of all elements, without the one in the middle and with it
   pub all_without : (xs : List X) (n : X) (ys : List X) → AllByRecursion P (xs ++ n ∷ ys)
       → AllByRecursion P (xs ++ ys)
   all_without xs n ys h = all_both xs ys (all_left xs (n ∷ ys) h) (all_right xs (n ∷ ys) h).1
@@ -72,7 +72,7 @@ pub all_as : {X : Type 0} {P Q : X → Type 0} → ((x : X) → P x → Q x) →
 all_as f [] h = tt
 all_as f (x ∷ xs) h = (f x h.0, all_as f xs h.1)
 
--- two facts of each make a third
+-- two facts of each element imply a third
 pub all_zip : {X : Type 0} {P Q R : X → Type 0} → ((x : X) → P x → Q x → R x) → (xs : List X)
     → AllByRecursion P xs
     → AllByRecursion Q xs
@@ -80,7 +80,7 @@ pub all_zip : {X : Type 0} {P Q R : X → Type 0} → ((x : X) → P x → Q x �
 all_zip f [] h k = tt
 all_zip f (x ∷ xs) h k = (f x h.0 k.0, all_zip f xs h.1 k.1)
 
--- the node in the middle stands first, and goes back
+-- the node in the middle is moved to the front, and back
 pub to_front : (xs : List Node) (n : Node) (ys : List Node) → IsDistinct same_node (xs ++ n ∷ ys)
     → IsDistinct same_node (n ∷ (xs ++ ys))
 to_front xs n ys d =
@@ -92,7 +92,7 @@ from_front xs n ys d =
     IsDistinct-IsPermutation same_node same_node_equiv.symm _ _
     (IsPermutation-sym _ _ (IsPermutation-middle xs n ys)) d
 
--- the last of the first nodes is none of the rest
+-- the last of the first nodes is not among the rest
 pub off_rest : (a : Node) (xs ys : List Node) → IsDistinct same_node (a ∷ (xs ++ ys))
     → IsOff (last_or a xs) ys
 off_rest a [] ys d = IsDistinct-head same_node a ys d
@@ -119,7 +119,7 @@ chain_same f' f a (n ∷ ns) h c = (
       (chain_same f' f (f n) ns h.1 c.1),
 )
 
--- f' and f agree but at some nodes, which are none of these
+-- f' and f agree except at one node, or at two, none of which is in ns
 pub agrees_off : {X : Type 0} (f' f : Node → X) (p : Node) (ns : List Node)
     → ((m : Node) → same_node m p ≡ false → f' m ≡ f m) → IsOff p ns
     → Agrees f' f ns
@@ -135,7 +135,7 @@ pub off_head : (x : Node) (ys : List Node) (b : Node) → IsOff x ys → same_no
 off_head x [] b o h = h
 off_head x (y ∷ ys) b o h = o.0
 
--- the node in the middle is cut out: the one before it and the one after it are linked
+-- the node in the middle is taken out: its neighbours are linked
 pub linked_detach : (f' f b' b : Node → Node) (n a : Node) (xs ys : List Node) (z : Node)
     → IsLinked f b a (xs ++ n ∷ ys) z → f' (last_or a xs) ≡ head_or z ys → b' (head_or z ys) ≡ last_or a xs
     → ((m : Node) → same_node m (last_or a xs) ≡ false → f' m ≡ f m)
@@ -160,7 +160,7 @@ linked_detach f' f b' b n a (x ∷ xs) ys z l on back others backs d e =
           (IsDistinct-cons same_node z _ o.1 (IsDistinct-tail same_node x _ rest)),
     )
 
--- a node goes in between
+-- a node is linked in between
 pub linked_attach : (f' f b' b : Node → Node) (n a : Node) (xs ys : List Node) (z : Node)
     → IsLinked f b a (xs ++ ys) z → f' (last_or a xs) ≡ n → b' n ≡ last_or a xs → f' n ≡ head_or z ys
     → b' (head_or z ys) ≡ n
@@ -196,21 +196,21 @@ linked_attach f' f b' b n a (x ∷ xs) ys z l to_n from_n on back others backs d
           (IsDistinct-cons same_node z _ oz.1 (IsDistinct-tail same_node x _ rest_x))),
     )
 
--- what the links of a node in the middle are
+-- the links of a node in the middle
 pub linked_at : (f b : Node → Node) (n a : Node) (xs ys : List Node) (z : Node)
     → IsLinked f b a (xs ++ n ∷ ys) z → (f n ≡ head_or z ys) × (b n ≡ last_or a xs)
 linked_at f b n a [] [] z l = (l.1.0, l.0.1)
 linked_at f b n a [] (y ∷ ys) z l = (l.1.0.0, l.0.1)
 linked_at f b n a (x ∷ xs) ys z l = linked_at f b n x xs ys z l.1
 
--- the last of the first and the first of the rest are linked
+-- the last of the first nodes and the first of the rest are linked
 pub linked_cut : (f b : Node → Node) (a : Node) (xs ys : List Node) (z : Node) → IsLinked f b a (xs ++ ys) z
     → (f (last_or a xs) ≡ head_or z ys) × (b (head_or z ys) ≡ last_or a xs)
 linked_cut f b a [] [] z l = l
 linked_cut f b a [] (y ∷ ys) z l = l.0
 linked_cut f b a (x ∷ xs) ys z l = linked_cut f b x xs ys z l.1
 
--- ---- walks
+-- ---- paths along one link
 pub length-walk : (f : Node → Node) (a : Node) (count : ℕ) → length (walk f a count) ≡ count
 unfolding walk
 length-walk f a zero = refl

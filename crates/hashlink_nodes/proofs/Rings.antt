@@ -1,4 +1,4 @@
--- What each step of the calls does to a ring and to what a contract sees of it.
+-- The effect of each step on a ring, and on the value that a contract sees of it.
 use Rattle.hashlink_nodes.proofs.Names
 use Names.{◌≡◌, ℕ, ◌+◌, ◌^◌, ◌<◌, Bool, true, false, List, [], ◌∷◌, ◌++◌, length, Option, None, Some, refl}
 use Names.{sym, ap, ◌∙◌, subst, arith, AllByRecursion, IsDistinct, keys_of, append_assoc, length-append}
@@ -48,7 +48,7 @@ module _ {K V : Type 0} where
     pub on : s.next p ≡ q
     pub back : s.prev q ≡ p
 
-  -- n has a block, as have its neighbours, and holds h
+  -- n and its neighbours have blocks, and n holds h
   pub record InRing (s : State K V) (n : Node) (h : Held K V) : Type 0 where
     pub holds : s.held n ≡ Some h
     pub fits : AreThere s n (s.prev n) (s.next n)
@@ -87,7 +87,7 @@ module _ {K V : Type 0} where
             };
           }
 
-  -- ---- a node leaves the ring
+  -- ---- a node is taken out of the ring
   pub detach : {s s' : State K V} {g first n : Node} (h : Held K V) (xs ys : Entries K V) {fs : List Node}
       {w : ℕ} → IsRing s [] g first (ring (xs ++ (n, h) ∷ ys) fs w) → s' ≡ detached n s
       → IsRing s' (n ∷ []) g first (ring (xs ++ ys) fs (w + 2))
@@ -125,7 +125,7 @@ module _ {K V : Type 0} where
         writes = omega (arith, r.writes);
       })
 
-  -- ---- a node beside the ring goes in between two neighbours
+  -- ---- a node outside of the ring is linked in between two neighbours
   pub attach : {s s' : State K V} {g first n p q : Node} {h : Held K V} (xs ys : Entries K V)
       {fs : List Node} {w : ℕ} → IsRing s (n ∷ []) g first (ring (xs ++ ys) fs w) → s.held n ≡ Some h
       → p ≡ last_or g (keys_of xs) → q ≡ head_or g (keys_of ys) → s' ≡ attached n p q s
@@ -168,14 +168,14 @@ module _ {K V : Type 0} where
         writes = omega (arith, r.writes);
       })
 
-  -- ---- what is held changes
+  -- ---- what a node holds changes
   -- a node's block stays
   pub has_still : {s' : State K V} (n : Node) (o : Option (Held K V)) (s : State K V) {m : Node}
       → s' ≡ hold n o s → s.has m ≡ true → s'.has m ≡ true
   unfolding hold
   has_still n o s {m} is h = ap (λ (t : State K V). t.has m) is ∙ h
 
-  -- what is held last is held
+  -- of two writes, the second counts
   pub held_anew : {s₁ s₂ : State K V} (n : Node) (o o' : Option (Held K V)) (s : State K V) → s₁ ≡ hold n o s
       → s₂ ≡ hold n o' s₁ → s₂ ≡ hold n o' s
   unfolding hold
@@ -188,7 +188,7 @@ module _ {K V : Type 0} where
   unfolding hold
   held_now {n = n} {o = o} s is = ap (λ (t : State K V). t.held n) is ∙ set_at_here s.held n o
 
-  -- a node that is detached still holds what it held
+  -- a node that was detached still holds what it held
   pub held_out : {s s' : State K V} {n : Node} {h : Held K V} → InRing s n h → s' ≡ detached n s
       → s'.held n ≡ Some h
   unfolding detached store_next store_prev
@@ -209,7 +209,7 @@ module _ {K V : Type 0} where
   full_off d [] off h = tt
   full_off {n = n} d (e ∷ es) off h = (d.held e.0 (flip n e.0 off.0) ∙ h.0, full_off d es off.1 h.1)
 
-  -- a node of the ring holds something else
+  -- a node of the ring holds another entry
   pub renew : {s s' : State K V} {g first : Node} (n : Node) (h : Held K V) (xs ys : Entries K V)
       {fs : List Node} {w : ℕ} → IsRing s [] g first (ring (xs ++ (n, h) ∷ ys) fs w) → (x : Held K V)
       → s' ≡ hold n (Some x) s → IsRing s' [] g first (ring (xs ++ (n, x) ∷ ys) fs w)
@@ -242,7 +242,7 @@ module _ {K V : Type 0} where
         writes = r.writes;
       })
 
-  -- ---- a node beside the ring changes, comes or goes
+  -- ---- a node outside of the ring changes, is made, or loses its block
   module _ {s s' : State K V} {out : List Node} {g first n : Node} {v : Ring K V} (r : IsRing s out g first v)
       (off : IsOff n (g ∷ (keys_of v.entries ++ v.free))) (d : Differs n s s') where
     carried : {w : ℕ} → AllByRecursion (Has s) (g ∷ (keys_of v.entries ++ v.free)) → (out' : List Node)
@@ -302,7 +302,7 @@ module _ {K V : Type 0} where
         subst (λ t. IsRing t (n ∷ []) g first v) (sym is)
         (kept r (differs_hold n o s) r.there.0 refl r.writes)
 
-    -- it is the first spare node
+    -- it becomes the first free node
     pub spared : s.held n ≡ None → s' ≡ store_next n first s
         → IsRing s' [] g n (ring v.entries (n ∷ v.free) (v.link_writes + 1))
     unfolding store_next
@@ -327,7 +327,7 @@ module _ {K V : Type 0} where
           writes = k.writes;
         })
 
-  -- ---- the first spare node is no longer spare
+  -- ---- the first free node is taken from the free list
   pub record Taken (s : State K V) (g first : Node) (v : Ring K V) : Type 0 where
     pub ring : IsRing s (first ∷ []) g (s.next first) (ring v.entries (drop 1 v.free) v.link_writes)
     pub bare : s.held first ≡ None
@@ -354,7 +354,7 @@ module _ {K V : Type 0} where
         has_node = there;
       })
 
-  -- ---- a first node is the guard
+  -- ---- the first block is the guard's
   pub guarded : {s s' : State K V} {g : Node} {w : ℕ} (first : Node) → s.size ≡ 0 → s.link_writes ≡ w
       → MakesGuard g s s' → IsRing s' [] g first (ring [] [] w)
   unfolding IsDistinct

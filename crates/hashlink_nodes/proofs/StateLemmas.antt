@@ -1,4 +1,4 @@
--- What the state of the blocks is after one of them changed, came or went.
+-- The state of the blocks after one of them changed, was added or was freed.
 use Rattle.hashlink_nodes.proofs.Names
 use Names.{◌≡◌, ℕ, ◌+◌, Bool, true, false, cond, List, ◌∷◌, length, Option, None, Some, refl, sym, subst, ap}
 use Names.{◌∙◌, arith, IsNone, is_some, lookup, set_value, remove_entry, lookup-set_value, length-set_value}
@@ -15,7 +15,7 @@ module _ {X Y : Type 0} (f : Option X → Y) where
   picked true w o = refl
   picked false w o = refl
 
-  -- what is read of each node after a write at n
+  -- what a lookup reads at each node after a write at n
   seen_at : (n : Node) (bs : List (Node × X)) (w : X) → is_some (lookup (same_node n) bs) ≡ true
       → (λ m. f (lookup (same_node m) (set_value (same_node n) bs w)))
       ≡ set_at (λ m. f (lookup (same_node m) bs)) n (f (Some w))
@@ -24,14 +24,14 @@ module _ {X Y : Type 0} (f : Option X → Y) where
       ∙ ap (λ y. f (cond y (Some w) (lookup (same_node m) bs))) (same_node_equiv.symm n m)
       ∙ picked (same_node m n) w (lookup (same_node m) bs)) i
 
--- f, but at n what it is there
+-- a function is the same if it is set at n to its own value there
 set_same : {X : Type 0} (f : Node → X) (n : Node) (x : X) → x ≡ f n → set_at f n x ≡ f
 set_same f n x is = λ i m. (elim (same_node m n) as (λ (y : Bool). same_node m n ≡ y → cond y x (f m) ≡ f m) [
   | true ↦ λ same. is ∙ ap f (sym (eq-same_node m n same))
   | false ↦ λ _. refl
 ]) refl i
 
--- what is mapped to y
+-- if f of an option is y, the option has an x, and f of x is y
 mapped : {X Y : Type 0} (f : X → Y) (o : Option X) {y : Y} → option_map f o ≡ Some y
     → (x : X) × (o ≡ Some x) × (f x ≡ y)
 mapped f None e = absurd (cc e)
@@ -42,7 +42,7 @@ pub links_at : {K V : Type 0} (bs : Blocks K V) (n : Node) {l : Links}
     → (k : Kept (K × V)) × (lookup (same_node n) bs ≡ Some k) × (k.links ≡ l)
 links_at {K} {V} bs n e = mapped (λ (k : Kept (K × V)). k.links) (lookup (same_node n) bs) e
 
--- what a look-up of an arena found: the pair with its number
+-- what a lookup of an arena found: the pair, with its number
 pub record PairAt {K V : Type 0} (bs : Blocks K V) (n : Node) (p : K × V) : Type 0 where
   pub block : Kept (K × V)
   pub number : ℕ
@@ -78,7 +78,7 @@ module _ {K V : Type 0} (bs : Blocks K V) (count count' : ℕ) (n : Node) (k : K
   abbrev S : State K V
   S = state bs count
 
-  -- the state where n has another block
+  -- the state in which n has another block
   changed_state : (f : Kept (K × V) → Kept (K × V)) → state (changed f) count' ≡ record {
     next = set_at S.next n (f k).links.next.to;
     prev = set_at S.prev n (f k).links.prev.to;
@@ -127,7 +127,7 @@ module _ {K V : Type 0} (bs : Blocks K V) (count count' : ℕ) (n : Node) (k : K
       link_writes = raised i;
     })
 
-  -- the links stay, and n holds h
+  -- the links stay, and n now holds h
   pub held_anew : (f : Kept (K × V) → Kept (K × V)) → (f k).links ≡ k.links → (h : Option (Held K V))
       → held_in (Some (f k)) ≡ h → state (changed f) count' ≡ hold n h (state bs count')
   unfolding hold
@@ -181,7 +181,7 @@ module _ {K V : Type 0} where
     has = λ m k. ap is_some (at m k);
   }
 
-  -- a block came in
+  -- a block was added
   pub added : (bs : Blocks K V) (count : ℕ) (n : Node) (l : Links) {bs' : Blocks K V}
       → bs' ≡ (n, kept l None) ∷ bs → IsNone (lookup (same_node n) bs)
       → Adds n (state bs count) (state bs' count)
@@ -207,7 +207,7 @@ module _ {K V : Type 0} where
         link_writes = refl;
       }
 
--- a node that holds a pair holds another
+-- a node that holds a pair now holds another one
 pub pair_anew : {K V : Type 0} (bs : Blocks K V) (count : ℕ) (n : Node) (p : K × V) (at : PairAt bs n p)
     (w : K × V) (h : Held K V → Held K V) → h (held at.number p.0 p.1) ≡ held at.number w.0 w.1
     → state (alter (same_node n) (with_pair w) bs) count
@@ -218,7 +218,7 @@ pair_anew bs count n p at w h is_h =
     (ap (λ x. held_in (Some (with_pair w (kept at.block.links x)))) at.entry
     ∙ ap Some (sym is_h) ∙ sym (ap (option_map h) at.held))
 
--- the pair of what a node holds
+-- the pair of a node, if it holds one
 pub paired : {K V : Type 0} (o : Option (ℕ × (K × V)))
     → option_map (λ (e : ℕ × (K × V)). e.1) o ≡ option_map pair_of (option_map (λ e. held e.0 e.1.0 e.1.1) o)
 paired None = refl

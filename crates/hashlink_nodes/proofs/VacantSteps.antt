@@ -1,4 +1,5 @@
--- A block that holds nothing, as std has it: room for its parts, and the right to free it. Assumes `Logic`.
+-- A block that contains nothing, as std has it: room for its parts, and the right to free it. Assumes
+-- `Logic`.
 use Rattle.hashlink_nodes.proofs.Names
 use Names.{◌≡◌, ℕ, ◌+◌, List, [], ◌∷◌, ◌++◌, refl, subst, ◌&&◌, T, Ura, Ty, Tys, tnil, tcons, ty_int}
 use Names.{ty_struct, w64, SProp, ent, sep, wand, apply∗, Fml, ftrue, fwand, froom, rooms_at, lone, Val, vptr}
@@ -30,7 +31,7 @@ module _ (T : RattleType) {M : Type 1} {𝓤 : Ura M} (𝓛 : Logic 𝓤) (b o :
   abbrev parts : Tys
   parts = tcons (lone R.mir) (tcons (ty_int w64) (tcons (lone Links.mir) tnil))
 
-  -- the type of a block, as it is written
+  -- the type of a block, as the code has it
   abbrev whole : Ty
   whole = ty_struct (block.the_type R).name parts
 
@@ -58,7 +59,7 @@ module _ (T : RattleType) {M : Type 1} {𝓤 : Ura M} (𝓛 : Logic 𝓤) (b o :
       use2 𝓛 (‵ (froom whole b o)) (apply∗ 𝓤 (rooms_at 𝓤 H parts 0 b o) (H.room whole b o)) $
       by ! (𝓛.laws.room-raw whole b o)
 
-  -- a block is cut into room for its parts, and the right to make it of them again
+  -- a block is split into room for its parts, and the right to join them to a block again
   block_cut : ent 𝓤 (H.room (block_type R) b o)
       (sep 𝓤 (sem 𝓛 (block_room R (block_ptr b o))) (sem 𝓛 Rejoins))
   block_cut =

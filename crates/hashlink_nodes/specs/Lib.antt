@@ -1,4 +1,4 @@
--- What the contracts of the ring of nodes cite.
+-- The definitions that the contracts of the ring of nodes use.
 pub mod Node
 pub mod Kept
 pub mod Ownership

@@ -1,5 +1,5 @@
--- When two nodes are one. What a node is made of stays hidden: callers know two of them apart by `same_node`
--- alone.
+-- When two nodes are the same. The parts of a node stay hidden: callers distinguish nodes only by
+-- `same_node`.
 use Rattle.std.specs.Prelude.{◌≡◌, Bool, true, false, ◌&&◌, nat_eq}
 use Rattle.std.specs.Cmp.{IsEquivalence, nat_eq_equiv}
 use Rattle.std.proofs.Common.{refl, sym, ap, ◌∙◌, eqb-true}

@@ -1,10 +1,10 @@
--- What a ring ends as, once a `&mut` to a value has ended.
+-- A ring, after a `&mut` to one of its values has ended.
 use Rattle.std.{specs.Map.lookup, specs.Map.set_value, specs.Option.option_map_or}
 use Rattle.std.specs.Borrow.{Fml, RattleType, MutBor, Lends}
 use Rattle.hashlink_nodes.specs.{declared.node.Node.Node, contracts.nodes.Nodes.the_row, Node.same_node}
 use Rattle.hashlink_nodes.specs.Ring.{Ring, with_value}
 
--- the same ring with w as the value of the node's entry
+-- the ring with w as the value of the node's entry
 abbrev pub with_value_at : {K V : Type 0} → Ring K V → Node → V → Ring K V
 with_value_at r n w =
     record r {

@@ -1,4 +1,4 @@
--- What an arena owns and lends, at pairs of the row R.
+-- What an arena owns and lends, for pairs of the row R.
 use Rattle.std.specs.Prelude.{◌≡◌, ℕ, ◌+◌, ◌^◌, List, [], ◌∷◌, Option, None, Some, refl}
 use base.{Fraction.full_share, Fml.Lft, Fml.Fml, Fml.ftrue, Fml.fsep, Fml.fwand, Fml.flt}
 use denote.{Builtin.usize, RattleType.RattleType, Memory.lone, Sharing.nothing, Sharing.said, Sharing.beside}
@@ -9,7 +9,7 @@ use prog.Memory.{size, align, up}
 use Rattle.hashlink_nodes.specs.{Kept.Kept, Kept.number_word, declared.node.Node.Node}
 use Rattle.hashlink_nodes.specs.contracts.pool.links.Links as links
 
--- what the members say at every handle alike
+-- a formula of the members that is the same at every handle
 abbrev pub at_every_handle : {token : Ty → Ptr → Fml}
     → ((heap : Global) → ghosts.dealloc_token heap ≡ token) → Ty
     → Ptr
@@ -24,7 +24,7 @@ abbrev pub Links : RattleType
 Links = links.the_row
 
 module _ (R : RattleType) where
-  -- where the pair, the number and the links lie in a block
+  -- the offsets of the pair, the number and the links in a block
   abbrev pub pair_offset : ℕ
   pair_offset = up (align (lone R.mir)) 0
 
@@ -58,7 +58,7 @@ module _ (R : RattleType) where
       fsep (pair_room p)
       (fsep (room_for (raw (lone usize.mir)) (number_of p)) (room_for (raw (lone Links.mir)) (links_of p)))
 
-  -- the right to free a block, and that the three make it
+  -- the right to free a block, and that the three rooms together are the block
   abbrev pub deed_owns : Ptr → Fml
   deed_owns p = fsep (free_right block_type p) (fwand (block_room p) (room_for block_type p))
 
@@ -67,7 +67,7 @@ module _ (R : RattleType) where
   pair_owns p None = pair_room p
   pair_owns p (Some e) = lies_at R full_share (pair_of p) e.1
 
-  -- the number of an entry is none of a block without one
+  -- the number of an entry is not that of a block without one
   abbrev pub is_small : Option (ℕ × R.Denot) → Fml
   is_small None = ftrue
   is_small (Some e) = flt e.0 (2 ^ 48)
@@ -82,7 +82,7 @@ module _ (R : RattleType) where
   blocks_own [] = ftrue
   blocks_own (b ∷ bs) = fsep (block_owns b.0.at b.1) (blocks_own bs)
 
-  -- what a `&` to the arena reaches
+  -- what a `&` to the arena lends
   abbrev pub pair_lent : Ptr → Option (ℕ × R.Denot) → Lft → Fml
   pair_lent p None = nothing
   pair_lent p (Some e) = lent_at R (pair_of p) e.1

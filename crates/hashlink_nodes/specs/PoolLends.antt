@@ -1,9 +1,9 @@
--- What the blocks of a ring end as, once a `&mut` to a value has ended.
+-- The blocks of a ring, after a `&mut` to a value has ended.
 use Rattle.std.specs.Borrow.{Fml, RattleType, Bor, MutBor, Lends}
 use Rattle.hashlink_nodes.specs.{declared.node.Node.Node, declared.pool.Pool.Pool}
 use Rattle.hashlink_nodes.specs.{contracts.pool.Pool.the_row, ArenaLends.altered, Kept.with_pair}
 
--- the same blocks with p as the node's pair
+-- the blocks with p as the node's pair
 abbrev pub pool_with : {K V : Type 0} → Pool K V → Node → K × V → Pool K V
 pool_with c n p = record c { arena = altered c.arena n (with_pair p) }
 

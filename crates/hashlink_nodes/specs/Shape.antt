@@ -1,4 +1,4 @@
--- How the links of the blocks make a ring and a chain of spare nodes.
+-- How the links of the blocks make a ring and a free list.
 use Rattle.std.specs.Prelude.{◌≡◌, ℕ, zero, suc, ◌+◌, ◌^◌, ◌<◌, true, List, [], ◌∷◌, ◌++◌, length, Option}
 use Rattle.std.specs.Prelude.{None, Some}
 use Rattle.std.{specs.List.AllByRecursion, specs.List.IsDistinct, specs.Map.keys_of}
@@ -15,7 +15,7 @@ abbrev pub IsChain : (Node → Node) → Node → List Node → Type 0
 IsChain f a [] = Unit {0}
 IsChain f a (n ∷ ns) = (a ≡ n) × IsChain f (f n) ns
 
--- the count nodes that f leads to from a, the first
+-- the first `count` nodes on the path of f that begins at a
 unfoldable pub walk : (Node → Node) → Node → ℕ → List Node
 walk f a zero = []
 walk f a (suc count) = a ∷ walk f (f a) count
@@ -25,13 +25,13 @@ module _ {K V : Type 0} where
   entry_of n None es = es
   entry_of n (Some h) es = (n, h) ∷ es
 
-  -- the nodes with what they hold
+  -- the nodes, with what each holds
   unfoldable pub entries_of : (Node → Option (Held K V)) → List Node → List (Node × Held K V)
   entries_of held [] = []
   entries_of held (n ∷ ns) = entry_of n (held n) (entries_of held ns)
 
-  -- the ring goes from the guard along the nodes and back to it, and the spare ones are chained; beside these
-  -- only the nodes `out` have a block. It is what a contract sees as v
+  -- the links make a ring from the guard along the nodes of v and back, and a free list from `first`. Besides
+  -- their nodes, only the nodes `out` have blocks. A contract sees all this as v
   pub record IsRing (s : State K V) (out : List Node) (guard first : Node) (v : Ring K V) : Type 0 where
     pub links : IsLinked s.next s.prev guard (keys_of v.entries) guard
     pub chain : IsChain s.next first v.free
@@ -43,7 +43,7 @@ module _ {K V : Type 0} where
     pub few : length out + length v.entries + length v.free < 2 ^ 63
     pub writes : s.link_writes ≡ v.link_writes
 
-  -- the nodes in use, and the spare ones
+  -- the nodes in use, and the free nodes
   abbrev pub nodes_of : State K V → Option Node → ℕ → List Node
   nodes_of s None len = []
   nodes_of s (Some guard) len = walk s.next (s.next guard) len
@@ -52,7 +52,7 @@ module _ {K V : Type 0} where
   free_of s None first spare = []
   free_of s (Some guard) first spare = walk s.next first spare
 
-  -- what a contract sees
+  -- the ring, as a contract sees it
   abbrev pub ring_at : State K V → Option Node → Node → ℕ → ℕ → Ring K V
   ring_at s guard first len spare =
       record {
@@ -61,7 +61,7 @@ module _ {K V : Type 0} where
         link_writes = s.link_writes;
       }
 
-  -- before the guard is made there is no block
+  -- as long as there is no guard, there is no block
   abbrev pub SoundAt : State K V → Option Node → Node → ℕ → ℕ → Type 0
   SoundAt s None first len spare = (len ≡ 0) × (spare ≡ 0) × (s.size ≡ 0)
   SoundAt s (Some guard) first len spare =

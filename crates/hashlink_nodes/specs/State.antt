@@ -1,4 +1,4 @@
--- What the blocks of a ring say, read at any node: its links and what it holds.
+-- The contents of the blocks of a ring, at any node: its links and what it holds.
 use Rattle.std.specs.Prelude.{ℕ, ◌+◌, ◌≡◌, Bool, true, false, cond, List, length, Option, None, Some, is_some}
 use Rattle.std.{specs.Map.lookup, specs.Option.option_map}
 use denote.RawPtr.{null_ptr}
@@ -15,7 +15,7 @@ pub record State (K V : Type 0) : Type 0 where
   pub size : ℕ
   pub link_writes : ℕ
 
--- the function f, but x at n
+-- the function f, with x at n instead
 abbrev pub set_at : {X : Type 0} → (Node → X) → Node → X → Node → X
 set_at f n x m = cond (same_node m n) x (f m)
 
@@ -23,7 +23,7 @@ abbrev pub Blocks : Type 0 → Type 0 → Type 0
 Blocks K V = List (Node × Kept (K × V))
 
 module _ {K V : Type 0} where
-  -- a node without a block reads as one that links nowhere and holds nothing
+  -- at a node without a block: links that lead nowhere, and no entry
   abbrev pub next_in : Option (Kept (K × V)) → Node
   next_in None = record { at = null_ptr }
   next_in (Some b) = b.links.next.to
@@ -52,18 +52,18 @@ module _ {K V : Type 0} where
   unfoldable pub store_prev : Node → Node → State K V → State K V
   store_prev n to s = record s { prev = set_at s.prev n to; link_writes = s.link_writes + 1 }
 
-  -- n holds something else
+  -- n holds something else now
   unfoldable pub hold : Node → Option (Held K V) → State K V → State K V
   hold n h s = record s { held = set_at s.held n h }
 
-  -- new is as old but at n
+  -- old and new differ at most at n
   pub record Differs (n : Node) (old new : State K V) : Type 0 where
     pub next : (m : Node) → same_node m n ≡ false → new.next m ≡ old.next m
     pub prev : (m : Node) → same_node m n ≡ false → new.prev m ≡ old.prev m
     pub held : (m : Node) → same_node m n ≡ false → new.held m ≡ old.held m
     pub has : (m : Node) → same_node m n ≡ false → new.has m ≡ old.has m
 
-  -- n is new and holds nothing, its links lead anywhere, and no other node changed
+  -- n is new and holds nothing; no clause tells where its links lead; no other node changed
   pub record Adds (n : Node) (old new : State K V) : Type 0 where
     pub differs : Differs n old new
     pub absent : old.has n ≡ false
@@ -88,7 +88,7 @@ module _ {K V : Type 0} where
   unfoldable pub detached : Node → State K V → State K V
   detached n s = store_prev (s.next n) (s.prev n) (store_next (s.prev n) (s.next n) s)
 
-  -- n stands between p and q
+  -- n is linked in between p and q
   unfoldable pub attached : Node → Node → Node → State K V → State K V
   attached n p q s = store_prev q n (store_next p n (store_prev n p (store_next n q s)))
 
@@ -98,7 +98,7 @@ module _ {K V : Type 0} where
     pub size : new.size + 1 ≡ old.size
     pub link_writes : new.link_writes ≡ old.link_writes
 
-  -- the guard is there, or it was made
+  -- g is the guard that was there, or one that was made
   abbrev pub GuardIs : State K V → State K V → Option Node → Node → Type 0
   GuardIs s s' None g = MakesGuard g s s'
   GuardIs s s' (Some x) g = (g ≡ x) × (s' ≡ s)

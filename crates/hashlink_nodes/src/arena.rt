@@ -1,7 +1,7 @@
 //! The owner of the nodes' blocks. All code that follows a pointer is in this file.
 //!
-//! A block that no arena owns is std's `Vacant`: nothing is in it, and it has the allocator that it goes back
-//! to. It is not `Drop`: code that has one must free it or give it to an arena.
+//! A block that no arena owns is std's `Vacant`: it contains nothing, and has the allocator to which its
+//! memory returns. It is not `Drop`: code that has one must free it or give it to an arena.
 ghost use Rattle.std.specs.Prelude.{◌≡◌, ◌^◌, ◌<◌, List, [], ◌∷◌, None, Some, IsSome, IsNone, IfSome};
 ghost use Rattle.std.specs.Option.{option_map};
 ghost use Rattle.std.specs.Map.{lookup, remove_entry};
@@ -18,25 +18,24 @@ use std::marker::{Model, PhantomData, Send, Sync};
 use std::mem::size_of;
 use std_alloc::room::Vacant;
 
-/// What lies in a node's block. The pair is there where the node holds an entry: no block says so but by its
-/// number, which is `NO_ENTRY` where there is none.
+/// The contents of a node's block. The pair is there only if the node holds an entry. Nothing in the block
+/// tells this but its number, which is `NO_ENTRY` if there is no entry.
 ///
-/// A key and a value of 8 bytes each lie in one line of the cache, wherever `malloc` puts the block, and so
-/// do the two links.
+/// A key and a value of 8 bytes each are in one cache line, wherever `malloc` puts the block.
 pub(crate) struct Block<T> {
     pair: T,
     number: usize,
     links: Links,
 }
 
-// Beside its pair a block takes 24 bytes.
+// Besides its pair, a block takes 24 bytes.
 const _: () = prove!(size_of::<Block<(u64, u64)>>() == 40);
 
 /// The number of a block that has no pair.
 pub(crate) const NO_ENTRY: usize = 1 << 48;
 
-/// The blocks of nodes, each from `Global`, with links and, where it holds an entry, a number and a pair. It
-/// takes no space: its user keeps the nodes.
+/// The blocks of nodes, each from `Global`. A block has links and, if it holds an entry, a number and a pair.
+/// The arena itself takes no space: its user keeps the nodes.
 pub(crate) struct Arena<T> {
     mark: PhantomData<*const T>,
     pub(crate) ghost blocks: { List (Node × Kept T) },
@@ -48,11 +47,12 @@ impl<T> Model for Arena<T> {
     ghost also_shares = { λ a _ κ. blocks_lent T.row a.blocks κ };
 }
 
-// An arena is the only owner of its blocks, as a `Vec` is of its items: where it goes, all pairs go, and no
-// other pointer to them is left.
+// An arena is the only owner of its blocks, as a `Vec` is of its items. If it is moved to another thread, all
+// pairs move with it, and no other pointer to them is left.
 unsafe impl<T: Send> Send for Arena<T> {}
 
-// A reference to an arena reads links and pairs, and writes none.
+// A reference to an arena reads links and pairs, and writes none: whatever writes takes the arena by `&mut`,
+// so no other thread has a reference to it then.
 unsafe impl<T: Sync> Sync for Arena<T> {}
 
 impl<T> Arena<T> {
@@ -77,7 +77,7 @@ impl<T> Arena<T> {
         Node { at: ptr as *mut u8 }
     }
 
-    /// Returns the node's block, which has no pair, to the caller.
+    /// Gives the node's block, which has no pair, back to the caller.
     pub(crate) fn give_back(&mut self, node: Node, alloc: Global) -> Vacant<Block<T>, Global>
         requires there { IsSome (lookup (same_node node) self.old.blocks) }
         requires bare { entry_in (lookup (same_node node) self.old.blocks) ≡ None }
@@ -168,7 +168,7 @@ impl<T> Arena<T> {
         }
     }
 
-    /// Ends an arena, which must have no block left.
+    /// Ends an arena that has no block left.
     pub(crate) fn end(self)
         requires { self.blocks ≡ [] }
     {

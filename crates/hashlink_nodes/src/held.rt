@@ -1,6 +1,6 @@
-//! What a node holds.
+//! The contents of a node in use.
 
-/// What a node of the ring holds: a number that its owner chose, and a pair.
+/// The contents of a node of the ring: a number that its owner chose, and a pair.
 #[derive(Drop)]
 pub struct Held<K, V> {
     pub number: usize,

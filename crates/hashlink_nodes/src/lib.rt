@@ -1,4 +1,4 @@
-//! The ring of nodes under a list in linked order.
+//! The ring of nodes, which keeps the entries of a list in order.
 #![tactic(auto)]
 
 mod arena;

@@ -5,8 +5,7 @@ ghost use base.Fml.{ftrue};
 use std::marker::{Model, PhantomData, Send, Sync};
 use std::mem::size_of;
 
-/// The number of links that were stored. It is a number of the contracts alone: it has no bytes, and no
-/// greatest value.
+/// The number of stored links. It exists only in contracts: it has no bytes, and no greatest value.
 pub(crate) struct LinkWrites {
     mark: PhantomData<*mut u8>,
     pub(crate) ghost count: { ℕ },
@@ -20,10 +19,11 @@ impl Model for LinkWrites {
     ghost also_shares = { λ _ _ _. ftrue };
 }
 
-// It has no bytes, so no thread can see what another does to it.
+// It has no bytes, so no thread can see what another does to it. Only the pointer in its mark keeps the
+// compiler from seeing this by itself.
 unsafe impl Send for LinkWrites {}
 
-// The same.
+// For the same reason.
 unsafe impl Sync for LinkWrites {}
 
 impl Drop for LinkWrites {

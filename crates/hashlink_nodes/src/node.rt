@@ -11,14 +11,15 @@ pub struct Node {
 
 const _: () = prove!(size_of::<Node>() == 8);
 
-// A node is an address that nothing is read or written through without the arena that owns the block.
+// A node is an address. Nothing is read or written through it without the arena that owns the block, so
+// another thread can do nothing with it alone.
 unsafe impl Send for Node {}
 
-// The same: a reference to a node gives its address and no more.
+// The same: a reference to a node gives its address and nothing else.
 unsafe impl Sync for Node {}
 
 impl Node {
-    /// No node of any ring.
+    /// Returns a node that no ring has.
     pub fn nowhere() -> Node {
         Node {
             at: ptr::null_mut(),

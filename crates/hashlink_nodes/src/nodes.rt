@@ -18,16 +18,15 @@ use crate::pool::Pool;
 use std::alloc::Global;
 use std::marker::Model;
 
-/// Entries in a ring of nodes, and spare nodes, which the next new entries use. Each node is a block of its
-/// own.
+/// Entries in a ring of nodes, and free nodes, which later inserts use. Each node is a block of its own.
 pub struct Nodes<K, V> {
     pool: Pool<K, V>,
-    // It lies apart from `spare`. Side by side both are read by one instruction, which waits where one of
-    // them was just written.
+    // This field is not beside `spare`. If it were, one instruction would read both, and would have to wait
+    // if one of them was just written.
     len: usize,
     // The guard links the last entry to the first. The first push makes it.
     guard: Option<Node>,
-    // The spare nodes are chained by their links to the next. If there is none, this means nothing.
+    // Each free node links to the next one. If there is none, this field means nothing.
     first_spare: Node,
     spare: usize,
     alloc: Global,
@@ -66,8 +65,9 @@ impl<K, V> Nodes<K, V> {
     }
 
     /// Inserts an entry directly before the place, and returns its node. It allocates only if no node is
-    /// spare. If that allocation fails, it returns the pair in `Err`, and no entry and no spare node changes.
-    /// It stores four links, also for a new node. The two that the guard gets as it is made are not counted.
+    /// free. If an allocation fails, it returns the pair in `Err`, and no entry and no free node changes. It
+    /// stores four links, whether the node is new or not. The two links that a new guard gets are not
+    /// counted.
     pub fn push_before(
         &mut self,
         place: Option<Node>,
@@ -100,8 +100,8 @@ impl<K, V> Nodes<K, V> {
         Ok(node)
     }
 
-    /// Inserts an entry in a new node, where none is spare. Of the two blocks that it may allocate, the
-    /// guard's comes first, and stays if the other is refused.
+    /// Inserts an entry in a new node. No node may be free. It may allocate two blocks. The first is the
+    /// guard's, which stays if the second allocation fails.
     fn push_new(
         &mut self,
         place: Option<Node>,
@@ -139,8 +139,8 @@ impl<K, V> Nodes<K, V> {
         }
     }
 
-    /// Removes the node's entry from the ring, and returns it. The node is the next spare one. It stores
-    /// three links.
+    /// Removes the node's entry from the ring, and returns it. The node is the first free node then. It
+    /// stores three links.
     pub fn detach_into_free(&mut self, node: Node) -> (K, V)
         requires { Holds self.old.entries node }
         ensures pair { option_map pair_of (lookup (same_node node) self.old.entries) ≡ Some result }
@@ -158,7 +158,7 @@ impl<K, V> Nodes<K, V> {
     }
 }
 
-/// Drops the entries, from the last to the first, and frees every node, one after another.
+/// Drops the entries, from the last to the first, and then frees the block of every node.
 impl<K: Drop, V: Drop> Drop for Nodes<K, V> {
     fn drop(mut self) {
         self.release_all();
@@ -167,5 +167,5 @@ impl<K: Drop, V: Drop> Drop for Nodes<K, V> {
     }
 }
 
-/// The most nodes that a ring may have.
+/// The greatest number of nodes that a ring may have.
 const MOST: usize = (1 << 63) - 1;

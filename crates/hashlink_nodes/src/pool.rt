@@ -17,7 +17,7 @@ use crate::node::Node;
 use std::alloc::{AllocError, Global};
 use std::mem;
 
-/// The blocks of the nodes, and the count of the links that were stored in them.
+/// The blocks of the nodes, and the number of links stored in them.
 pub(crate) struct Pool<K, V> {
     arena: Arena<(K, V)>,
     writes: LinkWrites,
@@ -105,7 +105,7 @@ impl<K, V> Pool<K, V> {
         mem::replace(&mut self.arena.pair_mut(node).0, key)
     }
 
-    /// Returns the guard, and allocates it if there is none.
+    /// Returns the guard. If there is none, it allocates one.
     pub(crate) fn guard(&mut self, guard: Option<Node>, alloc: Global) -> Result<Node, AllocError>
         ensures made { IfOk result (λ g. GuardIs (state_of self.old) (state_of self.new) guard g) }
         ensures refused { OnErr result (self.new ≡ self.old) }
@@ -138,7 +138,7 @@ impl<K, V> Pool<K, V> {
         self.store_prev(next, prev);
     }
 
-    /// Links the node in before another one.
+    /// Links the node into the ring before another one.
     #[inline]
     pub(crate) fn attach_before(&mut self, node: Node, next: Node)
         requires { AreThere (state_of self.old) node ((state_of self.old).prev next) next }
@@ -149,7 +149,7 @@ impl<K, V> Pool<K, V> {
         self.attach(node, prev, next);
     }
 
-    /// Links the node in after another one.
+    /// Links the node into the ring after another one.
     #[inline]
     pub(crate) fn attach_after(&mut self, node: Node, prev: Node)
         requires { AreThere (state_of self.old) node prev ((state_of self.old).next prev) }
@@ -160,7 +160,7 @@ impl<K, V> Pool<K, V> {
         self.attach(node, prev, next);
     }
 
-    /// Links the node in between two others.
+    /// Links the node into the ring between two others.
     #[inline]
     fn attach(&mut self, node: Node, prev: Node, next: Node)
         requires { AreThere (state_of self.old) node prev next }
@@ -172,7 +172,7 @@ impl<K, V> Pool<K, V> {
         self.store_prev(next, node);
     }
 
-    /// Ends the pool, once no block is left.
+    /// Ends a pool that has no block left.
     pub(crate) fn end(self)
         requires { (state_of self).size ≡ 0 }
     {

@@ -5,7 +5,7 @@ use Rattle.hashlink_run.specs.Chain.{Answered, Chain, Chained, replies_of, state
 use Rattle.hashlink_run.proofs.Chained.{Chain-more, replies_of-more, state_after-append}
 
 module _ {C R M : Type 0} (Step : M → C → List R → M → Type 0) where
-  -- of all commands the first ones are answered by these replies, and `rest` are left
+  -- the first commands have been answered by `replies`, and `rest` are left
   pub record HasAnswered (start now : M) (all rest : List C) (replies : List R) : Type 0 where
     pub done : List C
     pub answers : List (Answered R M)

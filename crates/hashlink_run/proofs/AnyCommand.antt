@@ -1,4 +1,5 @@
--- What holds of a step, whatever the command: each lemma has a line for each, or one for all that are alike.
+-- What holds for a step, whatever the command: each lemma has a line for each command, or one line for
+-- several like it.
 use Rattle.hashlink_run.proofs.Names.{◌≡◌, ◌≤◌, Bool, true, false, List, [], ◌∷◌, length, refl, sym, ap, ◌∙◌}
 use Rattle.hashlink_run.proofs.Names.{subst, Option, Result, Ok, Err, arith, lookup_entry, Length, MapState}
 use Rattle.hashlink_run.proofs.Names.{KeepsNodes, first_of, kept-inserts, kept-moves, kept-removes_key}
@@ -19,7 +20,7 @@ use Rattle.hashlink_run.proofs.EntryNodes.{kept_unchanged, entry-leaves}
 use Rattle.hashlink_run.proofs.Kept.{keeps_where-wider}
 use Rattle.hashlink_run.proofs.Wider.{reads-wider, replies-wider, entry-wider, cursor-wider}
 
--- ---- what one closure says, another may
+-- ---- steps by P are steps by Q if Q allows each result that P allows
 
 module _ {K V B : Type 0} (P Q : K → V → B → Type 0) (wider : (k : K) (v : V) (b : B) → P k v b → Q k v b)
     (Keeps Also : K → V → Bool → Type 0) (also : (k : K) (v : V) (b : Bool) → Keeps k v b → Also k v b)
@@ -44,7 +45,7 @@ module _ {K V B : Type 0} (P Q : K → V → B → Type 0) (wider : (k : K) (v :
 
 module _ {K V B S : Type 0} (eq : K → K → Bool) (Says : K → V → B → Type 0) (Keeps : K → V → Bool → Type 0)
     (old new : MapState K V S) where
-  -- what a command keeps, and how many nodes it may pass
+  -- what a command keeps, and the numbers of nodes that it may pass
   abbrev StepNodes : Command K V → Type 0
   StepNodes command =
       (keeps_nodes command ≡ true → KeepsNodes old new)
@@ -74,7 +75,7 @@ module _ {K V B S : Type 0} (eq : K → K → Bool) (Says : K → V → B → Ty
   step-nodes command.Shrink replies s = (λ keeps. cc, passes-shrinks old new s.0 s.1)
   step-nodes any replies s = kept (kept_unchanged old new s.0)
 
--- ---- while a node is spare no pair is handed back
+-- ---- as long as a node is free, no pair is refused
 
 module _ {K V B S : Type 0} (eq : K → K → Bool) (Says : K → V → B → Type 0)
     (Keeps : K → V → Bool → Type 0) (old new : MapState K V S) where

@@ -1,4 +1,4 @@
--- What is done through an entry is a step at the place of its key.
+-- A change through an entry is a step at the place of its key.
 use Rattle.hashlink_run.proofs.Names.{◌≡◌, ℕ, ◌-◌, Bool, List, [], ◌∷◌, ◌++◌, length, slice_get, Option, None}
 use Rattle.hashlink_run.proofs.Names.{Some, refl, sym, ap, ap₂, ◌∙◌, subst, arith, true, false, lookup_entry}
 use Rattle.hashlink_run.proofs.Names.{option_map, same_Some, place_of, MapState, EntryStep}
@@ -28,7 +28,7 @@ module _ {K V B S : Type 0} (eq : K → K → Bool) (Says : K → V → B → Ty
       let place : place_of (eq k) m.entries ≡ None = sym (ap (λ e. e.place) is) ∙ at in
       rw (place, given) (subst (λ e. VacantStep eq e.map e.key s replies new) is done)
 
--- with the value that stands where it was lent
+-- an insert of w is an insert of v if w equals v
 pub added : {K V S : Type 0} {eq : K → K → Bool} {old new : MapState K V S} {k : K} {w v : V} {b : ℕ} → w ≡ v
     → AddsEntry eq old new k w b → AddsEntry eq old new k v b
 added {eq = eq} {old} {new} {k} {b = b} same adds = subst (λ v. AddsEntry eq old new k v b) same adds
@@ -56,7 +56,7 @@ module _ {K V : Type 0} where
       omega (arith, length-append xs (e ∷ ys), length-append xs ys) in
       rw (moved_at-last xs e ys, n) (slice_get_here (xs ++ ys) e [])
 
-  -- an entry that moves to the end stands there
+  -- an entry that moves to the end is the last one
   moved_to_end : (es : List (K × V)) (j : ℕ) (e : K × V) → slice_get es j ≡ Some e
       → slice_get (moved_at es j (length es)) (length es - 1) ≡ Some e
   moved_to_end es j e at =
@@ -69,12 +69,12 @@ module _ {K V : Type 0} where
   first_inserted es e true = refl
   first_inserted es e false = refl
 
-  -- and one that moves to the front stands there
+  -- an entry that moves to the front is the first one
   moved_to_front : (es : List (K × V)) (j : ℕ) (e : K × V) → slice_get es j ≡ Some e
       → slice_get (moved_at es j 0) 0 ≡ Some e
   moved_to_front es j e at = rw at (first_inserted (remove es j) e (nat_lt j 0))
 
--- what is read at the entry's place is the pair of its key
+-- the pair that is read at the entry's place is the pair of its key
 module _ {K V S : Type 0} (eq : K → K → Bool) {m : MapState K V S} {k : K} {e : EntryState K V S}
     (is : e ≡ entry_of eq m k) (old : MapState K V S) (j : ℕ) (same : e.map ≡ old)
     (at : e.place ≡ Some j) where
@@ -93,7 +93,7 @@ module _ {K V S : Type 0} (eq : K → K → Bool) {m : MapState K V S} {k : K} {
   pub there : slice_get old.entries j ≡ lookup_entry (eq k) m.entries
   there = stands.1 ∙ sym stands.2
 
-  -- also after it has moved to an end
+  -- the same after it has moved to an end
   module _ (new : MapState K V S) (p : ℕ) where
     pub there_at_end : MovesAt old new j (length old.entries) → Some p ≡ Some (length old.entries - 1)
         → slice_get new.entries p ≡ slice_get old.entries j
@@ -107,7 +107,7 @@ module _ {K V S : Type 0} (eq : K → K → Bool) {m : MapState K V S} {k : K} {
         ap₂ slice_get moves.entries (same_Some _ _ front) ∙ moved_to_front old.entries j stands.0 stands.1
         ∙ sym stands.1
 
--- a value that is taken out goes with its key
+-- a value that is removed leaves together with its key
 pub taken : {K V S : Type 0} (old new : MapState K V S) (j : ℕ) (v : V) → value_at old.entries j ≡ Some v
     → RemovesAt old new j → (e : K × V) × TakesEntry old new j e × (v ≡ e.1)
 taken {K} {V} old new j v value removes = by (slice_get old.entries j) refl value

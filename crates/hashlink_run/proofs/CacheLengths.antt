@@ -1,4 +1,4 @@
--- Along the steps of a cache: how much longer than its capacity it is.
+-- How far beyond its capacity a cache is, along its steps.
 use Rattle.hashlink_run.proofs.Names.{◌≡◌, ℕ, ◌+◌, ◌-◌, ◌≤◌, Bool, true, List, length, Some, inl, inr, ⊎_elim}
 use Rattle.hashlink_run.proofs.Names.{refl, sym, ap, subst, arith, lookup_entry, CacheState, EvictsFront}
 use Rattle.hashlink_run.proofs.Names.{MapState, first_of, CacheCommand, EntryStep, Reply, CacheStep, CacheRun}
@@ -19,7 +19,7 @@ use Rattle.hashlink_run.proofs.EntryNodes.{entry-leaves}
 
 module _ {K V B S : Type 0} (eq : K → K → Bool) (Says : K → V → B → Type 0) (n : ℕ)
     (old new : CacheState K V S) where
-  -- what was too many is dropped before the entry is named
+  -- entries beyond the capacity are dropped before the entry is named
   within-entry : (between : MapState K V S) (k : K) (step : EntryStep V) (replies : List (Reply K V B))
       → EvictsFront old.map between old.cap → EntrySteps eq Says between k step replies new.map
       → new.cap ≡ old.cap

@@ -18,7 +18,7 @@ use Rattle.hashlink_run.proofs.Chained.{Chain-take}
 use Rattle.hashlink_run.proofs.EntryNodes.{kept_unchanged, entry-leaves}
 
 module _ {K V B S : Type 0} (eq : K → K → Bool) (Says : K → V → B → Type 0) (old new : CacheState K V S) where
-  -- what a command passes
+  -- the lengths that a command passes
   abbrev PassesBy : CacheCommand K V → List (Reply K V B) → Type 0
   PassesBy command replies =
       PassesInTurn old.map (command_put eq old command replies ++ Length (length new.map.entries) ∷ [])
@@ -48,7 +48,7 @@ module _ {K V B S : Type 0} (eq : K → K → Bool) (Says : K → V → B → Ty
       subst (PassesBy (cache.Use k v)) (sym said)
       (keeps (⊎_elim (kept-refused k v pair) (λ g. cc (g.1)) (use_cases eq old new k v (Err pair) s)))
 
-  -- what an eviction leaves, and then a step that keeps the nodes
+  -- what an eviction leaves, followed by a step that keeps the nodes
   evicted : (between : MapState K V S) → EvictsFront old.map between old.cap → KeepsNodes between new.map
       → KeepsNodes old.map new.map
   evicted between e kept =

@@ -1,5 +1,5 @@
--- A command to a cache that passes a length before anything is dropped has put a pair in: it is an insert, or
--- a use that missed, and was not refused.
+-- A command to a cache that passes a length before anything is dropped has inserted a pair: it is an insert,
+-- or a use that missed, and was not refused.
 use Rattle.hashlink_run.proofs.Names.{◌≡◌, ℕ, Bool, List, [], ◌∷◌, length, Option, None, Some, Result, Ok}
 use Rattle.hashlink_run.proofs.Names.{Err, MatchOption, MatchResult, ap, subst, inl, inr, lookup}
 use Rattle.hashlink_run.proofs.Names.{lookup_entry, CacheState, CacheInserts, CacheGets, CacheUses, Passed}
@@ -15,7 +15,7 @@ use Rattle.hashlink_run.specs.CacheCalls.{put_passed}
 use Rattle.hashlink_run.specs.CacheRun.{command_put, InsertsFit}
 use Rattle.hashlink_run.proofs.Chained.{step_of}
 
--- a use is an insert, or a `get` of what is there
+-- a use is an insert, or a `get` of a present key
 pub use_cases : {K V S : Type 0} (eq : K → K → Bool) (old new : CacheState K V S) (k : K) (v : V)
     (answer : Result (Option V) (K × V)) → CacheUses eq old new k v answer
     → CacheInserts eq old new k v answer
@@ -34,7 +34,7 @@ module _ {K V B S : Type 0} (eq : K → K → Bool) (Says : K → V → B → Ty
   abbrev PutLength : K → V → ℕ
   PutLength k v = length (put eq old.map.entries k v (length old.map.entries))
 
-  -- a pair went in, and there were n before anything was dropped
+  -- a pair was inserted, and there were n before anything was dropped
   pub record PutsIn (n : ℕ) : Type 0 where
     pub key : K
     pub value : V
@@ -62,7 +62,7 @@ module _ {K V B S : Type 0} (eq : K → K → Bool) (Says : K → V → B → Ty
       record { key = k; value = v; answer = w; inserts = s; passed = same_length (PutLength k v) n is }
   use-puts k v w n (Some x) s is = cc
 
-  -- what a use passes, by whether it is refused
+  -- the lengths that a use passes, by whether it is refused
   abbrev UsePassed : K → V → Bool → List Passed
   UsePassed k v refused = cond refused [] (put_passed eq old.cap old.map.entries (event.Use k v))
 
@@ -86,7 +86,7 @@ module _ {K V B S : Type 0} (eq : K → K → Bool) (Says : K → V → B → Ty
   step-puts (Use k v) replies n s is = used-puts k v s.0 replies n s.1 s.2 is
   step-puts command replies n s is = cc
 
--- and then no more than the capacity are left
+-- the same, and no more than the capacity are left
 pub inserts_fit : {K V B S : Type 0} (eq : K → K → Bool) (Says : K → V → B → Type 0)
     (old : CacheState K V S) (cs : List (CacheCommand K V))
     (xs : List (Answered (Reply K V B) (CacheState K V S))) → CacheRun eq Says old cs xs

@@ -1,4 +1,4 @@
--- Along the steps of a cache: a spare node that stays, so that nothing is refused.
+-- A free node stays free along the steps of a cache, so nothing is refused.
 use Rattle.hashlink_run.proofs.Names.{◌≡◌, ℕ, ◌≤◌, ◌<◌, Bool, true, false, List, [], ◌∷◌, length, Option}
 use Rattle.hashlink_run.proofs.Names.{None, Some, Result, Ok, Err, MatchResult, ⊎_elim, sym, ap, subst, arith}
 use Rattle.hashlink_run.proofs.Names.{lookup_entry, CacheState, EvictsFront, CacheInserts, CacheGets}
@@ -16,7 +16,7 @@ use Rattle.hashlink_run.proofs.CachePuts.{step-puts, use_cases}
 use Rattle.hashlink_run.proofs.Chained.{Chain-from, step_at, step_of}
 use Rattle.hashlink_run.proofs.EntryNodes.{entry-leaves}
 
--- ---- nothing is refused while a node is spare
+-- ---- as long as a node is free, nothing is refused
 
 module _ {K V B S : Type 0} (eq : K → K → Bool) (Says : K → V → B → Type 0)
     (replies : List (Reply K V B)) where
@@ -38,7 +38,7 @@ module _ {K V B S : Type 0} (eq : K → K → Bool) (Says : K → V → B → Ty
       let none = i.map.may_refuse.no_spare in absurd (omega arith)) (λ g. cc (g.1))
       (use_cases eq old new k v (Err pair) s)
 
-  -- what an eviction leaves has a spare node too
+  -- after an eviction a node is free too
   evicted-spare : (old between : MapState K V S) (cap : ℕ) → EvictsFront old between cap → 1 ≤ old.spare
       → 1 ≤ between.spare
   evicted-spare old between cap e some = let spare = e.spare in let fewer = e.no_more in omega arith
@@ -54,7 +54,7 @@ module _ {K V B S : Type 0} (eq : K → K → Bool) (Says : K → V → B → Ty
   step-taken old new (cache.Peek k) spare s = ap is_refused s.1.2
   step-taken old new command spare s = ap is_refused s.1
 
--- ---- a step leaves a node to spare
+-- ---- a step leaves a free node
 
 module _ {K V S : Type 0} (a b : MapState K V S) where
   removes-shorter : (eq : K → K → Bool) (k : K) (r : Option (K × V)) → RemovesKey eq a b k r
@@ -94,7 +94,7 @@ module _ {K V B S : Type 0} (eq : K → K → Bool) (Says : K → V → B → Ty
       (pops-shorter old.map new.map _ s.0.map) h
   step-spare command replies leaves s h = cc
 
-  -- and so does an insert that dropped a pair
+  -- so does an insert that dropped a pair
   step-drops : (command : CacheCommand K V) (replies : List (Reply K V B))
       → CacheStep eq Says old command replies new → DropsPair eq old command replies → HasNodeToSpare new
   step-drops command replies s d =
@@ -102,7 +102,7 @@ module _ {K V B S : Type 0} (eq : K → K → Bool) (Says : K → V → B → Ty
       to_spare-dropped old new eq puts.key puts.value puts.answer puts.inserts
       (subst (λ m. old.cap < m) (sym puts.passed) d.2)
 
--- ---- from the drop on
+-- ---- after the drop
 
 pub takes_all_after_a_drop : {K V B S : Type 0} (eq : K → K → Bool) (Says : K → V → B → Type 0)
     (old : CacheState K V S) (cs : List (CacheCommand K V))

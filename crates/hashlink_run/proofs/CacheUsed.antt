@@ -1,51 +1,82 @@
--- A use of a cache by a `get` and, where it misses, an insert.
-use Rattle.hashlink_run.proofs.Names.{◌≡◌, Bool, [], ◌∷◌, Option, None, Some, Result, Ok, Err, MatchOption}
-use Rattle.hashlink_run.proofs.Names.{refl, ap₂, subst, lookup, lookup_entry, option_map, CacheState}
-use Rattle.hashlink_run.proofs.Names.{CacheInserts, CacheGets, lookup_is, Seen, Refused, CacheStep}
+-- A use of a cache by an entry of its map, which evicts where the pair is new.
+use Rattle.hashlink_run.proofs.Names.{◌≡◌, Bool, [], ◌∷◌, length, None, Some, Result, Ok, Err}
+use Rattle.hashlink_run.proofs.Names.{refl, sym, ap, ◌∙◌, subst, inl, inr, lookup, lookup_entry, place_of}
+use Rattle.hashlink_run.proofs.Names.{CacheState, MapState, Seen}
+use Rattle.hashlink_run.proofs.Names.{CacheStep, EntrySteps, Reply}
+use Rattle.std.proofs.Common.{◌⊎◌, ◌+◌, ◌<◌, ◌≤◌, arith, get_or}
+use Rattle.std.proofs.lemmas.Map.{NonePasses}
+use Rattle.std.specs.Result.{result_map_both}
+use Rattle.hashlink_model.specs.Cache.{KeepsLast}
+use Rattle.hashlink_model.specs.Entry.{VacantInserts}
+use Rattle.hashlink_model.specs.MapState.{RefusesEntry}
+use Rattle.hashlink_model.specs.Steps.{Moves}
+use Rattle.hashlink_model.proofs.Occupied.{length-moved_at}
+use Rattle.hashlink_model.proofs.Splits.{Stands, splits, place_of-none}
+use Rattle.hashlink_model.proofs.Splits.{place_of-here, lookup-none, lookup-here}
+use Rattle.hashlink_model.proofs.Splits.{lookup_entry-none}
 use Rattle.hashlink_run.specs.declared.cache_commands.CacheCommand.TheVariants.{Use}
-use Rattle.hashlink_run.specs.Reads.{SaysOf}
+use Rattle.hashlink_run.specs.declared.commands.EntryStep.TheVariants.{OrInsert}
+use Rattle.hashlink_run.specs.CallReplies.{reply_or_refused}
+use Rattle.hashlink_run.specs.EntrySteps.{MovesAndReadsAt}
+use Rattle.hashlink_run.proofs.Moved.{by_key}
 
 module _ {K V B S : Type 0} (eq : K → K → Bool) (Says : K → V → B → Type 0) (old : CacheState K V S) (k : K)
-    (v : V) where
-  -- what a use is, by the value that was found
-  abbrev UseBy : Option V → Result (Option V) (K × V) → CacheState K V S → Type 0
-  UseBy o answer new =
-      MatchOption o (CacheInserts eq old new k v answer)
-      (λ w. (answer ≡ Ok (Some w)) × CacheGets eq old new k (Some w))
+    (v : V) (mid : MapState K V S) (new : CacheState K V S) (cap : new.cap ≡ old.cap) where
+  -- what is done where there are more entries now, and where there are not
+  abbrev pub Fits : Type 0
+  Fits = ((length old.map.entries < length mid.entries) × KeepsLast mid new.map old.cap)
+      ⊎ ((length mid.entries ≤ length old.map.entries) × (new.map ≡ mid))
 
-  hit_by : (e : Option (K × V)) (o : Option V) → o ≡ option_map (λ p. p.1) e → (said : B)
-      → SaysOf Says e (Some said) → (new : CacheState K V S) → CacheGets eq old new k o
-      → (w : V) × UseBy o (Ok (Some w)) new
-  hit_by None o is said s new g = absurd s
-  hit_by (Some p) None is said s new g = cc
-  hit_by (Some p) (Some w) is said s new g = (w, (refl, g))
+  evicted : length mid.entries ≡ length old.map.entries + 1 → Fits → KeepsLast mid new.map old.cap
+  evicted more (inl fits) = fits.1
+  evicted more (inr same) = let few = same.0 in absurd (omega arith)
 
-  pub used_hit : (said : B) → SaysOf Says (lookup_entry (eq k) old.map.entries) (Some said)
-      → (new : CacheState K V S)
-      → CacheGets eq old new k (lookup (eq k) old.map.entries)
-      → CacheStep eq Says old (Use k v) (Seen (Some said) ∷ []) new
-  used_hit said s new g =
-      let hit = hit_by _ _ (lookup_is (eq k) old.map.entries) said s new g in
-      (Ok (Some hit.0), hit.1, (Some said, s, refl))
+  unchanged : length mid.entries ≤ length old.map.entries → Fits → new.map ≡ mid
+  unchanged few (inl fits) = let more = fits.0 in absurd (omega arith)
+  unchanged few (inr same) = same.1
 
-  -- a miss changes nothing
-  miss_by : (e : Option (K × V)) (o : Option V) → o ≡ option_map (λ p. p.1) e → SaysOf Says e None
-      → (mid new : CacheState K V S) → CacheGets eq old mid k o → (answer : Result (Option V) (K × V))
-      → CacheInserts eq mid new k v answer → UseBy o answer new
-  miss_by (Some p) o is s mid new g answer i = absurd s
-  miss_by None (Some w) is s mid new g answer i = cc
-  miss_by None None is s mid new g answer i =
-      let same : mid ≡ old = ap₂ (λ m c. record { map = m; cap = c }) g.map.step g.cap in
-      subst (λ m. CacheInserts eq m new k v answer) same i
+  missed : (reply : Reply K V B) → lookup (eq k) old.map.entries ≡ None
+      → lookup_entry (eq k) old.map.entries ≡ None
+      → (answer : Result (Unit {0}) (K × V)) → VacantInserts eq old.map mid k v answer
+      → reply ≡ reply_or_refused (result_map_both (λ _. Seen None) (λ pair. pair) answer) → Fits
+      → CacheStep eq Says old (Use k v) (reply ∷ []) new
+  missed reply absent nothing (Ok done) adds is fits =
+      let more = ap length adds.adds.entries ∙ adds.adds.more in
+      let kept = evicted more fits in (
+        Ok None,
+        rw absent (record { map = record { between = mid; inserts = adds; fits = kept }; cap = cap }),
+        rw nothing (None, tt, ap (λ r. r ∷ []) is),
+      )
+  missed reply absent nothing (Err pair) refuses is fits =
+      let length_is = ap length refuses.grows.entries in
+      let same = unchanged (omega arith) fits in
+      let refused = subst (λ m. RefusesEntry eq old.map m k v pair) (sym same) refuses in (
+        Err pair,
+        rw absent (record { map = refused; cap = cap }),
+        ap (λ r. r ∷ []) is,
+      )
 
-  module _ (s : SaysOf Says (lookup_entry (eq k) old.map.entries) None) (mid new : CacheState K V S)
-      (g : CacheGets eq old mid k (lookup (eq k) old.map.entries)) where
-    pub used_insert : (w : Option V) → CacheInserts eq mid new k v (Ok w)
-        → CacheStep eq Says old (Use k v) (Seen None ∷ []) new
-    used_insert w i =
-        (Ok w, miss_by _ _ (lookup_is (eq k) old.map.entries) s mid new g (Ok w) i, (None, s, refl))
+  used_by : (reply : Reply K V B) → NonePasses (eq k) old.map.entries ⊎ Stands (eq k) old.map.entries
+      → EntrySteps eq Says old.map k (OrInsert v) (reply ∷ []) mid → Fits
+      → CacheStep eq Says old (Use k v) (reply ∷ []) new
+  used_by reply (inl none) step fits =
+      let inserts = rw (place_of-none (eq k) old.map.entries none) at step in
+      missed reply (lookup-none (eq k) old.map.entries none) (lookup_entry-none (eq k) old.map.entries none)
+      inserts.0 inserts.1 (ap (λ rs. get_or rs 0 reply) inserts.2) fits
+  used_by reply (inr s) step fits =
+      let place : place_of (eq k) old.map.entries ≡ Some (length s.0) =
+      ap (place_of (eq k)) s.3.is ∙ place_of-here (eq k) s.1 s.2 s.3.passes s.0 s.3.before in
+      let found : lookup (eq k) old.map.entries ≡ Some s.1.1 =
+      ap (lookup (eq k)) s.3.is ∙ lookup-here (eq k) s.1 s.2 s.3.passes s.0 s.3.before in
+      let done : MovesAndReadsAt Says old.map (length s.0) (length old.map.entries) (reply ∷ []) mid =
+      rw place at step in
+      let moved = by_key eq Says old.map mid k (length old.map.entries) (reply ∷ []) (rw place done) in
+      let length_is = ap length done.0.entries ∙ length-moved_at _ (length s.0) (length old.map.entries) in
+      let same = unchanged (omega arith) fits in
+      let moves = subst (λ m. Moves eq old.map m k (length old.map.entries) (Some s.1.1)) (sym same)
+      (rw found at moved.0) in
+      (Ok (Some s.1.1), rw found (refl, record { map = moves; cap = cap }), moved.1)
 
-    pub used_refused : (pair : K × V) → CacheInserts eq mid new k v (Err pair)
-        → CacheStep eq Says old (Use k v) (Refused pair.0 pair.1 ∷ []) new
-    used_refused pair i =
-        (Err pair, miss_by _ _ (lookup_is (eq k) old.map.entries) s mid new g (Err pair) i, refl)
+  pub used : (reply : Reply K V B) → EntrySteps eq Says old.map k (OrInsert v) (reply ∷ []) mid → Fits
+      → CacheStep eq Says old (Use k v) (reply ∷ []) new
+  used reply = used_by reply (splits (eq k) old.map.entries)

@@ -1,4 +1,5 @@
--- What one closure says of a pair that a cache read, another may say that says at least that.
+-- If `Q` allows each value that `P` allows a closure to return for a pair, then steps of a cache by `P` are
+-- steps by `Q`.
 use Rattle.hashlink_run.proofs.Names.{Bool, List, Option, Result, Ok, Err, MatchResult, ◌≡◌, [], ◌∷◌}
 use Rattle.hashlink_run.proofs.Names.{lookup_entry, CacheState, CacheCommand, Reply, Refused, CacheStep}
 use Rattle.hashlink_run.proofs.Names.{Replies}
@@ -31,7 +32,7 @@ module _ {K V B : Type 0} (P Q : K → V → B → Type 0) (wider : (k : K) (v :
       (s.0, replies-wider P Q wider (lookup_entry (eq k) old.map.entries) replies s.1)
   cache_step-wider command s = s
 
--- ---- and of a cache with a budget
+-- ---- the same for a cache with a budget
 
 module _ {K V B : Type 0} (P Q : K → V → B → Type 0) (wider : (k : K) (v : V) (b : B) → P k v b → Q k v b)
     {S : Type 0} (eq : K → K → Bool) (old : WeightedState K V S) (replies : List (Reply K V B))

@@ -1,4 +1,4 @@
--- What holds of every list of calls of caches that start empty.
+-- What holds for every list of calls of caches that start empty.
 use Rattle.std.proofs.Common.{◌≡◌, ℕ, zero, suc, ◌+◌, ◌≤◌, Bool, cond, List, [], ◌∷◌, take, map, slice_get}
 use Rattle.std.proofs.Common.{Result, Ok, Err, OnOk, Option, None, Some, is_some, is_none, refl, sym, ap, ap₂}
 use Rattle.std.proofs.Common.{◌∙◌}
@@ -21,7 +21,7 @@ use Rattle.hashlink_run.specs.CacheCalls.{RunsFromEmpty, use_of}
 use Rattle.hashlink_run.specs.CacheLaws.{Includes, FollowsHistory, MissesOfHistory, BearsComparison, UsedLast}
 
 module _ {K V : Type 0} (eq : K → K → Bool) where
-  -- the answer to the call at the place n is what its key has after the calls before it
+  -- the call at index n returns what its key has after the calls before it
   answer_at : (c : ℕ) (es : List (K × V)) (events : List (CacheEvent K V)) (n : ℕ) (e : CacheEvent K V)
       (reply : Option V) → slice_get events n ≡ Some e → slice_get (answers eq c es events) n ≡ Some reply
       → reply ≡ answer_to eq (after_events eq c es (take n events)) e
@@ -31,7 +31,7 @@ module _ {K V : Type 0} (eq : K → K → Bool) where
   answer_at c es (d ∷ events) (suc n) e reply at is =
       answer_at c (after_event eq c es d) events n e reply at is
 
-  -- misses are the answers that are none
+  -- the misses are the calls that returned `None`
   misses_counted : (c : ℕ) (es : List (K × V)) (pairs : List (K × V))
       → count_by is_none (answers eq c es (map use_of pairs)) ≡ missed_uses eq c es pairs
   misses_counted c es [] = refl
@@ -73,7 +73,7 @@ module _ {K V : Type 0} (eq : K → K → Bool) where
         (HoldsRecent-cache_use eq laws old.cap used old.map.entries k v h)
     use-recent old new k v (Err pair) s = tt
 
-    -- and so of the cache that calls have left, and of two of them
+    -- the same for the cache after some calls, and for two such caches
     module _ {S : Type 0} (s : S) (events : List (CacheEvent K V)) where
       pub ran-follows : (c : ℕ) (replies : List (Option V)) (new : CacheState K V S)
           → RunsFromEmpty eq s c events replies new → FollowsHistory eq events c new.map.entries replies

@@ -1,4 +1,5 @@
--- One call of a cache that was not refused, and calls in turn: what they leave is what is computed.
+-- One call of a cache that was not refused, and several calls in order: they leave what the definitions
+-- compute.
 use Rattle.hashlink_run.proofs.Names.{◌≡◌, ℕ, Bool, List, [], ◌∷◌, ◌++◌, length, Option, None, Some, Result}
 use Rattle.hashlink_run.proofs.Names.{Ok, ◌+◌, ◌<◌, take, drop, map, MatchOption, append_assoc, refl, sym, ap}
 use Rattle.hashlink_run.proofs.Names.{ap₂, ◌∙◌, subst, lookup, lookup_entry, option_map, CacheState}
@@ -20,7 +21,7 @@ use Rattle.hashlink_run.specs.CacheCalls.{put_passed, events_passed, RunsFromEmp
 use Rattle.hashlink_run.proofs.Chained.{Chain-take}
 use Rattle.hashlink_run.proofs.EntryNodes.{kept_unchanged}
 
--- a list that is read from its front, each element as another
+-- a list that is read from its front, each element mapped by f
 pub rest_from : {X Y : Type 0} (f : X → Y) (xs : List X) (i : ℕ) (x : X) → i < length xs → x ≡ get_or xs i x
     → map f (drop i xs) ≡ f x ∷ map f (drop (i + 1) xs)
 rest_from f xs i x at is =
@@ -28,7 +29,7 @@ rest_from f xs i x at is =
     ∙ ap₂ (λ y j. f y ∷ map f (drop j xs)) (sym is) (sym (add-one i))
 
 module _ {K V S : Type 0} (eq : K → K → Bool) where
-  -- what one call leaves and answers
+  -- what one call leaves and returns
   pub record Leaves (old : CacheState K V S) (e : CacheEvent K V) (replies : List (Option V))
       (new : CacheState K V S) : Type 0 where
     pub entries : new.map.entries ≡ after_event eq old.cap old.map.entries e
@@ -46,12 +47,12 @@ module _ {K V S : Type 0} (eq : K → K → Bool) where
       (none_from_lookup (eq k) old.entries (lookup_is (eq k) old.entries ∙ ap (option_map (λ e. e.1)) none)))
   removed_entries old new k (Some e) some s = s.entries
 
-  -- a step that keeps the nodes passes the length that it leads to
+  -- a step that keeps the nodes passes the length to which it leads
   pub passed_one : (old new : MapState K V S) → KeepsNodes old new
       → PassesInTurn old (Length (length new.entries) ∷ []) new
   passed_one old new kept = (new, passes-kept old new kept, refl)
 
-  -- a use keeps the capacity, and passes what an insert passes where it misses
+  -- a use keeps the capacity and, if it misses, passes what an insert passes
   pub used : (old new : CacheState K V S) (k : K) (v : V) (w o : Option V)
       → MatchOption o (CacheInserts eq old new k v (Ok w))
       (λ x. (◌≡◌ {A = Result (Option V) (K × V)} (Ok w) (Ok (Some x))) × CacheGets eq old new k (Some x))
@@ -90,7 +91,7 @@ module _ {K V S : Type 0} (eq : K → K → Bool) where
     passes = passed_one old.map new.map (kept_unchanged old.map new.map (ap (λ c. c.map) s.0));
   }
 
-  -- what calls in turn leave and answer
+  -- what several calls in order leave and return
   record LeavesAll (old : CacheState K V S) (events : List (CacheEvent K V)) (replies : List (Option V))
       (new : CacheState K V S) : Type 0 where
     entries : new.map.entries ≡ after_events eq old.cap old.map.entries events
@@ -124,7 +125,7 @@ module _ {K V S : Type 0} (eq : K → K → Bool) where
             passed;
       }
 
-  -- from an empty cache on
+  -- the same from an empty cache
   pub runs_from_empty : (s : S) (c : ℕ) (events : List (CacheEvent K V)) (replies : List (Option V))
       (new : CacheState K V S) → Chained (EventStep eq) (empty_cache s c) events replies new
       → RunsFromEmpty eq s c events replies new

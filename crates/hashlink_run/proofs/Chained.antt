@@ -1,4 +1,4 @@
--- Chains of steps: how they grow, their parts, and what is kept along them.
+-- Chains of steps: how they grow, their parts, and what stays the same along them.
 use Rattle.hashlink_run.proofs.Names.{◌≡◌, ℕ, zero, suc, ◌≤◌, ◌<◌, Bool, true, List, [], ◌∷◌, ◌++◌, take}
 use Rattle.hashlink_run.proofs.Names.{drop, refl, slice_get, Some, sym, ap, ◌∙◌, subst, append-nil, arith}
 use Rattle.hashlink_run.proofs.Names.{same_Some, Answered, Chain, replies_of, state_after, after}
@@ -39,7 +39,7 @@ module _ {C R M : Type 0} (Step : M → C → List R → M → Type 0) where
   Chain-take (suc n) old (c ∷ cs) [] r = absurd r
   Chain-take (suc n) old (c ∷ cs) (x ∷ xs) r = (r.0, Chain-take n x.state cs xs r.1)
 
-  -- the step at a place
+  -- the step at an index
   pub step_at : (j : ℕ) (old : M) (cs : List C) (xs : List (Answered R M)) → Chain Step old cs xs
       → (a : Answered R M) → slice_get xs j ≡ Some a
       → (c : C) × (slice_get cs j ≡ Some c) × Step (after old xs j) c a.replies a.state
@@ -57,7 +57,7 @@ module _ {C R M : Type 0} (Step : M → C → List R → M → Type 0) where
       let s = step_at j old cs xs r a is in
       subst (λ d. Step (after old xs j) d a.replies a.state) (same_Some _ _ (sym s.1 ∙ at)) s.2
 
-  -- what each step keeps whose command passes a test, such a chain keeps
+  -- if each step whose command passes a test keeps P, a chain of such steps keeps it
   module _ (P : M → Type 0) (test : C → Bool)
       (keeps : (old new : M) (c : C) (rs : List R) → test c ≡ true → Step old c rs new → P old → P new) where
     pub Chain-keeps : (old : M) (cs : List C) (xs : List (Answered R M)) → Chain Step old cs xs
@@ -69,7 +69,7 @@ module _ {C R M : Type 0} (Step : M → C → List R → M → Type 0) where
         Chain-keeps x.state cs xs r.1 (All-tail (λ d. test d ≡ true) c cs all)
         (keeps old x.state c x.replies (All-head (λ d. test d ≡ true) c cs all) r.0 p)
 
-    -- from the place i to the place j
+    -- from index i to index j
     pub Chain-between : (i j : ℕ) (old : M) (cs : List C) (xs : List (Answered R M)) → Chain Step old cs xs
         → i ≤ j → AllPass test (drop i (take j cs)) → P (after old xs i) → P (after old xs j)
     Chain-between zero j old cs xs r le all p =
@@ -80,7 +80,7 @@ module _ {C R M : Type 0} (Step : M → C → List R → M → Type 0) where
     Chain-between (suc i) (suc j) old (c ∷ cs) (x ∷ xs) r le all p =
         Chain-between i j x.state cs xs r.1 (omega arith) all p
 
-    -- and from what the command at the place i leaves
+    -- the same from the state after the command at index i
     pub Chain-from : (i j : ℕ) (old : M) (cs : List C) (xs : List (Answered R M)) → Chain Step old cs xs
         → (a : Answered R M) → slice_get xs i ≡ Some a → i < j → AllPass test (drop i (take j cs))
         → P a.state → P (after old xs j)

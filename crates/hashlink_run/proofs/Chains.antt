@@ -1,4 +1,4 @@
--- Chains of a map's steps: the nodes along them, and that none hands a pair back while a node is spare.
+-- Chains of a map's steps: the nodes along them, and that no pair is refused as long as a node is free.
 use Rattle.hashlink_run.proofs.Names.{◌≡◌, ℕ, ◌≤◌, ◌<◌, Bool, true, List, [], ◌∷◌, length, take, refl, sym}
 use Rattle.hashlink_run.proofs.Names.{arith, MapState, node_count, PassesInTurn, within_the_peak, Reply}
 use Rattle.hashlink_run.proofs.Names.{Answered, state_after, after, Step}
@@ -23,7 +23,7 @@ module _ {K V B S : Type 0} (eq : K → K → Bool) (Says : K → V → B → Ty
   run-passes old (c ∷ cs) (x ∷ xs) r =
       (x.state, (step-nodes eq Says Keeps old x.state c x.replies r.0).1, run-passes x.state cs xs r.1)
 
-  -- a command that gives no node back leaves at least as many
+  -- a command that releases no node leaves at least as many
   keeps_at_least : (n : ℕ) (a b : MapState K V S) (c : Command K V) (replies : List (Reply K V B))
       → keeps_nodes c ≡ true → Step eq Says Keeps a c replies b → n ≤ node_count a → n ≤ node_count b
   keeps_at_least n a b c replies keeps s le =
@@ -50,7 +50,7 @@ module _ {K V B S : Type 0} (eq : K → K → Bool) (Says : K → V → B → Ty
               map_step-taken eq Says Keeps (after old xs j) b.state s.0 b.replies spare s.2,
         )
 
-  -- what is left of a run without a clear and a shrink
+  -- what a run without a clear and a shrink leaves
   pub spare_at_the_end : (old : MapState K V S) (cs : List (Command K V)) (replies : List (Reply K V B))
       (new : MapState K V S) → Runs eq Says Keeps old cs replies new → AllPass keeps_nodes cs
       → length new.entries < length old.entries → 1 ≤ new.spare

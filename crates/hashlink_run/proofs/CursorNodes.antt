@@ -1,4 +1,4 @@
--- Steps of a cursor: every node is kept, no entry leaves, and while a node is spare no pair is handed back.
+-- Steps of a cursor: every node is kept, no entry leaves, and no pair is refused as long as a node is free.
 use Rattle.hashlink_run.proofs.Names.{◌≡◌, ℕ, ◌≤◌, Bool, false, List, [], ◌∷◌, ◌++◌, length, Option, None}
 use Rattle.hashlink_run.proofs.Names.{Some, Result, Ok, Err, refl, ap, ◌∙◌, arith, CursorState, MapState}
 use Rattle.hashlink_run.proofs.Names.{KeepsNodes, kept-inserts, CursorStep, Reply, insert_reply, is_refused}
@@ -64,7 +64,7 @@ module _ {K V S : Type 0} where
         (grows-then old s.0.map new (walk-grows (first_place old) s.0 steps replies s.1)
         (grows-same s.0.map new s.2)).kept
 
--- while a node is spare no pair is handed back
+-- as long as a node is free, no pair is refused
 module _ {K V B S : Type 0} (eq : K → K → Bool) (Says : K → V → B → Type 0) where
   pub inserts-taken : (old new : MapState K V S) → 1 ≤ old.spare → (k : K) (v : V) (b : ℕ)
       (answer : Result (Option V) (K × V)) (more : List (Reply K V B))

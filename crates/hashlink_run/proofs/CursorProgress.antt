@@ -11,14 +11,14 @@ at_first {K} {V} {S} m now map place =
     ap₂ cursor map place
 
 module _ {K V B S : Type 0} (eq : K → K → Bool) (Says : K → V → B → Type 0) where
-  -- whatever the steps that are left reply from here goes on the replies so far, as those to all steps
+  -- the replies to the steps that are left, appended to the replies so far, are the replies to all steps
   pub record WalksOn (start now : CursorState K V S) (all rest : List (CursorStep K V))
       (replies : List (Reply K V B)) : Type 0 where
     pub goes_on : (more : List (Reply K V B)) (new : CursorState K V S)
         → CursorWalks eq Says now rest more new
         → CursorWalks eq Says start all (replies ++ more) new
 
-  -- on the first place, with all steps left
+  -- at the first place, with all steps left
   pub WalksOn-first : (m : MapState K V S) (now : CursorState K V S) (all rest : List (CursorStep K V))
       → now.map ≡ m → now.place ≡ 0 → rest ≡ all → WalksOn (first_place m) now all rest []
   WalksOn-first m now all rest map place left =
@@ -29,7 +29,7 @@ module _ {K V B S : Type 0} (eq : K → K → Bool) (Says : K → V → B → Ty
             (subst (λ from. CursorWalks eq Says from rest more new) first walk);
       }
 
-  -- what is read from there on is read on the whole walk
+  -- a pair that the remaining steps read is read on the whole walk
   pub read_from_first : (m : MapState K V S) (now : CursorState K V S) (all rest : List (CursorStep K V))
       → now.map ≡ m → now.place ≡ 0 → rest ≡ all
       → (pair : K × V) → ReadOnWalk eq Says now rest pair → ReadOnWalk eq Says (first_place m) all pair

@@ -25,7 +25,7 @@ kept_unchanged old new s = let same = ap node_count s in omega arith
 
 module _ {K V B S : Type 0} (Says : K → V → B → Type 0) (old new : MapState K V S)
     (replies : List (Reply K V B)) (k : K) where
-  -- every node is kept, there is one entry more at most, and while a node is spare no pair is handed back
+  -- every node is kept, there is at most one entry more, and no pair is refused as long as a node is free
   pub record LeavesEntry : Type 0 where
     pub kept : KeepsNodes old new
     pub few : length new.entries ≤ length old.entries + 1
@@ -67,7 +67,7 @@ module _ {K V B S : Type 0} (Says : K → V → B → Type 0) (old new : MapStat
   occupied-leaves j step s = removed _ s.1.step (ap is_refused s.2)
 
   module _ (eq : K → K → Bool) where
-    -- an insert that was done has a reply that hands nothing back
+    -- an insert that succeeded has a reply that refuses no pair
     abbrev IsTaken : Result (Unit {0}) (K × V) → Type 0
     IsTaken r = MatchResult r (λ done. is_refused replies ≡ false) (λ pair. Unit {0})
 

@@ -1,4 +1,4 @@
--- What a keep leaves by one closure, another may leave that answers at least what it answers.
+-- A keep by one closure is also a keep by each relation that allows every result of that closure.
 use Rattle.std.proofs.Common.{◌≡◌, Bool, Contains, List, [], ◌∷◌, arith, refl, subst, sym, filter}
 use Rattle.std.specs.List.{FoldsTo}
 use Rattle.std.specs.Map.Calls.{CallableOnEachPair, SomeCallAtPair}
@@ -20,20 +20,21 @@ module _ {F K V : Type 0} (T : F → K → V → Bool → V → F → Type 0) (K
       let more = subst (λ f'. KeepsInOrder T f' es h.3 g) asked.2 h.5 in
       (h.0, h.1, tt, h.3, (asked.0, asked.1), kept-asked es h.3 g more, h.6)
 
-  -- a retain by a closure that writes nothing and stays as it is
+  -- a retain by a closure that writes nothing and does not change
   pub retained-asked : {S : Type 0} (old new : MapState K V S) (g : F) → RetainsInOrder T f old new g
       → KeepsWhere Keeps old new
   retained-asked old new g r =
       record { kept = r.kept; calls = kept-asked old.entries r.kept g r.calls; keeps = r.keeps }
 
-  -- which so stays as it is
+  -- so the closure does not change
   unmoved : (es : List (K × V)) (g : F) → FoldsTo (SomeCallAtPair T) f es g → g ≡ f
   unmoved [] g h = sym h
   unmoved (e ∷ es) g h =
       let same = (asks e.0 e.1 h.1.0 h.1.1 h.0 h.1.2).2 in
       unmoved es g (subst (λ f'. FoldsTo (SomeCallAtPair T) f' es g) same h.2)
 
-  -- may be called on each entry as the calls before have left it, where it may be called on each now
+  -- a closure that may be called on each entry now may be called on each one, in the state that the calls
+  -- before left
   pub callable_on_each : (May : F → K → V → Type 0) (es : List (K × V))
       → ((pair : K × V) → Contains es pair → May f pair.0 pair.1) → CallableOnEachPair T May f es
   callable_on_each May es each = record {

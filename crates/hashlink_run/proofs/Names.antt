@@ -1,4 +1,4 @@
--- What the proofs of this crate import again and again.
+-- What many proofs of this crate import.
 pub use Rattle.hashlink_core.specs.Keyed.{entries_of}
 pub use Rattle.hashlink_history.proofs.Peaks.{within_the_peak}
 pub use Rattle.hashlink_history.specs.Peak.{Length, Passed, PassesInTurn}

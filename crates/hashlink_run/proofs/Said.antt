@@ -1,4 +1,4 @@
--- What a call of a closure returned may be said of the pair that it was shown.
+-- The result of a call of a closure is one that it may return for the pair that it was shown.
 use Rattle.hashlink_run.proofs.Names.{refl, ClosureSays}
 use Rattle.std.specs.Borrow.{Bor}
 use Rattle.std.specs.Fn.{Shared, FnReturns}

@@ -1,4 +1,4 @@
--- Calls of a cache in turn, none of them refused, and what they leave.
+-- Several calls of a cache, none of them refused, and what they leave.
 use Rattle.std.specs.Prelude.{◌≡◌, ℕ, ◌≤◌, Bool, List, [], ◌∷◌, ◌++◌, length, take, Option, Ok}
 use Rattle.std.specs.Map.{lookup, lookup_entry}
 use Rattle.std.specs.Option.{option_map_or}
@@ -14,19 +14,19 @@ use Rattle.hashlink_run.specs.declared.cache_commands.PairCommand.{PairCommand}
 use Rattle.hashlink_run.specs.declared.cache_commands.PairCommand.TheVariants.{Insert, Use, Remove, Peek}
 use Rattle.hashlink_run.specs.Chain.{Chained, after}
 
--- the call of the model that a command to two caches is
+-- a command to two caches, as a call of the model
 abbrev pub event_of : {K V : Type 0} → PairCommand K V → CacheEvent K V
 event_of (Insert k v) = event.Insert k v
 event_of (Use k v) = event.Use k v
 event_of (Remove k) = event.Remove k
 event_of (Peek k) = event.Peek k
 
--- the use of a pair
+-- a pair, as a use
 abbrev pub use_of : {K V : Type 0} → K × V → CacheEvent K V
 use_of pair = event.Use pair.0 pair.1
 
 module _ {K V S : Type 0} (eq : K → K → Bool) where
-  -- one call that was not refused, with its answer
+  -- one call that was not refused, with its result
   abbrev pub EventStep : CacheState K V S → CacheEvent K V → List (Option V) → CacheState K V S → Type 0
   EventStep old (event.Insert k v) answers new =
       (w : Option V) × CacheInserts eq old new k v (Ok w) × (answers ≡ w ∷ [])
@@ -37,8 +37,8 @@ module _ {K V S : Type 0} (eq : K → K → Bool) where
       × (answers ≡ lookup (eq k) old.map.entries ∷ [])
   EventStep old (event.Peek k) answers new = (new ≡ old) × (answers ≡ lookup (eq k) old.map.entries ∷ [])
 
-  -- one call that was refused: it inserts, and the rule lets the insert of its key be refused. Nothing
-  -- changed but the room
+  -- one call that was refused: it inserts, and the insert of its key may be refused. Nothing changed except
+  -- the room
   abbrev pub EventRefused : CacheState K V S → CacheEvent K V → CacheState K V S → Type 0
   EventRefused old (event.Insert k v) new = MayRefuse eq old.map k × OnMap (Grows 1) old new
   EventRefused old (event.Use k v) new = MayRefuse eq old.map k × OnMap (Grows 1) old new
@@ -61,9 +61,9 @@ module _ {K V : Type 0} (eq : K → K → Bool) (cap : ℕ) where
       put_passed es e ++ Length (length (after_event eq cap es e)) ∷ events_passed
       (after_event eq cap es e) events
 
--- calls of an empty cache of capacity c in turn, none refused: their answers and the cache that they leave
--- are those of a chain of steps, and are computed, also after the first n of them; its nodes are within the
--- peak
+-- several calls of an empty cache of capacity c, none refused. A chain of steps has their results and leads
+-- to the cache that they leave; both are computed, even after only the first n calls. The nodes of the cache
+-- are within the peak
 pub record RunsFromEmpty {K V S : Type 0} (eq : K → K → Bool) (s : S) (c : ℕ) (events : List (CacheEvent K V))
     (replies : List (Option V)) (new : CacheState K V S) : Type 0 where
   pub chain : Chained (EventStep eq) (empty_cache s c) events replies new

@@ -1,4 +1,4 @@
--- Lists of commands to a cache: the nodes and the lengths along them, and what is not refused.
+-- Lists of commands to a cache: the nodes and the lengths along them, and which commands are not refused.
 use Rattle.std.specs.Prelude.{◌≡◌, ℕ, ◌+◌, ◌≤◌, ◌<◌, Bool, true, false, cond, List, [], ◌∷◌, ◌++◌, length}
 use Rattle.std.specs.Prelude.{take, drop, slice_get, Some}
 use Rattle.std.specs.List.{AllPass}
@@ -14,12 +14,12 @@ use Rattle.hashlink_run.specs.CacheStep.{CacheRuns, CacheStep, ReadFromCache}
 use Rattle.hashlink_run.specs.CallReplies.{is_refused}
 use Rattle.hashlink_run.specs.Chain.{Answered, ComesTo, after}
 
--- from old, one of the commands may come to show the pair to the closure
+-- starting at old, one of the commands may show the pair to the closure
 pub record ShownByCache {K V B S : Type 0} (eq : K → K → Bool) (Says : K → V → B → Type 0)
     (old : CacheState K V S) (commands : List (CacheCommand K V)) (pair : K × V) : Type 0 where
   pub comes : ComesTo (CacheStep eq Says) (ReadFromCache eq) old commands pair
 
--- whether a command is none of those that set the capacity, give nodes back, or may leave a pair too many
+-- whether a command neither sets the capacity, nor releases nodes, nor may leave a pair beyond the capacity
 abbrev pub leaves_spare : {K V : Type 0} → CacheCommand K V → Bool
 leaves_spare (cache.Entry k step) = false
 leaves_spare (cache.SetCapacity n) = false
@@ -41,7 +41,7 @@ module _ {K V B S : Type 0} where
         cond (is_refused replies) [] (put_passed eq old.cap old.map.entries (event.Use k v))
     command_put old command replies = []
 
-    -- the lengths that a run passes, from `old` on
+    -- the lengths that a run passes, starting at `old`
     abbrev pub cache_passed : CacheState K V S → List (CacheCommand K V)
         → List (Answered (Reply K V B) (CacheState K V S)) → List Passed
     cache_passed old [] answers = []
@@ -50,21 +50,20 @@ module _ {K V B S : Type 0} where
         command_put old command a.replies
         ++ Length (length a.state.map.entries) ∷ cache_passed a.state commands answers
 
-    -- after any of the commands the nodes are within the peak
+    -- after each command the nodes are within the peak
     abbrev pub CacheWithinPeak : CacheState K V S → List (CacheCommand K V)
         → List (Answered (Reply K V B) (CacheState K V S)) → Type 0
     CacheWithinPeak old commands answers = (n : ℕ)
         → node_count (after old answers n).map
         ≤ peak (node_count old.map) (cache_passed old (take n commands) (take n answers))
 
-    -- the command is an insert, or a use that missed, and drops a pair: it came to more than the capacity
+    -- the command is an insert, or a use that missed, and drops a pair because it exceeded the capacity
     abbrev pub DropsPair : CacheState K V S → CacheCommand K V → List (Reply K V B) → Type 0
     DropsPair old command replies =
         (n : ℕ) × (command_put old command replies ≡ Length n ∷ []) × (old.cap < n)
 
-    -- where the command at the place i dropped a pair, and no command from there to the place j set the
-    -- capacity, cleared the cache or named an entry, no insert may be refused then, and the command at j
-    -- hands no pair back
+    -- if the command at index i dropped a pair, and no command from i to j set the capacity, cleared the
+    -- cache or named an entry, then no insert may be refused at j, and the command at index j refuses no pair
     abbrev pub TakesAllAfterADrop : CacheState K V S → List (CacheCommand K V)
         → List (Answered (Reply K V B) (CacheState K V S)) → Type 0
     TakesAllAfterADrop old commands answers =
@@ -74,8 +73,8 @@ module _ {K V B S : Type 0} where
         → ((k : K) → ¬ MayRefuse eq (after old answers j).map k)
         × ((b : Answered _ _) → slice_get answers j ≡ Some b → is_refused b.replies ≡ false)
 
-    -- after an insert and after a use that missed, where they are not refused, the cache is within its
-    -- capacity, whatever it was before
+    -- after an insert or a use that missed, if it was not refused, the cache is within its capacity, whatever
+    -- its length was before
     abbrev pub InsertsFit : CacheState K V S → List (CacheCommand K V)
         → List (Answered (Reply K V B) (CacheState K V S)) → Type 0
     InsertsFit old commands answers =
@@ -83,8 +82,9 @@ module _ {K V B S : Type 0} where
         → slice_get answers i ≡ Some a → command_put (after old answers i) command a.replies ≡ Length n ∷ []
         → IsWithin a.state 0
 
-  -- where the cache is within its capacity and n more, it is so after each command that comes: for n = 0
-  -- while no command names an entry, and above that always. A capacity that is set counts from then on
+  -- a cache that has at most n entries beyond its capacity has at most n after each later command. For n = 0
+  -- this holds as long as no command names an entry, for n above 0 always. If a command sets the capacity,
+  -- the new one counts from then on
   pub record KeepsBounds (old : CacheState K V S) (commands : List (CacheCommand K V))
       (answers : List (Answered (Reply K V B) (CacheState K V S))) : Type 0 where
     pub without_entries : (n i j : ℕ) → i ≤ j → IsWithin (after old answers i) n
@@ -93,8 +93,8 @@ module _ {K V B S : Type 0} where
     pub with_entries : (n i j : ℕ) → i ≤ j → IsWithin (after old answers i) (n + 1)
         → IsWithin (after old answers j) (n + 1)
 
--- from old, the cache may answer the commands by these replies and go on to new, by a chain of steps along
--- which the nodes stay within the peak, nothing is refused after a drop, bounds on the length stay, and
+-- starting at old, the cache may reply to the commands by `replies` and reach `new`, by a chain of steps.
+-- Along it the nodes stay within the peak, nothing is refused after a drop, bounds on the length stay, and
 -- inserts fit
 pub record LawfulCacheRun {K V B S : Type 0} (eq : K → K → Bool) (Says : K → V → B → Type 0)
     (old : CacheState K V S) (commands : List (CacheCommand K V)) (replies : List (Reply K V B))
@@ -106,8 +106,8 @@ pub record LawfulCacheRun {K V B S : Type 0} (eq : K → K → Bool) (Says : K �
   pub fits : InsertsFit eq old commands runs.answers
 
 module _ {K V S : Type 0} where
-  -- what is left of a run: where the cache was within its capacity and n more it is so still, for n = 0 where
-  -- no command named an entry
+  -- what a run keeps: a cache that had at most n entries beyond its capacity still has at most n, for n = 0
+  -- if no command named an entry
   pub record StaysBounded (old : CacheState K V S) (commands : List (CacheCommand K V))
       (new : CacheState K V S) : Type 0 where
     pub without_entries : (n : ℕ) → AllPass names_no_entry commands → IsWithin old n → IsWithin new n

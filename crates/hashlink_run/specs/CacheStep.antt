@@ -1,5 +1,5 @@
--- What a cache answers to a command, and what it goes on to. Of a pair that a command reads, a reply has what
--- `Says` lets be said.
+-- The replies of a cache to a command, and the state that it reaches. If a command reads a pair, the reply
+-- contains a value that `Says` allows for it.
 use Rattle.std.specs.Prelude.{◌≡◌, Bool, List, [], ◌∷◌, Option, Some, Result, MatchResult}
 use Rattle.std.specs.Map.{lookup, lookup_entry}
 use Rattle.hashlink_model.specs.Cache.{CacheState, OnMap, EvictsFront, CacheInserts, CacheGets, CacheUses}
@@ -16,7 +16,7 @@ use Rattle.hashlink_run.specs.Chain.{Answered, Chain, Chained}
 use Rattle.hashlink_run.specs.EntrySteps.{EntrySteps, ReadAtEntry}
 use Rattle.hashlink_run.specs.Reads.{Replies}
 
--- the command, from old, reads the pair
+-- the command, run on old, reads the pair
 abbrev pub CommandReads : {K V S : Type 0} → (K → K → Bool) → CacheState K V S → CacheCommand K V → K × V
     → Type 0
 CommandReads eq old (cache.Use k v) pair = lookup_entry (eq k) old.map.entries ≡ Some pair
@@ -26,13 +26,13 @@ CommandReads eq old (cache.Get k) pair = lookup_entry (eq k) old.map.entries ≡
 CommandReads eq old (cache.Peek k) pair = lookup_entry (eq k) old.map.entries ≡ Some pair
 CommandReads eq old command pair = ⊥
 
--- the same as a record: terms of it are compared by its arguments, and so at little cost
+-- the same as a record: terms of it are compared by its arguments, which is cheap
 pub record ReadFromCache {K V S : Type 0} (eq : K → K → Bool) (old : CacheState K V S)
     (command : CacheCommand K V) (pair : K × V) : Type 0 where
   pub reads : CommandReads eq old command pair
 
 module _ {K V B S : Type 0} (eq : K → K → Bool) (Says : K → V → B → Type 0) where
-  -- from old, the cache may answer the command by these replies and go on to new
+  -- starting at old, the cache may reply to the command by `replies` and reach `new`
   abbrev pub CacheStep : CacheState K V S → CacheCommand K V → List (Reply K V B) → CacheState K V S → Type 0
   CacheStep old (cache.Insert k v) replies new =
       (answer : Result (Option V) (K × V)) × CacheInserts eq old new k v answer
@@ -58,13 +58,13 @@ module _ {K V B S : Type 0} (eq : K → K → Bool) (Says : K → V → B → Ty
       OnMap (λ a b. PopsFront a b (first_of a.entries)) old new
       × (replies ≡ Pair (first_of old.map.entries) ∷ [])
 
-  -- from old, the cache may answer the commands in turn so
+  -- starting at old, the cache may reply to the commands, in order, as `answers` states
   abbrev pub CacheRun : CacheState K V S → List (CacheCommand K V)
       → List (Answered (Reply K V B) (CacheState K V S))
       → Type 0
   CacheRun = Chain CacheStep
 
-  -- and so by these replies, and go on to new
+  -- the same with all replies joined, and with the state at the end
   abbrev pub CacheRuns : CacheState K V S → List (CacheCommand K V) → List (Reply K V B)
       → CacheState K V S → Type 0
   CacheRuns = Chained CacheStep

@@ -1,4 +1,4 @@
--- Chains of steps: each command has its replies, and leads on to a state.
+-- Chains of steps: each command has its replies, and leads to a state.
 use Rattle.std.specs.Prelude.{◌≡◌, ◌⊎◌, ℕ, List, [], ◌∷◌, take}
 use Rattle.std.specs.List.{flat_map}
 
@@ -12,7 +12,7 @@ module _ {R M : Type 0} where
   abbrev pub replies_of : List (Answered R M) → List R
   replies_of answers = flat_map (λ a. a.replies) answers
 
-  -- the state at the end, from `old` on
+  -- the state at the end, starting at `old`
   abbrev pub state_after : M → List (Answered R M) → M
   state_after old [] = old
   state_after old (a ∷ answers) = state_after a.state answers
@@ -22,7 +22,7 @@ module _ {R M : Type 0} where
   after old answers n = state_after old (take n answers)
 
 module _ {C R M : Type 0} (Step : M → C → List R → M → Type 0) where
-  -- from old, the commands may be answered in turn so
+  -- starting at old, the commands may have, in order, the replies and the states of `answers`
   abbrev pub Chain : M → List C → List (Answered R M) → Type 0
   Chain old [] [] = Unit {0}
   Chain old (command ∷ commands) (a ∷ answers) = Step old command a.replies a.state
@@ -30,14 +30,14 @@ module _ {C R M : Type 0} (Step : M → C → List R → M → Type 0) where
   Chain old [] (a ∷ answers) = ⊥
   Chain old (command ∷ commands) [] = ⊥
 
-  -- and so by these replies, and lead on to new
+  -- the same with all replies joined, and with the state at the end
   pub record Chained (old : M) (commands : List C) (replies : List R) (new : M) : Type 0 where
     pub answers : List (Answered R M)
     pub chain : Chain old commands answers
     pub joined : replies ≡ replies_of answers
     pub reached : new ≡ state_after old answers
 
-  -- from old, the commands may be answered in turn so that one of them comes to something of these
+  -- starting at old, the commands may be answered, in order, so that `These` holds for one of them and p
   abbrev pub ComesTo : {P : Type 0} → (M → C → P → Type 0) → M → List C → P → Type 0
   ComesTo These old [] p = ⊥
   ComesTo These old (command ∷ commands) p =

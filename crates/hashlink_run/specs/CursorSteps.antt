@@ -1,4 +1,4 @@
--- What a cursor answers to its steps, and what it goes on to.
+-- The replies of a cursor to its steps, and the state that it reaches.
 use Rattle.std.specs.Prelude.{◌≡◌, ◌⊎◌, ℕ, Bool, List, [], ◌∷◌, ◌++◌, Option, Some, Result}
 use Rattle.hashlink_model.specs.Cursor.{CursorState, at_place, entry_in, place_next, place_previous}
 use Rattle.hashlink_model.specs.Cursor.{InsertsBefore, InsertsAfter}
@@ -23,11 +23,11 @@ ReadByStep old cursor.PeekPrev pair = entry_in old (place_previous old) ≡ Some
 ReadByStep old step pair = ⊥
 
 module _ {K V B S : Type 0} (eq : K → K → Bool) (Says : K → V → B → Type 0) where
-  -- the cursor goes to the place i, and what is there is read
+  -- the cursor goes to index i, and the pair there is read
   abbrev pub GoesAndReads : CursorState K V S → ℕ → List (Reply K V B) → CursorState K V S → Type 0
   GoesAndReads old i replies new = (new ≡ at_place old i) × Replies Says (entry_in old i) replies
 
-  -- the cursor stays, and what is at the place i is read
+  -- the cursor stays, and the pair at index i is read
   abbrev pub Peeks : CursorState K V S → ℕ → List (Reply K V B) → CursorState K V S → Type 0
   Peeks old i replies new = (new ≡ old) × Replies Says (entry_in old i) replies
 
@@ -46,7 +46,7 @@ module _ {K V B S : Type 0} (eq : K → K → Bool) (Says : K → V → B → Ty
       (answer : Result (Option V) (K × V)) × InsertsAfter eq old new k v answer
       × (replies ≡ insert_reply answer ∷ [])
 
-  -- steps in turn, with the replies to all of them
+  -- steps in order, with the replies to all of them
   abbrev pub CursorWalks : CursorState K V S → List (CursorStep K V) → List (Reply K V B)
       → CursorState K V S → Type 0
   CursorWalks old [] replies new = (replies ≡ []) × (new ≡ old)
@@ -54,13 +54,13 @@ module _ {K V B S : Type 0} (eq : K → K → Bool) (Says : K → V → B → Ty
       (first : List (Reply K V B)) × (between : CursorState K V S) × (more : List (Reply K V B))
       × CursorStepped old step first between × CursorWalks between steps more new × (replies ≡ first ++ more)
 
-  -- steps from the first entry on, and the map that they leave
+  -- steps from the first entry, and the map that they leave
   abbrev pub CursorSteps : MapState K V S → List (CursorStep K V) → List (Reply K V B)
       → MapState K V S → Type 0
   CursorSteps old steps replies new =
       (end : CursorState K V S) × CursorWalks (first_place old) steps replies end × (new ≡ end.map)
 
-  -- one of the steps in turn may come to read the pair
+  -- one of the steps, run in order, may read the pair
   abbrev pub ReadOnWalk : CursorState K V S → List (CursorStep K V) → K × V → Type 0
   ReadOnWalk old [] pair = ⊥
   ReadOnWalk old (step ∷ steps) pair =

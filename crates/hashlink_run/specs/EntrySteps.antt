@@ -1,4 +1,4 @@
--- What a map answers to a step on an entry, with the key k in hand, and what it goes on to.
+-- The replies of a map to a step on an entry, with the given key k, and the state that it reaches.
 use Rattle.std.specs.Prelude.{◌≡◌, ℕ, Bool, List, [], ◌∷◌, length, slice_get, None, Some, MatchOption, Result}
 use Rattle.std.specs.Map.{lookup_entry}
 use Rattle.std.specs.Result.{result_map_both}
@@ -14,12 +14,12 @@ use Rattle.hashlink_run.specs.CallReplies.{reply_or_refused}
 use Rattle.hashlink_run.specs.Reads.{Replies, Reads}
 
 module _ {K V B S : Type 0} (Says : K → V → B → Type 0) where
-  -- the entry at the place j moves to the place b, and is read
+  -- the entry at index j moves to index b, and is read
   abbrev pub MovesAndReadsAt : MapState K V S → ℕ → ℕ → List (Reply K V B) → MapState K V S → Type 0
   MovesAndReadsAt old j b replies new =
       MovesAt old new j b × Replies Says (slice_get old.entries j) replies
 
-  -- a step where the key is at the place j
+  -- a step if the key is at index j
   abbrev pub OccupiedStep : MapState K V S → ℕ → K → EntryStep V → List (Reply K V B)
       → MapState K V S → Type 0
   OccupiedStep old j k step.Get replies new = Reads Says old (slice_get old.entries j) replies new
@@ -40,18 +40,18 @@ module _ {K V B S : Type 0} (Says : K → V → B → Type 0) where
       (e : K × V) × TakesEntry old new j e × (replies ≡ Pair (Some e) ∷ [])
 
 module _ {K V B S : Type 0} (eq : K → K → Bool) where
-  -- an insert, with this reply where it is not refused
+  -- an insert, with this reply if it succeeds
   abbrev pub InsertsAbsent : MapState K V S → K → V → Reply K V B → List (Reply K V B)
       → MapState K V S → Type 0
   InsertsAbsent old k v reply replies new =
       (answer : Result (Unit {0}) (K × V)) × VacantInserts eq old new k v answer
       × (replies ≡ reply_or_refused (result_map_both (λ _. reply) (λ pair. pair) answer) ∷ [])
 
-  -- nothing is there
+  -- the key is absent, and nothing changes
   abbrev pub FindsNothing : MapState K V S → Reply K V B → List (Reply K V B) → MapState K V S → Type 0
   FindsNothing old nothing replies new = (new ≡ old) × (replies ≡ nothing ∷ [])
 
-  -- a step where the key is absent
+  -- a step if the key is absent
   abbrev pub VacantStep : MapState K V S → K → EntryStep V → List (Reply K V B) → MapState K V S → Type 0
   VacantStep old k step.Get replies new = FindsNothing old (Seen None) replies new
   VacantStep old k (step.OrInsert v) replies new = InsertsAbsent old k v (Seen None) replies new
@@ -64,7 +64,7 @@ module _ {K V B S : Type 0} (eq : K → K → Bool) where
   VacantStep old k step.Remove replies new = FindsNothing old (Value None) replies new
   VacantStep old k step.RemoveEntry replies new = FindsNothing old (Pair None) replies new
 
-  -- a step at the place of the key, or where it is absent
+  -- a step at the place of the key, or with an absent key
   abbrev pub EntrySteps : (K → V → B → Type 0) → MapState K V S → K → EntryStep V → List (Reply K V B)
       → MapState K V S → Type 0
   EntrySteps Says old k step replies new =

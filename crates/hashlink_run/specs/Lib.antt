@@ -1,4 +1,4 @@
--- What lists of commands do to a map and to caches.
+-- The effect of lists of commands on a map and on caches.
 pub mod CallReplies
 pub mod Reads
 pub mod Keeps

@@ -1,5 +1,5 @@
--- What a reply says of a pair that a command reads: `Says k v b` says that b may be said of the key k with
--- the value v.
+-- The reply to a command that reads a pair: `Says k v b` states that the closure may return b for the key k
+-- and the value v.
 use Rattle.std.specs.Prelude.{◌≡◌, List, [], ◌∷◌, Option, None, Some}
 use Rattle.std.specs.Fn.{Shared, FnReturns}
 use Rattle.std.specs.Borrow.{Bor}
@@ -12,11 +12,11 @@ module _ {F K V B : Type 0} (g : Shared F (Bor K × (Bor V × Unit {0})) B) (f :
   abbrev pub CallableAt : K → V → Type 0
   CallableAt k v = (key : Bor K) (value : Bor V) → key.now ≡ k → value.now ≡ v → g.pre f (key, (value, tt))
 
-  -- f may be called on each of these pairs
+  -- f may be called on each pair for which `These` holds
   abbrev pub CallableOn : (K × V → Type 0) → Type 0
   CallableOn These = (pair : K × V) → These pair → CallableAt pair.0 pair.1
 
--- a call of the closure f at references to k and v may say b
+-- a call of the closure f at references to k and v may return b
 pub record ClosureSays {F K V B : Type 0} (g : Shared F (Bor K × (Bor V × Unit {0})) B) (f : F)
     (k : K) (v : V) (b : B) : Type 0 where
   pub key : Bor K
@@ -25,18 +25,18 @@ pub record ClosureSays {F K V B : Type 0} (g : Shared F (Bor K × (Bor V × Unit
   pub says : FnReturns g f (key, (value, tt)) b
 
 module _ {K V B : Type 0} (Says : K → V → B → Type 0) where
-  -- what may be said of a pair that is read, and nothing where there is none
+  -- what the closure may return for a pair that is read, and nothing if there is none
   abbrev pub SaysOf : Option (K × V) → Option B → Type 0
   SaysOf None None = Unit {0}
   SaysOf (Some pair) (Some said) = Says pair.0 pair.1 said
   SaysOf None (Some said) = ⊥
   SaysOf (Some pair) None = ⊥
 
-  -- the reply says it of the pair
+  -- the reply contains that value
   abbrev pub Replies : Option (K × V) → List (Reply K V B) → Type 0
   Replies pair replies = (said : Option B) × SaysOf pair said × (replies ≡ Seen said ∷ [])
 
-  -- a pair is read where nothing changes
+  -- a pair is read, and nothing changes
   abbrev pub Reads : {S : Type 0} → MapState K V S → Option (K × V) → List (Reply K V B)
       → MapState K V S → Type 0
   Reads old pair replies new = (new ≡ old) × Replies pair replies

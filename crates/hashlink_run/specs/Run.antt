@@ -1,4 +1,4 @@
--- Lists of commands: a run is a chain of steps, and what holds along it.
+-- Lists of commands: a run is a chain of steps. What holds along it.
 use Rattle.std.specs.Prelude.{◌≡◌, ◌⊎◌, ℕ, ◌+◌, ◌<◌, ◌≤◌, Bool, true, false, List, [], ◌∷◌, length, take}
 use Rattle.std.specs.Prelude.{drop, slice_get, Some}
 use Rattle.std.specs.List.{AllPass}
@@ -10,20 +10,20 @@ use Rattle.hashlink_run.specs.declared.replies.Reply.{Reply}
 use Rattle.hashlink_run.specs.CallReplies.{is_refused}
 use Rattle.hashlink_run.specs.Chain.{Answered, Chain, Chained, ComesTo, after}
 use Rattle.hashlink_run.specs.Step.{AskedBy, ReadBy, Step}
-pub use Rattle.hashlink_run.specs.Step.{IsPlain, reply_count}
+pub use Rattle.hashlink_run.specs.Step.{reply_count}
 
 module _ {K V B S : Type 0} (eq : K → K → Bool) (Says : K → V → B → Type 0)
     (Keeps : K → V → Bool → Type 0) where
-  -- from old, the map may answer the commands in turn so
+  -- starting at old, the map may reply to the commands, in order, as `answers` states
   abbrev pub Run : MapState K V S → List (Command K V) → List (Answered (Reply K V B) (MapState K V S))
       → Type 0
   Run = Chain (Step eq Says Keeps)
 
-  -- and so by these replies, and go on to new
+  -- the same with all replies joined, and with the state at the end
   abbrev pub Runs : MapState K V S → List (Command K V) → List (Reply K V B) → MapState K V S → Type 0
   Runs = Chained (Step eq Says Keeps)
 
-  -- from old, the commands may come to show the pair to the closure: one of them reads it, or keeps by it
+  -- starting at old, one of the commands may show the pair to the closure: it reads the pair, or it is a keep
   pub record ShownBy (old : MapState K V S) (commands : List (Command K V)) (pair : K × V) : Type 0 where
     pub comes : ComesTo (Step eq Says Keeps)
         (λ now command pair. ReadBy eq Says now command pair ⊎ AskedBy now command pair) old commands pair
@@ -37,7 +37,7 @@ module _ {K V : Type 0} where
 -- ---- what holds along a run
 
 module _ {K V : Type 0} where
-  -- what a command passes, by the length after it, which is the greatest along the steps of a cursor
+  -- what a command passes, by the length after it; for a cursor this is the greatest length along its steps
   abbrev pub passed_at : Command K V → ℕ → Passed
   passed_at Shrink n = Shrunk n
   passed_at command n = Length n
@@ -57,14 +57,14 @@ module _ {K V B S : Type 0} where
 
   module _ (old : MapState K V S) (commands : List (Command K V))
       (answers : List (Answered (Reply K V B) (MapState K V S))) where
-    -- after any of the commands the nodes are within the peak
+    -- after each command the nodes are within the peak
     abbrev pub StaysWithinPeak : Type 0
     StaysWithinPeak = (n : ℕ)
         → node_count (after old answers n)
         ≤ peak (node_count old) (passed_by (take n commands) (take n answers))
 
-    -- where the map was longer, and no command since gave nodes back, it has a spare node: no insert may be
-    -- refused then, and the command that comes next hands no pair back
+    -- if the map was longer before, and no command since released nodes, a node is free. So no insert may be
+    -- refused then, and the next command refuses no pair
     abbrev pub TakesKeysWhereShorter : (K → K → Bool) → Type 0
     TakesKeysWhereShorter eq =
         (i j : ℕ) → i ≤ j → AllPass keeps_nodes (drop i (take j commands))
@@ -73,8 +73,8 @@ module _ {K V B S : Type 0} where
         × ((k : K) → ¬ MayRefuse eq (after old answers j) k)
         × ((b : Answered _ _) → slice_get answers j ≡ Some b → is_refused b.replies ≡ false)
 
--- from old, the map may answer the commands by these replies and go on to new, by a chain of steps along
--- which the nodes stay within the peak, and a map that is shorter than it was takes keys
+-- starting at old, the map may reply to the commands by `replies` and reach `new`, by a chain of steps. Along
+-- it the nodes stay within the peak, and a map that is shorter than before accepts new keys
 pub record LawfulRun {K V B S : Type 0} (eq : K → K → Bool) (Says : K → V → B → Type 0)
     (Keeps : K → V → Bool → Type 0) (old : MapState K V S) (commands : List (Command K V))
     (replies : List (Reply K V B)) (new : MapState K V S) : Type 0 where

@@ -1,5 +1,5 @@
--- What a map answers to a command, and what it goes on to. Of a pair that a command reads, a reply has what
--- `Says` lets be said, and a keep goes by what `Keeps` lets be answered.
+-- The replies of a map to a command, and the state that it reaches. If a command reads a pair, the reply
+-- contains a value that `Says` allows for it. A keep goes by values that `Keeps` allows.
 use Rattle.std.specs.Prelude.{◌≡◌, ℕ, Bool, List, [], ◌∷◌, length, Option, Some, Result, Contains}
 use Rattle.std.specs.Map.{lookup, lookup_entry}
 use Rattle.std.specs.declared.alloc.AllocError.{AllocError}
@@ -18,19 +18,19 @@ use Rattle.hashlink_run.specs.EntrySteps.{EntrySteps, ReadAtEntry}
 
 module _ {K V B S : Type 0} (eq : K → K → Bool) (Says : K → V → B → Type 0)
     (Keeps : K → V → Bool → Type 0) where
-  -- an insert at the place b
+  -- an insert at index b
   abbrev pub InsertsWith : MapState K V S → K → V → ℕ → List (Reply K V B) → MapState K V S → Type 0
   InsertsWith old k v b replies new =
       (answer : Result (Option V) (K × V)) × Inserts eq old new k v b answer
       × (replies ≡ insert_reply answer ∷ [])
 
-  -- the key's pair moves to the place b, and is read
+  -- the key's pair moves to index b, and is read
   abbrev pub MovesAndReads : MapState K V S → K → ℕ → List (Reply K V B) → MapState K V S → Type 0
   MovesAndReads old k b replies new =
       Moves eq old new k b (lookup (eq k) old.entries)
       × Replies Says (lookup_entry (eq k) old.entries) replies
 
-  -- from old, the map may answer the command by these replies and go on to new
+  -- starting at old, the map may reply to the command by `replies` and reach `new`
   abbrev pub Step : MapState K V S → Command K V → List (Reply K V B) → MapState K V S → Type 0
   Step old (command.Insert k v) replies new = InsertsWith old k v (length old.entries) replies new
   Step old (command.InsertFront k v) replies new = InsertsWith old k v 0 replies new
@@ -61,28 +61,12 @@ module _ {K V B S : Type 0} (eq : K → K → Bool) (Says : K → V → B → Ty
   Step old (command.Cursor steps) replies new = CursorSteps eq Says old steps.items replies new
 
 module _ {K V : Type 0} where
-  -- how many replies a command has: one, and a cursor's steps one each
+  -- the number of replies to a command: one, or one for each step of a cursor
   abbrev pub reply_count : Command K V → ℕ
   reply_count (command.Cursor steps) = length steps.items
   reply_count command = 1
 
-  -- the command is no cursor's and no keep: it has one reply, and asks of no pair
-  abbrev pub IsPlain : Command K V → Type 0
-  IsPlain (command.Cursor steps) = ⊥
-  IsPlain command.Keep = ⊥
-  IsPlain command = Unit {0}
-
-  -- and it reads none
-  abbrev pub IsUnshown : Command K V → Type 0
-  IsUnshown (command.Get k) = ⊥
-  IsUnshown (command.ToFront k) = ⊥
-  IsUnshown (command.ToBack k) = ⊥
-  IsUnshown command.Front = ⊥
-  IsUnshown command.Back = ⊥
-  IsUnshown (command.Entry k step) = ⊥
-  IsUnshown command = IsPlain command
-
--- the command, from old, may come to read the pair
+-- the command, run on old, may read the pair
 abbrev pub ReadBy : {K V B S : Type 0} → (K → K → Bool) → (K → V → B → Type 0) → MapState K V S → Command K V
     → K × V → Type 0
 ReadBy eq Says old (command.Get k) pair = lookup_entry (eq k) old.entries ≡ Some pair
@@ -94,12 +78,12 @@ ReadBy eq Says old (command.Entry k step) pair = ReadAtEntry eq old k step pair
 ReadBy eq Says old (command.Cursor steps) pair = ReadOnWalk eq Says (first_place old) steps.items pair
 ReadBy eq Says old command pair = ⊥
 
--- the command is a keep, and asks of the pair
+-- the command is a keep, and the closure is called on the pair
 abbrev pub KeepAsks : {K V S : Type 0} → MapState K V S → Command K V → K × V → Type 0
 KeepAsks old command.Keep pair = Contains old.entries pair
 KeepAsks old command pair = ⊥
 
--- the same as a record: terms of it are compared by its arguments, and so at little cost
+-- the same as a record: terms of it are compared by its arguments, which is cheap
 pub record AskedBy {K V S : Type 0} (old : MapState K V S) (command : Command K V) (pair : K × V)
     : Type 0 where
   pub asks : KeepAsks old command pair

@@ -1,5 +1,5 @@
--- What a cache with a budget answers to a command, and what it goes on to. Of a value that a command reads, a
--- reply has what `Says` lets be said of the key that was named and that value.
+-- The replies of a cache with a budget to a command, and the state that it reaches. If a command reads a
+-- value, the reply contains what `Says` allows for the command's key and that value.
 use Rattle.std.specs.Prelude.{◌≡◌, Bool, List, [], ◌∷◌, Option, Some, Result, Ok, Err}
 use Rattle.std.specs.Map.{lookup}
 use Rattle.std.specs.Option.{option_map}
@@ -14,7 +14,7 @@ use Rattle.hashlink_run.specs.declared.replies.Reply.{Reply}
 use Rattle.hashlink_run.specs.declared.replies.Reply.TheVariants.{Value, Refused, TooHeavy}
 use Rattle.hashlink_run.specs.Reads.{Replies}
 
--- the reply to an insert: the old value, or the pair handed back
+-- the reply to an insert: the old value, or the refused pair
 abbrev pub weighted_reply : {K V B : Type 0} → Result (Option V) (WeightError K V) → Reply K V B
 weighted_reply (Ok old) = Value old
 weighted_reply (Err (error.TooHeavy pair)) = TooHeavy pair.0 pair.1
@@ -25,18 +25,18 @@ module _ {K V S : Type 0} (eq : K → K → Bool) where
   abbrev pub value_of : WeightedState K V S → K → Option V
   value_of old k = without_weight (lookup (eq k) old.map.entries)
 
-  -- and the key that was named with it
+  -- the command's key with that value
   abbrev pub named_pair : WeightedState K V S → K → Option (K × V)
   named_pair old k = option_map (λ v. (k, v)) (value_of old k)
 
-  -- the command, from old, reads the pair
+  -- the command, run on old, reads the pair
   abbrev pub ReadFromWeighted : WeightedState K V S → WeightedCommand K V → K × V → Type 0
   ReadFromWeighted old (Get k) pair = named_pair old k ≡ Some pair
   ReadFromWeighted old (Peek k) pair = named_pair old k ≡ Some pair
   ReadFromWeighted old command pair = ⊥
 
 module _ {K V B S : Type 0} (eq : K → K → Bool) (Says : K → V → B → Type 0) where
-  -- from old, the cache may answer the command by these replies and go on to new
+  -- starting at old, the cache may reply to the command by `replies` and reach `new`
   abbrev pub WeightedStep : WeightedState K V S → WeightedCommand K V → List (Reply K V B)
       → WeightedState K V S → Type 0
   WeightedStep old (Insert k v weight) replies new =

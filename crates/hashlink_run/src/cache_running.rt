@@ -11,16 +11,15 @@ use hashlink_lru::LruCache;
 use std::alloc::AllocError;
 use std::hash::{BuildHasher, Hash};
 
-/// Runs the commands on the cache in turn and returns the replies, one for each.
+/// Runs the commands on the cache in order and returns the replies, one for each.
 ///
 /// The reply to a command that reads a pair is what `keep` returns for that pair. `keep` has to be callable
-/// on each pair that the commands may come to read. An insert that runs out of memory has a reply that says
-/// so and contains the pair, and the run continues. Each command costs what the method of the cache costs
-/// that it names.
+/// on each pair that the commands may read. If an insert runs out of memory, its reply is `Refused` with the
+/// pair, and the run continues. Each command has the cost of the cache's method that it names.
 ///
 /// Room for all replies is reserved first, from the allocator of the cache. If memory for it runs out, it
-/// returns `AllocError`, the commands are dropped and the cache has not changed. For no command it needs no
-/// memory.
+/// returns `AllocError`, the commands are dropped and the cache has not changed. If there is no command, it
+/// needs no memory.
 pub fn run_cache<K, V, S, F>(
     cache: &mut LruCache<K, V, S>,
     commands: Vec<CacheCommand<K, V>>,
@@ -34,8 +33,8 @@ where
     requires { CallableOn F.Fn keep.now
         (ShownByCache K.eq (ClosureSays F.Fn keep.now) (state_of cache.old) commands.items) }
 
-    // The replies and the state at the end are those of a chain of steps. Along these the nodes stay within
-    // the peak, and none runs out of memory once an insert has evicted a pair. The length stays within a
+    // A chain of steps has the replies and leads to the state at the end. Along it the nodes stay within the
+    // peak, and no command runs out of memory after an insert has evicted a pair. The length stays within a
     // bound by the capacity, and an insert that succeeds brings it within the capacity.
     ensures ran { IfOk result
         (λ replies. LawfulCacheRun K.eq (ClosureSays F.Fn keep.now) (state_of cache.old)
@@ -51,7 +50,7 @@ where
         replies.push_reserved(reply_to_command(cache, command, keep));
     }
 
-    // What `len` says of every cache, that no two keys are equal, is said of this one.
+    // The clauses of `len` state that no two keys are equal, here for this cache.
     cache.len();
     Ok(replies)
 }

@@ -1,19 +1,18 @@
 //! One command to a cache.
 ghost use Rattle.std.specs.Prelude.{◌≡◌, [], ◌∷◌, Some};
-ghost use Rattle.std.specs.Map.{lookup, lookup_entry};
+ghost use Rattle.std.specs.Map.{lookup_entry};
 ghost use Rattle.hashlink_run.specs.declared.cache_commands.CacheCommand.TheVariants.{Use};
 ghost use Rattle.hashlink_lru.specs.Cached.{entries_of, state_of};
-ghost use Rattle.hashlink_model.specs.Cache.{CacheGets};
 ghost use Rattle.hashlink_run.specs.CacheStep.{CacheStep, ReadFromCache};
-ghost use Rattle.hashlink_run.specs.Reads.{CallableOn, ClosureSays, SaysOf};
+ghost use Rattle.hashlink_run.specs.Reads.{CallableOn, ClosureSays};
 
-use crate::{CacheCommand, Reply, insert_reply, reply_of_entry, said_of};
+use crate::{CacheCommand, EntryStep, Reply, insert_reply, reply_of_entry, said_of};
 use hashlink_lru::LruCache;
 use std::hash::{BuildHasher, Hash};
 
-/// Runs the command on the cache and returns its reply. Of a pair that is read, the reply has what the
-/// closure returns, which has to be callable on that pair. It costs what the method costs that the command
-/// names. If an insert fails to allocate, the reply is `Refused` with the pair, and no entry changes.
+/// Runs the command on the cache and returns its reply. If the command reads a pair, the reply contains what
+/// the closure returns for that pair, on which it has to be callable. It has the cost of the method that the
+/// command names. If an insert fails to allocate, the reply is `Refused` with the pair, and no entry changes.
 pub fn answer_cache<K, V, S, B, F>(
     cache: &mut LruCache<K, V, S>,
     command: CacheCommand<K, V>,
@@ -31,8 +30,8 @@ where
     reply_to_command(cache, command, says)
 }
 
-// Does what `answer_cache` does. That its condition has a name makes it a record, which is compared at little
-// cost where the closure is known.
+// Does what `answer_cache` does. Its condition has a name, so it is a record, which is cheap to compare if
+// the closure is known.
 pub(crate) fn reply_to_command<K, V, S, B, F>(
     cache: &mut LruCache<K, V, S>,
     command: CacheCommand<K, V>,
@@ -54,7 +53,7 @@ where
             cache.make_room();
             reply_of_entry(cache.map_mut(), key, step, says)
         }
-        CacheCommand::Get(key) => Reply::Seen(said_of_get(cache, &key, says)),
+        CacheCommand::Get(key) => reply_of_entry(cache.map_mut(), key, EntryStep::ToBack, says),
         CacheCommand::Peek(key) => Reply::Seen(said_of(cache.raw_entry().from_key(&key), says)),
         CacheCommand::Remove(key) => Reply::Value(cache.remove(&key)),
         CacheCommand::SetCapacity(capacity) => {
@@ -70,7 +69,7 @@ where
 }
 
 // Moves the key's pair to the back and returns what the closure returns for it, or inserts the pair if the
-// key is absent.
+// key is absent, and then evicts as an insert does.
 fn answer_use<K, V, S, B, F>(
     cache: &mut LruCache<K, V, S>,
     key: K,
@@ -87,29 +86,10 @@ where
     ensures { CacheStep K.eq (ClosureSays F.Fn says.now) (state_of cache.old) (Use key value) (result ∷ [])
         (state_of cache.new) }
 {
-    match said_of_get(cache, &key, says) {
-        Some(said) => Reply::Seen(Some(said)),
-        None => match cache.insert(key, value) {
-            Ok(_) => Reply::Seen(None),
-            Err((key, value)) => Reply::Refused(key, value),
-        },
+    let before = cache.len();
+    let reply = reply_of_entry(cache.map_mut(), key, EntryStep::OrInsert(value), says);
+    if cache.len() > before {
+        cache.set_capacity(cache.capacity());
     }
-}
-
-// Moves the key's pair to the back, and returns what the closure returns for it.
-fn said_of_get<K, V, S, B, F>(cache: &mut LruCache<K, V, S>, key: &K, says: &F) -> Option<B>
-where
-    K: Eq + Hash,
-    S: BuildHasher,
-    F: Fn(&K, &V) -> B,
-    requires says { CallableOn F.Fn says.now
-        (λ pair. lookup_entry (K.eq key.now) (entries_of cache.old) ≡ Some pair) }
-    ensures gets { CacheGets K.eq (state_of cache.old) (state_of cache.new) key.now
-        (lookup (K.eq key.now) (entries_of cache.old)) }
-    ensures said { SaysOf (ClosureSays F.Fn says.now)
-        (lookup_entry (K.eq key.now) (entries_of cache.old)) result }
-{
-    let said = said_of(cache.raw_entry().from_key(key), says);
-    cache.get(key);
-    said
+    reply
 }

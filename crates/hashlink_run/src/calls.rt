@@ -1,4 +1,4 @@
-//! Calls of caches in turn, which end if memory runs out.
+//! Several calls of caches, which end if memory runs out.
 ghost use Rattle.std.specs.Prelude.{◌≡◌, ◌≤◌, [], ◌∷◌, ◌++◌, map, Option, Ok, IfOk, IsOk, OnOk, OnErr};
 ghost use Rattle.std.specs.Prelude.{MatchResult};
 ghost use Rattle.hashlink_core.specs.Hashing.{default_builder};
@@ -14,8 +14,8 @@ use hashlink_lru::LruCache;
 use std::alloc::{AllocError, Global};
 use std::hash::Hash;
 
-/// Two caches after the same commands, and what each returned for each of them: the old value, the value that
-/// a use hit, the value removed, or the value read.
+/// Two caches after the same commands, and what each returned for each command: the old value, the value that
+/// a use hit, the removed value, or the value that was read.
 #[derive(Drop)]
 pub struct Pair<K: Eq + Hash, V> {
     /// The smaller cache.
@@ -28,19 +28,19 @@ pub struct Pair<K: Eq + Hash, V> {
     pub large_replies: Vec<Option<V>>,
 }
 
-/// A cache after a list of uses, and the value that each of them hit.
+/// A cache after a list of uses, and the value that each use hit.
 #[derive(Drop)]
 pub struct Uses<K: Eq + Hash, V> {
     /// The cache.
     pub cache: LruCache<K, V>,
-    /// What it returned.
+    /// What the cache returned.
     pub replies: Vec<Option<V>>,
 }
 
-/// Runs the commands on two empty caches of these capacities, of which the first is the smaller one.
+/// Runs the commands on two empty caches of the given capacities.
 ///
-/// Each command costs what the method of the cache costs that it names. If memory runs out, for the replies
-/// or for an insert, it returns `AllocError`, and nothing is left of the caches. For no command it needs no
+/// Each command has the cost of the cache's method that it names. If memory runs out, for the replies or for
+/// an insert, it returns `AllocError`, and nothing is left of the caches. If there is no command, it needs no
 /// memory. `small_capacity` has to be at most `large_capacity`.
 pub fn run_pair<K, V>(
     alloc: Global,
@@ -53,18 +53,19 @@ where
     V: Copy,
     requires { small_capacity ≤ large_capacity }
 
-    // The replies of each cache and the state at its end are those of a chain of steps in which no insert
-    // fails.
+    // For each cache, a chain of steps in which no insert fails has the replies and leads to the state at the
+    // end.
     ensures small { IfOk result (λ pair. RunsFromEmpty K.eq default_builder small_capacity
         (map event_of commands.now) pair.small_replies.items (state_of pair.small)) }
     ensures large { IfOk result (λ pair. RunsFromEmpty K.eq default_builder large_capacity
         (map event_of commands.now) pair.large_replies.items (state_of pair.large)) }
 
-    // The smaller cache holds an end of the larger one's keys, and found nothing that the larger one did not.
+    // The smaller cache holds an end of the larger one's keys, and found no value that the larger one did not
+    // find.
     ensures inclusion { IfOk result (λ pair. Includes K.eq (map event_of commands.now) (entries_of pair.small)
         (entries_of pair.large) pair.small_replies.items pair.large_replies.items) }
 
-    // Each cache holds and found what the history of uses says.
+    // Each cache holds and found what the history of uses implies.
     ensures small_history { IfOk result
         (λ pair. FollowsHistory K.eq (map event_of commands.now) small_capacity
         (entries_of pair.small) pair.small_replies.items) }
@@ -85,10 +86,10 @@ where
     })
 }
 
-/// Runs a use of each pair in turn on an empty cache of this capacity: a hit of `get`, or an insert.
+/// Runs a use of each pair in order on an empty cache of this capacity: a `get` and, if it misses, an insert.
 ///
-/// Each use costs what these methods cost. If memory runs out, for the replies or for an insert, it returns
-/// `AllocError`, and nothing is left of the cache. For no use it needs no memory.
+/// Each use costs what both methods cost. If memory runs out, for the replies or for an insert, it returns
+/// `AllocError`, and nothing is left of the cache. If there is no use, it needs no memory.
 pub fn run_uses<K, V>(
     alloc: Global,
     capacity: usize,
@@ -97,12 +98,12 @@ pub fn run_uses<K, V>(
 where
     K: Eq + Hash + Copy,
     V: Copy,
-    // The replies and the state at the end are those of a chain of steps in which no insert fails.
+    // A chain of steps in which no insert fails has the replies and leads to the state at the end.
     ensures ran { IfOk result (λ uses. RunsFromEmpty K.eq default_builder capacity (map use_of pairs.now)
         uses.replies.items (state_of uses.cache)) }
 
-    // The cache holds and found what the history of the uses says. It missed as often as that says, and not
-    // many times more than any other rule of replacement would.
+    // The cache holds and found what the history of the uses implies. It missed as often as that implies, and
+    // not many times more than any other replacement policy would.
     ensures history { IfOk result (λ uses. FollowsHistory K.eq (map use_of pairs.now) capacity
         (entries_of uses.cache) uses.replies.items) }
     ensures misses { IfOk result (λ uses. MissesOfHistory K.eq capacity (map (λ p. p.0) pairs.now)
@@ -141,7 +142,7 @@ where
     Ok((cache, replies))
 }
 
-// Runs the command on the cache, and pushes what the method returns.
+// Runs the command on the cache, and pushes the method's result.
 fn push_answer<K, V>(
     cache: &mut LruCache<K, V>,
     command: PairCommand<K, V>,
@@ -158,10 +159,10 @@ where
     Ok(())
 }
 
-/// Runs the command on the cache and returns what the method returns that it names. It costs what that method
-/// costs.
+/// Runs the command on the cache and returns the result of the method that it names. It has the cost of that
+/// method.
 ///
-/// If it inserts, the key is absent, no node is spare and an allocation fails, it returns `AllocError`, and
+/// If it inserts, the key is absent, no node is free and an allocation fails, it returns `AllocError`, and
 /// nothing has changed; the room may have grown.
 pub fn answer_call<K, V>(
     cache: &mut LruCache<K, V>,
@@ -184,7 +185,7 @@ where
     }
 }
 
-// Returns the answer of an insert, without the pair that a failed one hands back.
+// Returns the result of an insert, without the pair that a failed insert returns.
 fn without_pair<K: Copy, V: Copy>(
     answer: Result<Option<V>, (K, V)>,
 ) -> Result<Option<V>, AllocError>
@@ -196,8 +197,7 @@ fn without_pair<K: Copy, V: Copy>(
     }
 }
 
-// Returns the value that the key has, and moves its entry to the back, or inserts the pair if the key is
-// absent.
+// Returns the value of the key and moves its entry to the back, or inserts the pair if the key is absent.
 fn use_pair<K, V>(cache: &mut LruCache<K, V>, key: K, value: V) -> Result<Option<V>, (K, V)>
 where
     K: Eq + Hash + Copy,

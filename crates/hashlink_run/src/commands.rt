@@ -1,4 +1,4 @@
-//! One command to a map, and how a map answers it.
+//! One command to a map, and how a map runs it.
 ghost use Rattle.std.specs.Prelude.{◌≡◌, ◌+◌, ◌≤◌, ◌++◌, [], ◌∷◌, List, OnOk, OnErr, IsOk, Some};
 ghost use Rattle.std.specs.Prelude.{length, vec_len, vec_capacity};
 ghost use Rattle.std.specs.Map.{lookup, lookup_entry};
@@ -11,7 +11,7 @@ ghost use Rattle.hashlink_model.specs.Steps.{Moves};
 ghost use Rattle.hashlink_run.specs.Keeps.{IsEntryOf, KeepsWhere};
 ghost use Rattle.hashlink_run.specs.Reads.{CallableAt, CallableOn, ClosureSays, SaysOf};
 ghost use Rattle.hashlink_run.specs.CallReplies.{insert_reply, shrink_reply};
-ghost use Rattle.hashlink_run.specs.Step.{AskedBy, IsPlain, IsUnshown, ReadBy, Step, reply_count};
+ghost use Rattle.hashlink_run.specs.Step.{AskedBy, ReadBy, Step, reply_count};
 
 use crate::Reply;
 use crate::cursors::walk_cursor;
@@ -31,9 +31,9 @@ pub enum Command<K, V> {
     Replace(K, V),
     /// Reads the key's pair.
     Get(K),
-    /// Removes the key's pair, for its value.
+    /// Removes the key's pair, and returns its value.
     Remove(K),
-    /// Removes the key's pair.
+    /// Removes the key's pair, and returns it.
     RemoveEntry(K),
     /// Removes the first pair.
     PopFront,
@@ -47,7 +47,7 @@ pub enum Command<K, V> {
     Front,
     /// Reads the last pair.
     Back,
-    /// Asks how many pairs there are.
+    /// Returns the number of pairs.
     Len,
     /// Drops every pair and frees its node.
     Clear,
@@ -56,13 +56,14 @@ pub enum Command<K, V> {
     /// Removes every pair for which the run's closure returns false. The others keep their values and their
     /// order.
     Keep,
-    /// Looks the key up, and does this with the given key.
+    /// Looks the key up, and makes this step with the given key.
     Entry(K, EntryStep<V>),
-    /// Sets a cursor on the first pair, or on the guard if there is none, and does these with it in turn.
+    /// Sets a cursor on the first pair, or on the guard if there is none, and makes the given steps with it
+    /// in order.
     Cursor(Vec<CursorStep<K, V>>),
 }
 
-/// What is done at the place of a key, with the given key: at the key's pair, or where the key is absent.
+/// A step at the place of a key, with the given key: at the key's pair, or for an absent key.
 #[derive(Clone, Copy, Debug, PartialEq, Eq, Drop)]
 pub enum EntryStep<V> {
     /// Reads the pair.
@@ -82,13 +83,13 @@ pub enum EntryStep<V> {
     ToFront,
     /// Moves the pair to the back, and reads it.
     ToBack,
-    /// Removes the pair, for its value.
+    /// Removes the pair, and returns its value.
     Remove,
     /// Removes the pair.
     RemoveEntry,
 }
 
-/// What is done with a cursor, which stands on a pair or on the guard between the last pair and the first.
+/// A step of a cursor, which is on a pair, or on the guard between the last pair and the first.
 #[derive(Clone, Copy, Debug, PartialEq, Eq, Drop)]
 pub enum CursorStep<K, V> {
     /// Moves to the next place, and reads the pair there.
@@ -107,9 +108,9 @@ pub enum CursorStep<K, V> {
     After(K, V),
 }
 
-/// Runs the command on the map and pushes its replies. Of a pair that is read, the reply has what `says`
-/// returns. `keep` chooses the pairs that a keep leaves. Each has to be callable on the pairs that it may
-/// come to be shown. It costs what the method costs that the command names.
+/// Runs the command on the map and pushes its replies. If the command reads a pair, the reply contains what
+/// `says` returns for it. `keep` chooses the pairs that `Command::Keep` keeps. Each has to be callable on the
+/// pairs that it may be shown. It has the cost of the method that the command names.
 ///
 /// Room for all replies to the command is reserved first. If the vector of replies has no room for them and
 /// cannot grow, it returns `AllocError`, the command is dropped, and neither the map nor the vector has
@@ -171,12 +172,42 @@ where
     ensures capacity { vec_capacity replies.new ≡ vec_capacity replies.old }
 {
     match command {
-        Command::Cursor(steps) => walk_cursor(map, steps, says, replies),
+        Command::Insert(key, value) => {
+            replies.push_reserved(insert_reply(map.insert(key, value)));
+        }
+        Command::InsertFront(key, value) => {
+            replies.push_reserved(insert_reply(map.insert_front(key, value)));
+        }
+        Command::Replace(key, value) => {
+            replies.push_reserved(insert_reply(map.replace(key, value)));
+        }
+        Command::Get(key) => {
+            replies.push_reserved(Reply::Seen(said_of(map.get_key_value(&key), says)));
+        }
+        Command::Remove(key) => replies.push_reserved(Reply::Value(map.remove(&key))),
+        Command::RemoveEntry(key) => replies.push_reserved(Reply::Pair(map.remove_entry(&key))),
+        Command::PopFront => replies.push_reserved(Reply::Pair(map.pop_front())),
+        Command::PopBack => replies.push_reserved(Reply::Pair(map.pop_back())),
+        Command::ToFront(key) => {
+            replies.push_reserved(reply_of_entry(map, key, EntryStep::ToFront, says));
+        }
+        Command::ToBack(key) => {
+            replies.push_reserved(reply_of_entry(map, key, EntryStep::ToBack, says));
+        }
+        Command::Front => replies.push_reserved(Reply::Seen(said_of(map.front(), says))),
+        Command::Back => replies.push_reserved(Reply::Seen(said_of(map.back(), says))),
+        Command::Len => replies.push_reserved(Reply::Length(map.len())),
+        Command::Clear => {
+            map.clear();
+            replies.push_reserved(Reply::Done);
+        }
+        Command::Shrink => replies.push_reserved(shrink_reply(map.shrink_to_fit())),
         Command::Keep => {
             keep_where(map, keep);
             replies.push_reserved(Reply::Done);
         }
-        command => replies.push_reserved(reply_to(map, command, says)),
+        Command::Entry(key, step) => replies.push_reserved(reply_of_entry(map, key, step, says)),
+        Command::Cursor(steps) => walk_cursor(map, steps, says, replies),
     }
 }
 
@@ -187,65 +218,6 @@ pub fn reply_count<K, V>(command: &Command<K, V>) -> usize
     match command {
         Command::Cursor(steps) => steps.len(),
         _ => 1,
-    }
-}
-
-// Runs the command on the map, which is no cursor's and no keep, and returns its reply.
-fn reply_to<K, V, S, B, F>(
-    map: &mut LinkedHashMap<K, V, S>,
-    command: Command<K, V>,
-    says: &F,
-) -> Reply<K, V, B>
-where
-    K: Eq + Hash + Drop,
-    V: Drop,
-    S: BuildHasher,
-    F: Fn(&K, &V) -> B,
-    requires plain { IsPlain command }
-    requires says { CallableOn F.Fn says.now
-        (ReadBy K.eq (ClosureSays F.Fn says.now) (state_of map.old) command) }
-    ensures { Step K.eq (ClosureSays F.Fn says.now) (λ k v keeps. ⊥) (state_of map.old) command
-        (result ∷ []) (state_of map.new) }
-{
-    match command {
-        Command::Get(key) => Reply::Seen(said_of(map.get_key_value(&key), says)),
-        Command::ToFront(key) => Reply::Seen(to_front(map, &key, says)),
-        Command::ToBack(key) => Reply::Seen(to_back(map, &key, says)),
-        Command::Front => Reply::Seen(said_of(map.front(), says)),
-        Command::Back => Reply::Seen(said_of(map.back(), says)),
-        Command::Entry(key, step) => reply_of_entry(map, key, step, says),
-        command => reply_unshown(map, command),
-    }
-}
-
-// Runs the command on the map, which shows no pair to a closure, and returns its reply.
-fn reply_unshown<K, V, S, B>(
-    map: &mut LinkedHashMap<K, V, S>,
-    command: Command<K, V>,
-) -> Reply<K, V, B>
-where
-    K: Eq + Hash + Drop,
-    V: Drop,
-    S: BuildHasher,
-    requires unshown { IsUnshown command }
-    ensures { Step K.eq (λ k v said. ⊥) (λ k v keeps. ⊥) (state_of map.old) command (result ∷ [])
-        (state_of map.new) }
-{
-    match command {
-        Command::Insert(key, value) => insert_reply(map.insert(key, value)),
-        Command::InsertFront(key, value) => insert_reply(map.insert_front(key, value)),
-        Command::Replace(key, value) => insert_reply(map.replace(key, value)),
-        Command::Remove(key) => Reply::Value(map.remove(&key)),
-        Command::RemoveEntry(key) => Reply::Pair(map.remove_entry(&key)),
-        Command::PopFront => Reply::Pair(map.pop_front()),
-        Command::PopBack => Reply::Pair(map.pop_back()),
-        Command::Len => Reply::Length(map.len()),
-        Command::Clear => {
-            map.clear();
-            Reply::Done
-        }
-        Command::Shrink => shrink_reply(map.shrink_to_fit()),
-        _ => unreachable!(),
     }
 }
 
@@ -269,8 +241,8 @@ where
     );
 }
 
-// Does what the map's `retain` does. That its condition has a name makes it a record, which is compared at
-// little cost where the closure is known.
+// Does what the map's `retain` does. Its condition has a name, so it is a record, which is cheap to compare
+// if the closure is known.
 fn retain_by<K, V, S, F>(map: &mut LinkedHashMap<K, V, S>, keep: F)
 where
     K: Eq + Hash + Drop,
@@ -315,42 +287,4 @@ where
 {
     let (key, value) = pair?;
     Some(says(key, value))
-}
-
-// Moves the key's pair to the front, and returns what the closure returns for it.
-fn to_front<K, V, S, B, F>(map: &mut LinkedHashMap<K, V, S>, key: &K, says: &F) -> Option<B>
-where
-    K: Eq + Hash,
-    S: BuildHasher,
-    F: Fn(&K, &V) -> B,
-    requires says { CallableOn F.Fn says.now
-        (λ pair. lookup_entry (K.eq key.now) (entries_of map.old) ≡ Some pair) }
-    ensures moved { Moves K.eq (state_of map.old) (state_of map.new) key.now 0
-        (lookup (K.eq key.now) (entries_of map.old)) }
-    ensures said { SaysOf (ClosureSays F.Fn says.now)
-        (lookup_entry (K.eq key.now) (entries_of map.old)) result }
-{
-    match map.to_front(key) {
-        Some(_value) => said_of(map.front(), says),
-        None => None,
-    }
-}
-
-// Moves the key's pair to the back, and returns what the closure returns for it.
-fn to_back<K, V, S, B, F>(map: &mut LinkedHashMap<K, V, S>, key: &K, says: &F) -> Option<B>
-where
-    K: Eq + Hash,
-    S: BuildHasher,
-    F: Fn(&K, &V) -> B,
-    requires says { CallableOn F.Fn says.now
-        (λ pair. lookup_entry (K.eq key.now) (entries_of map.old) ≡ Some pair) }
-    ensures moved { Moves K.eq (state_of map.old) (state_of map.new) key.now (length (entries_of map.old))
-        (lookup (K.eq key.now) (entries_of map.old)) }
-    ensures said { SaysOf (ClosureSays F.Fn says.now)
-        (lookup_entry (K.eq key.now) (entries_of map.old)) result }
-{
-    match map.to_back(key) {
-        Some(_value) => said_of(map.back(), says),
-        None => None,
-    }
 }

@@ -10,8 +10,8 @@ use hashlink_map::{Entry, LinkedHashMap, OccupiedEntry};
 use std::hash::{BuildHasher, Hash};
 
 /// Runs the step at the key's place in the map, with the given key, and returns its reply. `says` has to be
-/// callable on the pair that the step reads. It costs what the methods of an entry cost that the step names.
-/// If it fails to allocate, it replies `Refused` with the pair.
+/// callable on the pair that the step reads. It has the cost of the entry's methods that the step names. If
+/// it fails to allocate, it replies `Refused` with the pair.
 pub fn reply_of_entry<K, V, S, B, F>(
     map: &mut LinkedHashMap<K, V, S>,
     key: K,
@@ -27,8 +27,8 @@ where
     ensures { EntrySteps K.eq (ClosureSays F.Fn says.now) (state_of map.old) key step (result ∷ [])
         (state_of map.new) }
 {
-    // An occupied entry that no method has consumed ends by its `into_key`: if it went out of scope with a
-    // key of any type, nothing would be known of the map.
+    // If no method has consumed an occupied entry, `into_key` ends it. If it went out of scope with a key of
+    // any type, the proof would know nothing about the map.
     match map.entry(key) {
         Entry::Occupied(mut entry) => match step {
             EntryStep::Get => Reply::Seen(Some(said_of_entry(entry, says))),
@@ -51,7 +51,8 @@ where
             EntryStep::Remove => Reply::Value(Some(entry.remove())),
             EntryStep::RemoveEntry => Reply::Pair(Some(entry.remove_entry())),
         },
-        // What an insert lends or hands back is bound whole, so that it is known what becomes of the map.
+        // The loan or the pair that an insert returns is bound as a whole, so that the proof knows what
+        // becomes of the map.
         Entry::Vacant(entry) => match step {
             EntryStep::Get | EntryStep::ToFront | EntryStep::ToBack => Reply::Seen(None),
             EntryStep::OrInsert(value) => match entry.insert(value) {

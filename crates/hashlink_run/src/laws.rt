@@ -1,5 +1,5 @@
-//! What holds of every run that the definitions allow, and what a keep leaves. Each function has an empty
-//! body: its contract is the statement.
+//! What holds for every run that the definitions allow, and what a keep leaves. Each function has an empty
+//! body: its contract is the theorem.
 ghost use Rattle.std.specs.Prelude.{◌≡◌, ◌≤◌, ℕ, Bool, List, [], filter};
 ghost use Rattle.hashlink_model.specs.Cache.{CacheState};
 ghost use Rattle.hashlink_history.specs.CacheRuns.{CacheEvent, after_events, answers};
@@ -17,8 +17,8 @@ ghost use Rattle.hashlink_run.specs.Reads.{ClosureSays};
 ghost use Rattle.hashlink_run.specs.Run.{Run, StaysWithinPeak, TakesKeysWhereShorter};
 ghost use Rattle.hashlink_run.specs.Step.{Step};
 
-/// Of any calls of two empty caches, and so after each one of a list of them: the smaller cache holds an end
-/// of the larger one's keys, and each holds and found what the history of uses says.
+/// For any calls of two empty caches, and so after each call in a list of them: the smaller cache holds an
+/// end of the larger one's keys, and each holds and found what the history of uses implies.
 pub fn calls_of_two_caches<K: Eq, V>()
     ensures inclusion { (c d : ℕ) → c ≤ d → (events : List (CacheEvent K V))
         → Includes K.eq events (after_events K.eq c [] events) (after_events K.eq d [] events)
@@ -27,8 +27,8 @@ pub fn calls_of_two_caches<K: Eq, V>()
         → FollowsHistory K.eq events c (after_events K.eq c [] events) (answers K.eq c [] events) }
 {}
 
-/// Of any chain of a map's steps: the nodes stay within the peak. If the map was longer, and has freed no
-/// node since, it has a spare node.
+/// For any chain of a map's steps: the nodes stay within the peak. If the map was longer, and has freed no
+/// node since, it has a free node.
 pub fn runs_of_a_map<K: Eq, V, S, F: Fn(&K, &V) -> bool>()
     ensures within_peak { (f : F) (old : MapState K V S) (commands : List (Command K V))
         (answers : List (Answered _ _))
@@ -40,9 +40,9 @@ pub fn runs_of_a_map<K: Eq, V, S, F: Fn(&K, &V) -> bool>()
         → TakesKeysWhereShorter old commands answers K.eq }
 {}
 
-/// Of any chain of a cache's steps: the nodes stay within the peak, and none runs out of memory once an
-/// insert has evicted a pair. The length stays within a bound by the capacity, and an insert brings it within
-/// the capacity.
+/// For any chain of a cache's steps: the nodes stay within the peak, and no command runs out of memory after
+/// an insert has evicted a pair. The length stays within a bound by the capacity, and an insert brings it
+/// within the capacity.
 pub fn runs_of_a_cache<K: Eq, V, S, F: Fn(&K, &V) -> bool>()
     ensures within_peak { (f : F) (old : CacheState K V S) (commands : List (CacheCommand K V))
         (answers : List (Answered _ _)) → CacheRun K.eq (ClosureSays F.Fn f) old commands answers

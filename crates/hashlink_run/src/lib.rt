@@ -1,5 +1,5 @@
-//! Single commands to a map and to each kind of cache, and lists of commands to a map, to a cache and to two
-//! caches, with what holds of every run.
+//! Single commands to a map and to each kind of cache; lists of commands to a map, to a cache and to two
+//! caches; and what holds for every run.
 #![tactic(auto)]
 
 mod cache_commands;

@@ -12,18 +12,17 @@ use hashlink_map::LinkedHashMap;
 use std::alloc::AllocError;
 use std::hash::{BuildHasher, Hash};
 
-/// Runs the commands on the map in turn and returns the replies: one for each, and one for each step of a
+/// Runs the commands on the map in order and returns the replies: one for each, and one for each step of a
 /// cursor.
 ///
 /// The reply to a command that reads a pair is what `keep` returns for that pair. `Command::Keep` removes the
-/// pairs for which it returns false. `keep` has to be callable on each pair that the commands may come to
-/// show it. An insert that runs out of memory has a reply that says so and contains the pair. A shrink that
-/// runs out of memory has one too, and the run continues. Each command costs what the method of the map costs
-/// that it names.
+/// pairs for which it returns false. `keep` has to be callable on each pair that the commands may show it. If
+/// an insert runs out of memory, its reply is `Refused` with the pair; if a shrink does, its reply is
+/// `Denied`; the run continues. Each command has the cost of the map's method that it names.
 ///
 /// Room for all replies is reserved first, from the allocator of the map. If memory for it runs out, or if
 /// their number is above `usize::MAX`, it returns `AllocError`, the commands are dropped and the map has not
-/// changed. For no reply it needs no memory.
+/// changed. If there is no reply, it needs no memory.
 pub fn run<K, V, S, F>(
     map: &mut LinkedHashMap<K, V, S>,
     commands: Vec<Command<K, V>>,
@@ -38,8 +37,8 @@ where
         (ShownBy K.eq (ClosureSays F.Fn keep.now) (ClosureSays F.Fn keep.now) (state_of map.old)
         commands.items) }
 
-    // The replies and the state at the end are those of a chain of steps. Along these the nodes stay within
-    // the peak. A map that was longer, and has freed no node since, has a spare node, and the next command's
+    // A chain of steps has the replies and leads to the state at the end. Along it the nodes stay within the
+    // peak. A map that was longer, and has freed no node since, has a free node, and the next command's
     // insert cannot fail.
     ensures ran { IfOk result
         (λ replies. LawfulRun K.eq (ClosureSays F.Fn keep.now) (ClosureSays F.Fn keep.now) (state_of map.old)
@@ -47,7 +46,7 @@ where
     ensures refused { OnErr result (map.new ≡ map.old) }
     ensures none { reply_total commands.items ≡ 0 → IsOk result }
 
-    // So a map that is left shorter than it was, by commands that freed no node, has a spare node.
+    // So a map that is left shorter than it was, by commands that freed no node, has a free node.
     ensures spare { OnOk result (AllPass keeps_nodes commands.items
         → length (entries_of map.new) < length (entries_of map.old) → 1 ≤ (state_of map.new).spare) }
     ensures distinct { OnOk result (IsEntries K.eq (entries_of map.new)) }
@@ -57,7 +56,7 @@ where
         answer_in_room(map, command, keep, keep, &mut replies);
     }
 
-    // What `len` says of every map, that no two keys are equal, is said of this one.
+    // The clauses of `len` state that no two keys are equal, here for this map.
     map.len();
     Ok(replies)
 }

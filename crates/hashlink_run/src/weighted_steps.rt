@@ -8,9 +8,9 @@ use crate::{Reply, WeightedCommand};
 use hashlink_weighted::{WeightError, WeightedCache};
 use std::hash::{BuildHasher, Hash};
 
-/// Runs the command on the cache and returns its reply. Of a value that is read, the reply has what the
-/// closure returns for the key of the command and that value, on which it has to be callable. It costs what
-/// the method costs that the command names. If an insert is too heavy or fails to allocate, the reply is
+/// Runs the command on the cache and returns its reply. If the command reads a value, the reply contains what
+/// the closure returns for the command's key and that value, on which it has to be callable. It has the cost
+/// of the method that the command names. If an insert is too heavy or fails to allocate, the reply is
 /// `TooHeavy` or `Refused` with the pair, and no entry changes.
 pub fn answer_weighted<K, V, S, B, F>(
     cache: &mut WeightedCache<K, V, S>,

@@ -1,4 +1,4 @@
--- What std's `copied` gave and read, said of the references that it copied.
+-- What std's `copied` gave and read, in terms of the references that it copied.
 use Rattle.hashlink_set.proofs.Names.{◌≡◌, List, map, Option, None, Some, sym, Bor, deref, option_copied}
 use Rattle.std.proofs.lemmas.Option.{none-some, same_Some}
 use Rattle.std.specs.Iterator.Adapters.{copied_source, copied_steps}

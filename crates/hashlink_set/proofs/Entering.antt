@@ -1,4 +1,4 @@
--- The elements after an insert and a replace, by their answers.
+-- The elements after an insert and a replace, by their results.
 use Rattle.std.proofs.Common.{◌≡◌, Bool, not, length, Option, Result, Ok, Err, refl, sym, ◌∙◌}
 use Rattle.std.specs.Prelude.{IfOk, IsOk, IsTrue, OnOk}
 use Rattle.std.specs.List.{find}

@@ -5,7 +5,7 @@ use Rattle.hashlink_map.proofs.Outcomes.{removes_entries}
 use Rattle.hashlink_model.proofs.SetElements.{keys-remove_entry}
 
 module _ {T S : Type 0} (old new : SetState T S) (test : T → Bool) where
-  -- goal: the elements after a removal, also where none was found
+  -- goal: the elements after a removal, even if none was found
   pub removes_match_elements : (r : Option (T × Unit {0})) → RemovesMatch test old new r
       → elements_of new ≡ remove_key test (elements_of old)
   removes_match_elements r s =

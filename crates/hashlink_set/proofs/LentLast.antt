@@ -1,4 +1,4 @@
--- What a set ends as whose last element was lent, from the steps before. Assumes `Logic`.
+-- The state in which a set ends after its last element was lent, from the steps before. Assumes `Logic`.
 use Rattle.hashlink_set.proofs.Names.{◌≡◌, Option, None, Some, Ok, Err, Result, Bool, [], ◌∷◌, refl, sym, ap}
 use Rattle.hashlink_set.proofs.Names.{subst, ◌∙◌, SProp, ent, sep, emp, fact, fact_i, sem, ‵, raw, ◌⊛◌, ◌$◌}
 use Rattle.hashlink_set.proofs.Names.{◌∵◌, !, qed, move, join, split, use0, fpick, Lfts, RattleType, IfOk}
@@ -18,7 +18,7 @@ use Rattle.std.specs.Result.{result_err}
 use Rattle.hashlink_set.proofs.Stored.{inserted_last}
 
 module _ {M : Type 1} (𝓤 : Ura M) (A B C : Type 0) where
-  -- what a call asks: three facts on lifetimes, and R
+  -- what a call requires: three facts on lifetimes, and R
   abbrev pub Asks : SProp 𝓤 → SProp 𝓤
   Asks R = sep 𝓤 (fact 𝓤 A) (sep 𝓤 (fact 𝓤 B) (sep 𝓤 (fact 𝓤 C) R))
 
@@ -32,7 +32,7 @@ module _ {M : Type 1} {𝓤 : Ura M} (𝓛 : Logic 𝓤) (R : RattleType) (P P' 
   abbrev So : GName → (R.Denot → Type 0) → Fml
   So n Q = follows_so R R n none (λ _ _. ⊤) Q
 
-  -- what ends as one of these ends as one of those
+  -- a set that ends as P allows also ends as P' allows
   pub ends_so : (n n' : GName) → n ≡ n' → ((new : R.Denot) → P new → P' new)
       → ent 𝓤 (sem 𝓛 (So n P)) (sem 𝓛 (So n' P'))
   unfolding follows_by such_by
@@ -44,8 +44,8 @@ module _ {M : Type 1} {𝓤 : Ura M} (𝓛 : Logic 𝓤) (R : RattleType) (P P' 
       $ done !))
 
 module _ {M : Type 1} {𝓤 : Ura M} (𝓛 : Logic 𝓤) (κs : Lfts 6) (qs : Shares 6) where
-  -- the lifetimes that remain once an element was made: neither that of the one given, nor that of the
-  -- closure
+  -- the lifetimes that remain after an element was made: those of the given element and of the closure have
+  -- ended
   abbrev pub lifetimes_left : Lfts 4
   lifetimes_left = (κs.0, (κs.1.1.0, (κs.1.1.1.0, (κs.1.1.1.1.0, tt))))
 
@@ -83,14 +83,14 @@ module _ {M : Type 1} {𝓤 : Ura M} (𝓛 : Logic 𝓤) (κs : Lfts 6) (qs : Sh
       move ! (2 ∷ 0 ∷ []) $ join ! $ move ! (1 ∷ 0 ∷ []) $ join ! $ move ! (1 ∷ 0 ∷ []) $ join ! $ done !
 
 module _ {T S : Type 0} (eq : T → T → Bool) (old new : SetState T S) (t : T) where
-  -- where nothing was refused, there is a last element
+  -- if nothing was refused, there is a last element
   pub there_is_last : (y : Option T) (o : Option (Bor T)) → PutsElement eq old new t y
       → option_copied o ≡ last_of (elements_of new) → y ≡ None → IsSome o
   there_is_last None None s is empty = absurd (cc (is, inserted_last eq old new t s.0 s.1))
   there_is_last None (Some x) s is empty = refl
   there_is_last (Some y) o s is empty = absurd (cc)
 
-  -- the answer is that of an insert
+  -- the result is that of an insert
   pub answers_insert : (y : Option T) (o : Option (Bor T)) (a : Result (Bor T) T) → PutsElement eq old new t y
       → option_copied o ≡ last_of (elements_of new)
       → IfOk a (λ x. (y ≡ None) × (option_copied o ≡ Some x.now)) → IfErr a (λ x. y ≡ Some x)
@@ -111,9 +111,9 @@ module _ {T S : Type 0} (eq : T → T → Bool) (old new : SetState T S) (t : T)
   is_given (Ok x) s = tt
   is_given (Err x) s = ap (λ e. e.0) s.handed_back
 
--- the same where a closure may make these
+-- the same for the elements that a closure may make
 module _ {T S : Type 0} (eq : T → T → Bool) (Makes : T → Type 0) (old new : SetState T S) (t : T) where
-  -- what was made and refused, from an answer that has it
+  -- the element that was made and refused, from a result that contains it
   pub element_made : (r : Result (Unit {0}) T) (o : Option T) → o ≡ result_err r
       → OnOk r ((x : T) × (last_of (elements_of new) ≡ Some x) × GetsOrMakes eq Makes old new t (Ok x))
       → IfErr r (λ x. GetsOrMakes eq Makes old new t (Err x)) → MakesElement eq Makes old new t o

@@ -1,4 +1,4 @@
--- What a step of a lazy walk looks at, gives and leaves.
+-- What a step of a lazy iterator looks at, returns and leaves.
 use Rattle.hashlink_set.proofs.Names.{◌≡◌, ℕ, ◌^◌, ◌≤◌, Bool, true, false, cond, List, [], ◌∷◌, filter, not}
 use Rattle.hashlink_set.proofs.Names.{Option, None, Some, refl, sym, ap, ◌∙◌, option_copied, IfSome, at_most}
 use Rattle.hashlink_set.proofs.Names.{UpTo, is_member, Bor, TakesFirst, deref, first_passing, at_most_both}
@@ -10,7 +10,7 @@ use Rattle.hashlink_set.specs.Walks.{LooksOn, SiftedSteps}
 use Rattle.hashlink_set.specs.declared.sifted.Sifted.{Sifted}
 
 module _ {T : Type 0} where
-  -- a step on a list seen through references
+  -- a step on a list of references
   as_seen : (s t : List T) (r : Option (Bor T)) → TakesFirst (λ y. y) s (option_copied r) t
       → TakesFirst deref s r t
   as_seen s t None h = h
@@ -37,7 +37,7 @@ module _ {T : Type 0} where
       let step = skipped ∙ ap (first_passing p) is.0 in
       record { gives = ap (λ s. s.0) (sym step); leaves = is.1 ∙ ap (λ s. s.1) (sym step) }
 
-  -- an element passes where the other set has it, or lacks it, as asked
+  -- an element passes if the other set has it or if it lacks it, depending on `asked`
   pub sifts_asked : (eq : T → T → Bool) (asked : Bool) (ys : List T) (x : T) (b : Bool)
       → b ≡ is_member eq ys x → beq b asked ≡ true
       → sifts eq asked ys x ≡ true
@@ -46,7 +46,7 @@ module _ {T : Type 0} where
   sifts_asked eq false ys x true is same = absurd (cc same)
   sifts_asked eq false ys x false is same = ap not (sym is)
 
--- ---- the steps of the walks
+-- ---- the steps of the iterators
 
 module _ {T S H : Type 0} (eq : T → T → Bool) where
   pub sifted_steps : {has : ℕ} (asked : Bool) (old : Sifted T S has H) (r : Option (Bor T))
@@ -62,7 +62,7 @@ module _ {T S H : Type 0} (eq : T → T → Bool) where
 
 -- ---- size hints
 
--- a bound of both sides is one of less
+-- the upper bound l + r of both sides also bounds each number up to it
 pub bounds_both : (n l r : ℕ) → n ≤ l + r → IfSome (at_most_both l r) (UpTo (at_most n))
 bounds_both n l r h = by (nat_lt (l + r) (2 ^ 64))
   where

@@ -1,4 +1,4 @@
--- What the map's lookups say of a set's elements.
+-- What the map's lookups show for a set's elements.
 use Rattle.std.proofs.Common.{◌≡◌, Bool, List, is_some, option_map, sym, ap, ◌∙◌}
 use Rattle.std.specs.List.{find, list_any}
 use Rattle.std.specs.Map.{keys_of, lookup_entry}

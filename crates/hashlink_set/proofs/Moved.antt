@@ -1,4 +1,4 @@
--- A move of an element, as the map's move of a key whose value is nothing.
+-- A move of an element, as the map's move of a key with the value `()`.
 use Rattle.std.proofs.Common.{◌≡◌, ℕ, Bool, List, [], ◌∷◌, Some, refl, sym, ap, subst, ◌∙◌, arith}
 use Rattle.std.specs.Map.{lookup, set_value}
 use Rattle.hashlink_model.specs.Entries.{moved_match}
@@ -6,7 +6,7 @@ use Rattle.hashlink_model.specs.MapState.{Changes}
 use Rattle.hashlink_model.specs.Steps.{MovesMatch, MovesMatchAndWrites}
 use Rattle.hashlink_model.specs.Sets.{SetState}
 
--- nothing that is written changes nothing
+-- writing the value `()` changes nothing
 set_value-nothing : {T : Type 0} (test : T → Bool) (es : List (T × Unit {0})) → set_value test es tt ≡ es
 set_value-nothing test [] = refl
 set_value-nothing test (e ∷ es) = grind (arith, set_value-nothing test es)

@@ -1,4 +1,4 @@
--- What the proofs of this crate import again and again.
+-- What many proofs of this crate import.
 pub use Rattle.hashlink_core.proofs.Calls.{on_err}
 pub use Rattle.hashlink_map.proofs.Extending.{grows-none, stopped_at_last, took_all, took_some}
 pub use Rattle.hashlink_map.proofs.InTurn.{accepts_another}

@@ -1,4 +1,4 @@
--- What a set is that was made of clones of distinct elements.
+-- The state of a set that was made of clones of distinct elements.
 use Rattle.hashlink_set.proofs.Names.{◌≡◌, Bool, true, cond, List, [], ◌∷◌, ◌++◌, Option, None, Some, map, ap}
 use Rattle.hashlink_set.proofs.Names.{Result, Ok, Err, subst, sym, ◌∙◌, IfOk, Bor, IsEquivalence, AllZip}
 use Rattle.hashlink_set.proofs.Names.{keys_of, TakesFirst, deref, elements_eq, AcceptsAll, SetState}
@@ -25,7 +25,7 @@ zip_weaken C D f (a ∷ xs) [] z = absurd z
 zip_weaken C D f (a ∷ xs) (b ∷ ys) z = (f a b z.0, zip_weaken C D f xs ys z.1)
 
 module _ {T S : Type 0} (eq : T → T → Bool) where
-  -- a set's inserts in turn are a map's
+  -- inserts into a set, one after another, are inserts into a map
   as_pairs : (a b : SetState T S) (ts : List T) → AcceptsAll (SetInserts eq) a ts b
       → AcceptsAll (InsertsPair eq) a (pairs_of ts) b
   as_pairs a b [] h = h
@@ -39,7 +39,7 @@ module _ {T S : Type 0} (eq : T → T → Bool) where
 
   module _ (laws : IsEquivalence eq) (C : T → T → Type 0) (H : S → Type 0) (ts : List T)
       (distinct : IsDistinct eq ts) (s : S) (hasher : H s) (new : SetState T S) where
-    -- of the items that a walk gave
+    -- for the items that an iterator returned
     pub is_of_items : (items : List (Bor T)) (clones : List T) → map deref items ≡ ts
         → AllZip C (map deref items) clones
         → MadeFrom (SetInserts eq) clones s new
@@ -60,7 +60,7 @@ module _ {T S : Type 0} (eq : T → T → Bool) where
               ∙ own_elements eq laws ts distinct;
         }
 
--- where calls gave an item at the end, the first of them gave one
+-- if several calls returned an item at the end, the first call returned one
 pub first_gave : {St X : Type 0} (steps : St → Option X → St → Type 0) (s t u : St) (xs : List X) (x : X)
     → Yields steps s xs t
     → steps t (Some x) u
@@ -68,7 +68,7 @@ pub first_gave : {St X : Type 0} (steps : St → Option X → St → Type 0) (s 
 first_gave steps s t u [] x y step = (x, u, subst (λ k. steps k (Some x) u) (sym y) step)
 first_gave steps s t u (z ∷ xs) x y step = (z, y.0, y.1)
 
--- a walk whose steps take the first of what it has left to give gives all of it
+-- an iterator whose steps return the first of the items left returns all of them
 module _ {St T : Type 0} (steps : St → Option (Bor T) → St → Type 0) (rest : St → List T)
     (takes : (s : St) (r : Option (Bor T)) (t : St) → steps s r t → TakesFirst deref
     (rest s) r (rest t)) where
@@ -82,7 +82,7 @@ module _ {St T : Type 0} (steps : St → Option (Bor T) → St → Type 0) (rest
       sym (given_front s xs y.0 y.1 ∙ ap (λ l. map deref xs ++ l) (takes y.0 None d.0 y.2).0
       ∙ append-nil (map deref xs))
 
-  -- so a set of clones of what it gives is made, by the answer, and may fail only if it has some left
+  -- so the set of clones of these items is made, by the result; this may fail only if there is an item
   pub clones_by_answer : {S E : Type 0} (eq : T → T → Bool) → IsEquivalence eq → (C : T → T → Type 0)
       → (H : S → Type 0)
       → (ts : List T) (b : S) → H b → (s : St) → rest s ≡ ts → IsDistinct eq (rest s)

@@ -1,4 +1,4 @@
--- What the calls of a closure at pairs are to another one that it calls at each element.
+-- The calls of a closure at pairs, compared with those of the closure that it calls at each element.
 use Rattle.hashlink_set.proofs.Names.{◌≡◌, Bool, List, [], ◌∷◌, ◌∙◌, ap, subst, sym, RetainsInOrder, SetState}
 use Rattle.std.specs.List.{FoldsTo}
 use Rattle.std.specs.Map.Calls.{CallableOnEachPair, SomeCallAtPair}
@@ -34,7 +34,7 @@ module _ {C F T : Type 0} (see : C → F) (P : C → T → Unit {0} → Bool →
         (h.at before after (see d) t v e (folds_seen c before d calls));
   }
 
--- what no call changes of a closure, such as the reference that it holds, is as it was after all of them
+-- if no call changes a part of a closure, such as the reference that it holds, then all calls together do not
 module _ {C N T : Type 0} (name : C → N) (P : C → T → Unit {0} → Bool → Unit {0} → C → Type 0)
     (keeps : (c : C) (t : T) (b : Bool) (d : C) → P c t tt b tt d → name d ≡ name c) where
   pub name_kept : (c : C) (es kept : List (T × Unit {0})) (d : C) → KeepsInOrder P c es kept d
@@ -42,6 +42,6 @@ module _ {C N T : Type 0} (name : C → N) (P : C → T → Unit {0} → Bool �
   name_kept c [] kept d r = sym (ap name r.1)
   name_kept c (e ∷ es) kept d r = sym (keeps c e.0 r.0 r.2 r.4) ∙ name_kept r.2 es r.3 d r.5
 
--- what holds of the value behind a reference holds of the variable that was lent by it
+-- what holds for the value behind a reference holds for the variable that the reference borrows
 pub back : {V N : Type 0} (P : V → Type 0) {x v : V} {a b : N} → (a ≡ b → x ≡ v) → a ≡ b → P v → P x
 back P is name p = subst P (sym (is name)) p

@@ -1,4 +1,4 @@
--- Which element stands last after one came in or moved there.
+-- Which element is the last one after an insert or a move.
 use Rattle.hashlink_set.proofs.Names.{◌≡◌, ℕ, ◌-◌, Result, Bool, true, false, List, [], ◌∷◌, ◌++◌, length}
 use Rattle.hashlink_set.proofs.Names.{Option, None, Some, Ok, Err, is_some, refl, sym, ap, subst, ◌∙◌, arith}
 use Rattle.hashlink_set.proofs.Names.{IfOk, IfErr, IsEquivalence, find, keys_of, is_member, remove_key}
@@ -34,7 +34,7 @@ module _ {T S : Type 0} (eq : T → T → Bool) where
         → last_of (elements_of new) ≡ Some (stored_element eq (elements_of old) t)
     inserted_last b s = ap last_of (set_inserts eq old new t b s).0 ∙ last_put eq (elements_of old) t
 
-    -- an element that was absent before an insert went in
+    -- an element that was absent before an insert was inserted
     pub inserts_absent : is_member eq (elements_of old) t ≡ false → (b : Bool)
         → SetInserts eq old new t (Ok b)
         → AddsEntry eq old new t tt (length old.entries)
@@ -50,7 +50,7 @@ module _ {T S : Type 0} (eq : T → T → Bool) where
         ∙ ap is_some s.absent in
         inserted_last true s ∙ grind (arith, absent)
 
-    -- what is lent where an element was there
+    -- what is lent if an equal element was present
     pub moved_gets : (Makes : T → Type 0) → Moves eq old new t (length old.entries) (Some tt)
         → (x : T) × (last_of (elements_of new) ≡ Some x) × GetsOrMakes eq Makes old new t (Ok x)
     moved_gets Makes s =

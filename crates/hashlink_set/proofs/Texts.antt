@@ -1,4 +1,4 @@
--- Sets of texts: what is found of another text than the one that a call was for.
+-- Sets of texts: a call for one text changes nothing for the other texts.
 use Rattle.std.proofs.Common.{◌≡◌, ◌≢◌, ℕ, Bool, true, false, List, sym, ◌∙◌, ⊎_elim}
 use Rattle.std.specs.Cmp.Lexicographic.{bytes_decides}
 use Rattle.std.specs.List.{list_any}
@@ -16,14 +16,14 @@ of_another : {T : Type 0} (eq : T → T → Bool) (test : T → Bool) (old new :
 unfolding KeepsOthers
 of_another eq test old new kept = kept
 
--- a text that equals one of two unequal ones differs from the other
+-- a text that equals one of two unequal texts differs from the other
 unequal_to : (asked removed text : List ℕ) → bytes_eq asked removed ≡ false → bytes_eq removed text ≡ true
     → bytes_eq asked text ≡ false
 unequal_to asked removed text differ same =
     let laws = nat_list_eq_equiv in
     laws.symm asked text ∙ sym (laws.congr removed text asked same) ∙ laws.symm removed asked ∙ differ
 
--- goal: a text is found as before, after a call for another one
+-- goal: after a call for one text, another text is found as before
 pub another_text : {A : Type 0} (removed asked : List ℕ) (old new : List (String A))
     → KeepsOthers string_eq (λ text. bytes_eq removed (string_bytes text)) old new → removed ≢ asked
     → list_any (λ text. bytes_eq asked (string_bytes text)) new

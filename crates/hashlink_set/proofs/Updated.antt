@@ -14,7 +14,7 @@ module _ {T S : Type 0} (eq : T → T → Bool) (laws : IsEquivalence eq) (test 
   unfolding KeepsOthers
   same_others es = λ other _ _. refl
 
-  -- goal: the look-ups where nothing moved
+  -- goal: the look-ups if nothing moved
   pub keeps_same : new ≡ old → SetKeepsLookups eq test (elements_of old) (elements_of new)
   keeps_same is =
       let es = old.entries in

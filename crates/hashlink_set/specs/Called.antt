@@ -5,7 +5,7 @@ use Rattle.std.specs.Fn.{Mut, CalledAt, TakesAt}
 use Rattle.std.specs.Map.Calls.{CallableOnEachPair}
 use Rattle.hashlink_model.specs.Sets.{SetState, at_element}
 
--- f may be called at each element, as the calls at the elements before have left it
+-- f may be called at each element, in the state that its calls at the elements before left
 abbrev pub CallableOnEachElement : {F T S : Type 0} → Mut F (Bor T × Unit {0}) Bool → F
     → SetState T S → Type 0
 CallableOnEachElement calls f s =

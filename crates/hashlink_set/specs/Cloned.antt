@@ -1,4 +1,4 @@
--- What a set is that was made of clones.
+-- The state of a set that was made of clones.
 use Rattle.std.specs.Prelude.{◌≡◌, Bool, true, List, [], Result, MatchResult}
 use Rattle.std.specs.Borrow.{Bor}
 use Rattle.std.specs.List.{AllZip}
@@ -6,8 +6,9 @@ use Rattle.hashlink_model.specs.Compare.{elements_eq}
 use Rattle.hashlink_model.specs.Many.{MadeFrom}
 use Rattle.hashlink_model.specs.Sets.{SetState, elements_of, SetInserts}
 
--- a clone of each of ts was inserted in turn into an empty set, with a hasher of which H holds. So the set
--- has ts where clones are their sources, and is equal to ts where they are equal to them
+-- a clone of each element of ts was inserted in order into an empty set, with a hasher for which H holds. So
+-- the set has the elements ts if clones are identical to their sources, and it is equal to ts if they are
+-- equal to them
 pub record IsOfClones {T S : Type 0} (eq : T → T → Bool) (clones-element : T → T → Type 0) (H : S → Type 0)
     (ts : List T) (new : SetState T S) : Type 0 where
   pub hash_builder : S
@@ -18,8 +19,8 @@ pub record IsOfClones {T S : Type 0} (eq : T → T → Bool) (clones-element : T
   pub equal : ((x y : T) → clones-element x y → eq x y ≡ true) → elements_eq eq ts (elements_of new) ≡ true
   pub same : ((x y : T) → clones-element x y → y ≡ x) → elements_of new ≡ ts
 
--- an operator over two sets returns a set of clones of what `both` lists of their elements, or an error, but
--- none where it lists nothing
+-- an operator over two sets returns a set of clones of the elements that `both` lists, or an error; it
+-- returns no error if that list is empty
 abbrev pub GivesClonesOf : {T S E : Type 0} → (List T → List T → List T) → (T → T → Bool)
     → (T → T → Type 0) → (S → Type 0)
     → Bor (SetState T S) → Bor (SetState T S) → Result (SetState T S) E → Type 0

@@ -1,4 +1,4 @@
--- Sets compared, and what they feed a hasher: by their elements alone.
+-- Comparisons of sets, and what sets feed a hasher: only their elements count.
 use Rattle.std.specs.Prelude.{◌≡◌, Bool, true, List}
 use Rattle.std.specs.Cmp.{IsEquivalence, IsPartialEquivalence, on_equiv, on_per}
 use Rattle.std.specs.Cmp.Lexicographic.{lists_per, lists_equiv}

@@ -12,7 +12,7 @@ use Rattle.hashlink_set.specs.declared.drain.Drain.{Drain}
 
 module _ {T S H : Type 0} {g : EqGhosts T} {h : HashGhosts T} {b : BuilderGhosts S H} {w : HasherGhosts H}
     {D : Type 0} {d : DrainedGhosts D T (Unit {0})} where
-  -- the set that it borrows, with the nodes that were taken out as its own
+  -- the set that it borrows, whose nodes are the ones taken out
   abbrev pub drained_set : Drain T S D H g h b w d → MutBor (SetState T S)
   drained_set i = record i.set { now = state_with i.set.now (d.drained i.drained) }
 
@@ -20,14 +20,14 @@ module _ {T S H : Type 0} {g : EqGhosts T} {h : HashGhosts T} {b : BuilderGhosts
   abbrev pub drain_rest : Drain T S D H g h b w d → List T
   drain_rest i = elements_of (drained_set i).now
 
-  -- `next` took the first element left, if any, out of the set
+  -- `next` removed the first element left, if any, from the set
   pub record DrainSteps (old : Drain T S D H g h b w d) (r : Option T)
       (new : Drain T S D H g h b w d) : Type 0 where
     pub takes : TakesFirst (λ t. t) (drain_rest old) r (drain_rest new)
     pub pops : PopsFront (drained_set old).now (drained_set new).now (as_entry r)
     pub same_set : (drained_set new).ghost_name ≡ (drained_set old).ghost_name
 
-  -- `next_back` took the last one
+  -- `next_back` removed the last one
   pub record DrainStepsBack (old : Drain T S D H g h b w d) (r : Option T)
       (new : Drain T S D H g h b w d) : Type 0 where
     pub takes : TakesLast (λ t. t) (drain_rest old) r (drain_rest new)

@@ -1,4 +1,4 @@
--- The elements of a set by its map.
+-- The elements of a set, by its map.
 use Rattle.std.specs.Prelude.{List}
 use Rattle.hashlink_model.specs.Sets.{elements_of}
 use Rattle.hashlink_core.specs.Keyed.{Keyed, state_of}

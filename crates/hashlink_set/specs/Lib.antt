@@ -1,4 +1,4 @@
--- What the contracts of the set cite, beside `hashlink_model`.
+-- What the contracts of the set use, besides `hashlink_model`.
 pub mod Elements
 pub mod Walks
 pub mod Answers

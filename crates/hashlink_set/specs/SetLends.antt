@@ -1,5 +1,5 @@
--- What a set ends as, once an element that was lent out of it has ended. Nothing can be written through what
--- is lent.
+-- The state in which a set ends, after the loan of one of its elements has ended. Nothing can be written
+-- through the loan.
 use Rattle.std.specs.Prelude.{◌≡◌, Bool, Option, Some, MatchOption, Result, Ok, Err, ⊤}
 use Rattle.std.specs.Borrow.{Fml, RattleType, Bor, MutBor, follows_so}
 use Rattle.std.specs.declared.hash.Hasher as hasher
@@ -11,17 +11,18 @@ use Rattle.hashlink_core.specs.KeyedLends.{HashMembers}
 use Rattle.hashlink_set.specs.Made.{GetsOrMakes}
 use Rattle.hashlink_set.specs.contracts.set.LinkedHashSet.{the_row}
 
--- the answer, with the element that is lent as it stands
+-- the result, with the lent element itself in place of the reference
 abbrev pub as_seen : {T E : Type 0} → Result (Bor T) E → Result T E
 as_seen (Ok x) = Ok x.now
 as_seen (Err e) = Err e
 
--- `insert`, by the element that was refused, if it was
+-- `insert`, by the element that was refused, if any
 abbrev pub PutsElement : {T S : Type 0} → (T → T → Bool) → SetState T S → SetState T S → T → Option T → Type 0
 PutsElement eq old new t o =
     MatchOption o ((b : Bool) × SetInserts eq old new t (Ok b)) (λ x. SetInserts eq old new t (Err x))
 
--- `get_or_insert_with`, by what was made and refused, if it was; else the answer stands last
+-- `get_or_insert_with`, by the element that was made and refused, if any; else the returned element is the
+-- last one
 abbrev pub MakesElement : {T S : Type 0} → (T → T → Bool) → (T → Type 0) → SetState T S
     → SetState T S → T → Option T
     → Type 0
@@ -35,20 +36,20 @@ module _ (T S H : RattleType) (g : HashMembers T.Denot) (b : builder.Ghosts S.De
   set_row = the_row T S H (record { eq = g.eq }) (record { hash_input = g.hash_input }) b w
 
   module _ (s : MutBor (SetState T.Denot S.Denot)) where
-    -- the set ends as one of these
+    -- the set ends in a state for which P holds
     abbrev pub EndsSo : (SetState T.Denot S.Denot → Type 0) → Fml
     EndsSo P = follows_so set_row set_row s.ghost_name none (λ _ _. ⊤) P
 
-    -- the set ends as it was
+    -- the set ends unchanged
     abbrev pub StaysAsItWas : Fml
     StaysAsItWas = EndsSo (λ new. new ≡ s.now)
 
     module _ (t : T.Denot) where
-      -- the set ends as an insert of t leaves it, whose answer is this one
+      -- the set ends as an insert of t with this result leaves it
       abbrev pub EndsInserted : Result (Bor T.Denot) T.Denot → Fml
       EndsInserted r = EndsSo (λ new. GetsOrInserts g.eq s.now new t (as_seen r))
 
-      -- the set ends as `get_or_insert_with` leaves it, whose answer is this one, where the closure may make
-      -- these
+      -- the set ends as `get_or_insert_with` with this result leaves it, where `Makes x` states that the
+      -- closure may make x
       abbrev pub EndsMade : (T.Denot → Type 0) → Result (Bor T.Denot) T.Denot → Fml
       EndsMade Makes r = EndsSo (λ new. GetsOrMakes g.eq Makes s.now new t (as_seen r))

@@ -1,5 +1,5 @@
--- What a contract sees of the lazy walks over two sets: what each has not looked at, and what it has left to
--- give.
+-- What a contract sees of the lazy iterators over two sets: what each has not looked at, and what it has yet
+-- to return.
 use Rattle.std.specs.Prelude.{◌≡◌, ℕ, Bool, true, false, not, List, filter, Option, Some, None, option_copied}
 use Rattle.std.specs.Borrow.{Bor}
 use Rattle.std.specs.Map.Iter.{TakesFirst, deref}
@@ -15,34 +15,34 @@ module _ {T : Type 0} where
   abbrev pub lacks : (T → T → Bool) → List T → T → Bool
   lacks eq ys x = not (is_member eq ys x)
 
-  -- an element of ys is equal, or none is, as asked
+  -- whether an element of ys is equal, or whether none is, depending on the flag
   abbrev pub sifts : (T → T → Bool) → Bool → List T → T → Bool
   sifts eq true ys = is_member eq ys
   sifts eq false ys = lacks eq ys
 
-  -- a step looks at the elements up to the first that passes p, which it gives
+  -- a step looks at the elements up to the first that passes p, and returns it
   pub record LooksOn (p : T → Bool) (old : List T) (r : Option (Bor T)) (new : List T) : Type 0 where
     pub gives : option_copied r ≡ (first_passing p old).0
     pub leaves : new ≡ (first_passing p old).1
 
-  -- the same of a walk over two sides
+  -- the same for an iterator over two sides
   pub record LooksOnBoth (p q : T → Bool) (old : PairWalk T) (r : Option (Bor T))
       (new : PairWalk T) : Type 0 where
     pub gives : option_copied r ≡ (pair_step p q old).0
     pub leaves : new ≡ (pair_step p q old).1
 
--- a step of the second, or none where the first gave an item
+-- a step of the second iterator, or no step if the first returned an item
 abbrev pub StepsUnless : {X B : Type 0} → (B → Option X → B → Type 0) → Option X → B → Option X → B → Type 0
 StepsUnless gives (Some x) old r new = (r ≡ Some x) × (new ≡ old)
 StepsUnless gives None old r new = gives old r new
 
--- a step of the first, and where it gives none, one of the second
+-- a step of the first iterator and, if it returns none, one of the second
 abbrev pub GivesFromTwo : {X A B : Type 0} → (A → Option X → A → Type 0) → (B → Option X → B → Type 0)
     → A → B → Option X → A → B → Type 0
 GivesFromTwo {X = X} first second a b r a' b' = (o : Option X) × first a o a' × StepsUnless second o b r b'
 
 module _ {T S H : Type 0} where
-  -- what a walk over two sides has not looked at
+  -- what an iterator over two sides has not looked at
   abbrev pub union_walk : Union T S H → PairWalk T
   union_walk u = record { left = u.first; right = u.second.iter }
 
@@ -50,8 +50,8 @@ module _ {T S H : Type 0} where
   symmetric_difference_walk d = record { left = d.first.iter; right = d.second.iter }
 
 module _ {T S H : Type 0} (eq : T → T → Bool) where
-  -- ---- the elements that the other set has, or those that it lacks, as asked: an `Intersection` is a
-  -- `Sifted` whose number is 1, and a `Difference` one whose number is 0
+  -- ---- the elements that the other set has, or the ones that it lacks, depending on the flag: an
+  -- `Intersection` is a `Sifted` whose number is 1, and a `Difference` one whose number is 0
 
   abbrev pub sifted_rest : {has : ℕ} → Bool → Sifted T S has H → List T
   sifted_rest asked d = filter (sifts eq asked (elements_in d.other.now)) d.iter
@@ -89,7 +89,7 @@ module _ {T S H : Type 0} (eq : T → T → Bool) where
         (union_walk new)
     pub same_other : new.second.other.now ≡ old.second.other.now
 
-  -- ---- the elements of one set alone
+  -- ---- the elements of exactly one of the two sets
 
   abbrev pub symmetric_difference_rest : SymmetricDifference T S H → List T
   symmetric_difference_rest d =

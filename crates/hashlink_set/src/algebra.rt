@@ -1,5 +1,5 @@
-//! Set algebra, by lazy iterators and by tests. None of these methods allocates. A step of an iterator hashes
-//! each element that it looks up in the other set, once.
+//! Set algebra, by lazy iterators and by tests. No method here allocates. A step of an iterator hashes each
+//! element that it looks up in the other set, once.
 ghost use Rattle.std.specs.Prelude.{◌≡◌};
 ghost use Rattle.std.specs.List.{IsDistinct};
 ghost use Rattle.hashlink_model.specs.Algebra.{difference_of, intersection_of, union_of};
@@ -42,8 +42,8 @@ impl<T: Eq + Hash, S: BuildHasher> LinkedHashSet<T, S> {
         Intersection::of(&self.map, &other.map)
     }
 
-    /// Returns an iterator over the elements of this set, and then over those of `other` that this set lacks.
-    /// It does not allocate. A step hashes each element that it looks up, once.
+    /// Returns an iterator over the elements of this set, and then over the elements of `other` that this set
+    /// lacks. It does not allocate. A step hashes each element that it looks up, once.
     pub fn union<'a>(&'a self, other: &'a Self) -> Union<'a, T, S>
         ensures rest { union_rest T.eq result ≡ union_of T.eq (elements_of self.now) (elements_of other.now) }
         ensures unique { IsDistinct T.eq (union_rest T.eq result) }
@@ -57,8 +57,8 @@ impl<T: Eq + Hash, S: BuildHasher> LinkedHashSet<T, S> {
         Union::of(&self.map, &other.map)
     }
 
-    /// Returns an iterator over the elements that `other` lacks, and then over those of `other` that this set
-    /// lacks. It does not allocate. A step hashes each element that it looks up, once.
+    /// Returns an iterator over the elements that `other` lacks, and then over the elements of `other` that
+    /// this set lacks. It does not allocate. A step hashes each element that it looks up, once.
     pub fn symmetric_difference<'a>(&'a self, other: &'a Self) -> SymmetricDifference<'a, T, S>
         ensures rest { symmetric_difference_rest T.eq result
             ≡ symmetric_difference_of T.eq (elements_of self.now) (elements_of other.now) }

@@ -1,5 +1,5 @@
 //! Sets that are built whole: from the items of an iterator, as a clone, and from clones of the elements that
-//! two sets yield together.
+//! an iterator over two sets yields.
 ghost use Rattle.std.specs.Prelude.{◌≡◌, List, [], Bool, Some, Ok, IfOk, OnOk, OnErr, map, ⊤};
 ghost use Rattle.std.specs.Borrow.{Bor};
 ghost use Rattle.std.specs.Iterator.{Drains, DrainsIf, IsFinite, IsFiniteIterable};
@@ -20,7 +20,7 @@ use std::ops::{BitAnd, BitOr, BitXor, Sub};
 
 impl<T: Eq + Hash + Drop, S: BuildHasher + Default + Drop> LinkedHashSet<T, S> {
     /// Builds a set from the items, each inserted in turn as by `insert`. It hashes with `S::default()`. It
-    /// costs an insert for each item. The iterator has to end, and its `next` to be callable. No room is
+    /// costs an insert for each item. The iterator has to end, and its `next` has to be callable. No room is
     /// reserved in advance.
     ///
     /// If an allocation for an item fails, it returns `AllocError`. Then no further item is read, and nothing
@@ -58,7 +58,7 @@ impl<T: Eq + Hash + Drop, S: BuildHasher + Default + Drop> FromIterator<T> for L
 
 impl<T: Eq + Hash + Clone, S: BuildHasher + Clone> LinkedHashSet<T, S> {
     /// Returns a clone: a set with a clone of the hasher and a clone of each element, inserted in turn from
-    /// the front. It uses the same allocator, and has no spare node. It costs a clone and an insert for each
+    /// the front. It uses the same allocator, and has no free node. It costs a clone and an insert for each
     /// element.
     ///
     /// If an allocation for a clone or for a node fails, it returns `AllocError`, and nothing is left of the
@@ -76,7 +76,7 @@ impl<T: Eq + Hash + Clone, S: BuildHasher + Clone> LinkedHashSet<T, S> {
     }
 }
 
-/// A type that holds a set can be cloned with it: a clone is made by the function `clone`.
+/// A type that contains a set can be cloned with it: the function `clone` makes the clone.
 impl<T: Eq + Hash + Clone, S: BuildHasher + Clone> Clone for LinkedHashSet<T, S> {
     ghost is_clone = { λ set. IsOfClones T.eq T.is_clone (S.is_clone set.hasher) (elements_of set) };
 
@@ -122,8 +122,8 @@ impl<T: Eq + Hash + Clone, S: BuildHasher> LinkedHashSet<T, S> {
     }
 }
 
-/// `&a | &b`: clones of what `union` yields. They are allocated by the left set's allocator. It costs that
-/// iterator, and a clone and an insert for each element.
+/// `&a | &b`: clones of the elements that `union` yields, allocated by the left set's allocator. It costs
+/// that iterator, and a clone and an insert for each element.
 ///
 /// If an allocation for a clone or for a node fails, it returns `AllocError`, and nothing is left of the new
 /// set. It does not fail if the new set has no elements.
@@ -138,8 +138,8 @@ impl<'a, 'b, T: Eq + Hash + Clone, S: BuildHasher + Default + Drop> BitOr<&'b Li
     }
 }
 
-/// `&a & &b`: clones of what `intersection` yields. They are allocated by the left set's allocator. It costs
-/// that iterator, and a clone and an insert for each element.
+/// `&a & &b`: clones of the elements that `intersection` yields, allocated by the left set's allocator. It
+/// costs that iterator, and a clone and an insert for each element.
 ///
 /// If an allocation for a clone or for a node fails, it returns `AllocError`, and nothing is left of the new
 /// set. It does not fail if the new set has no elements.
@@ -154,8 +154,8 @@ impl<'a, 'b, T: Eq + Hash + Clone, S: BuildHasher + Default + Drop> BitAnd<&'b L
     }
 }
 
-/// `&a ^ &b`: clones of what `symmetric_difference` yields. They are allocated by the left set's allocator.
-/// It costs that iterator, and a clone and an insert for each element.
+/// `&a ^ &b`: clones of the elements that `symmetric_difference` yields, allocated by the left set's
+/// allocator. It costs that iterator, and a clone and an insert for each element.
 ///
 /// If an allocation for a clone or for a node fails, it returns `AllocError`, and nothing is left of the new
 /// set. It does not fail if the new set has no elements.
@@ -170,8 +170,8 @@ impl<'a, 'b, T: Eq + Hash + Clone, S: BuildHasher + Default + Drop> BitXor<&'b L
     }
 }
 
-/// `&a - &b`: clones of what `difference` yields. They are allocated by the left set's allocator. It costs
-/// that iterator, and a clone and an insert for each element.
+/// `&a - &b`: clones of the elements that `difference` yields, allocated by the left set's allocator. It
+/// costs that iterator, and a clone and an insert for each element.
 ///
 /// If an allocation for a clone or for a node fails, it returns `AllocError`, and nothing is left of the new
 /// set. It does not fail if the new set has no elements.

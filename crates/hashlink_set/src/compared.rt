@@ -5,7 +5,7 @@ ghost use Rattle.hashlink_set.specs.Compared.{sets_eq, sets_per, sets_equiv, set
 use crate::set::LinkedHashSet;
 use std::hash::{BuildHasher, Hash, Hasher};
 
-/// Two sets are equal if they have the same number of elements, and equal ones at each place. A comparison
+/// Two sets are equal if they have the same number of elements, and equal ones at each index. A comparison
 /// takes linear time, up to the first element that differs, and constant time if the numbers differ.
 impl<T: Eq + Hash, S: BuildHasher> PartialEq for LinkedHashSet<T, S> {
     ghost eq = { sets_eq T.eq };

@@ -1,4 +1,4 @@
-//! Debug texts.
+//! Debug output.
 use crate::set::LinkedHashSet;
 use std::fmt;
 use std::hash::{BuildHasher, Hash};

@@ -11,10 +11,10 @@ use std::hash::{BuildHasher, Hash};
 use std::iter::FusedIterator;
 
 /// An iterator that removes the elements of a set and returns them, from front to back. When it is dropped,
-/// exhausted or not, the set is empty and every node is spare.
+/// exhausted or not, the set is empty and every node is free.
 ///
-/// If it is forgotten (`mem::forget`), the set is empty too, with its room and without spare nodes. The
-/// elements that were left are then never dropped, and no node is freed.
+/// If it is forgotten (`mem::forget`), the set is empty too, with its room and without free nodes. The
+/// elements not yet returned are then never dropped, and no node is freed.
 pub struct Drain<
     'a,
     T: Eq + Hash,
@@ -40,10 +40,10 @@ impl<'a, T: Eq + Hash + Drop, S: BuildHasher, D: AsDrained<T, ()>> Drop for Drai
 impl<T: Eq + Hash + Drop, S: BuildHasher> LinkedHashSet<T, S> {
     ghost use Rattle.hashlink_set.specs.Drain.{drained_set};
 
-    /// Returns an iterator that removes the elements and returns them, from front to back. When it is dropped,
-    /// exhausted or not, the set is empty. The call takes linear time in the number of buckets, the drop in
-    /// the number of elements that are left, for each of which it stores at most three links. Neither hashes
-    /// or allocates.
+    /// Returns an iterator that removes the elements and returns them, from front to back. When it is
+    /// dropped, exhausted or not, the set is empty. The call takes linear time in the number of buckets. The
+    /// drop takes linear time in the number of elements left, and stores at most three links for each.
+    /// Neither hashes or allocates.
     pub fn drain(&mut self) -> Drain<'_, T, S>
         ensures same_set { (drained_set result).ghost_name ≡ self.entry.ghost_name }
         ensures unchanged { (drained_set result).now ≡ self.old }

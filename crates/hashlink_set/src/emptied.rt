@@ -1,4 +1,5 @@
-//! Empty sets in place of others: for `mem::try_take`, and for `or_default` of an entry whose value is a set.
+//! Empty sets that replace others: for `mem::try_take`, and for `or_default` of an entry whose value is a
+//! set.
 ghost use Rattle.std.specs.Prelude.{◌≡◌, []};
 ghost use Rattle.hashlink_model.specs.Sets.{elements_of};
 
@@ -7,8 +8,8 @@ use std::alloc::{AllocError, Global};
 use std::default::{Emptied, MadeWith};
 use std::hash::{BuildHasher, Hash};
 
-/// Makes an empty set with the allocator of another and a clone of its hasher. It does not allocate but for
-/// that clone.
+/// Makes an empty set with the allocator of another and a clone of its hasher. It allocates only for that
+/// clone.
 impl<T: Eq + Hash, S: BuildHasher + Clone> Emptied for LinkedHashSet<T, S> {
     ghost is_emptied = { λ s. (elements_of s ≡ []) × (s.spare ≡ 0) × (s.room ≡ 0) };
 

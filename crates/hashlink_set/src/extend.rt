@@ -15,7 +15,7 @@ use std::hash::{BuildHasher, Hash};
 
 impl<T: Eq + Hash + Drop, S: BuildHasher> LinkedHashSet<T, S> {
     /// Inserts each element in turn, as `insert` does, at the cost of an insert for each. The iterator has to
-    /// end, and its `next` to be callable. No room is reserved in advance.
+    /// end, and its `next` has to be callable. No room is reserved in advance.
     ///
     /// If an allocation for an element fails, the elements before it stay inserted. The error contains that
     /// element and their number. No further element is read.
@@ -30,8 +30,8 @@ impl<T: Eq + Hash + Drop, S: BuildHasher> LinkedHashSet<T, S> {
         self.extend_from(&mut rest)
     }
 
-    /// Does the same as `extend` with an iterator that the caller keeps. It has to end, and its `next` to be
-    /// callable. If an allocation fails, the elements after the one in the error are left in the iterator.
+    /// Does the same as `extend` with an iterator that the caller keeps. It has to end, and its `next` has to
+    /// be callable. If an allocation fails, the elements after the one in the error are left in the iterator.
     /// Otherwise none is left.
     pub fn extend_from<I: Iterator<Item = T>>(
         &mut self,
@@ -60,7 +60,7 @@ impl<T: Eq + Hash + Drop, S: BuildHasher> LinkedHashSet<T, S> {
 
 impl<'a, T: Eq + Hash + Copy + 'a, S: BuildHasher> LinkedHashSet<T, S> {
     /// Inserts a copy of each element in turn, as `extend` does, at the cost of an insert for each. The
-    /// iterator has to end, and its `next` to be callable.
+    /// iterator has to end, and its `next` has to be callable.
     ///
     /// If an allocation for an element fails, the elements before it stay inserted. The error contains the
     /// copy of that element and their number. No further element is read.
@@ -79,8 +79,8 @@ impl<'a, T: Eq + Hash + Copy + 'a, S: BuildHasher> LinkedHashSet<T, S> {
     }
 }
 
-/// Inserts the elements as the function `extend` does. If memory runs out, it returns `AllocError`, and what
-/// was inserted stays. The element that was not inserted is dropped.
+/// Inserts the elements as the function `extend` does. If memory runs out, it returns `AllocError`, and the
+/// items inserted before stay. The element that was not inserted is dropped.
 impl<T: Eq + Hash + Drop, S: BuildHasher> Extend<T> for LinkedHashSet<T, S> {
     ghost extend_gives = { TakesItems (SetInserts T.eq) (Grows 1) };
 
@@ -99,7 +99,7 @@ impl<T: Eq + Hash + Drop, S: BuildHasher> Extend<T> for LinkedHashSet<T, S> {
 }
 
 /// Inserts copies of the elements as the function `extend_ref` does. If memory runs out, it returns
-/// `AllocError`, and what was inserted stays.
+/// `AllocError`, and the items inserted before stay.
 impl<'a, T: Eq + Hash + Copy + 'a, S: BuildHasher> Extend<&'a T> for LinkedHashSet<T, S> {
     ghost extend_gives = { λ old items. TakesItems (SetInserts T.eq) (Grows 1) old (map deref items) };
 

@@ -15,8 +15,8 @@ use std::iter::FusedIterator;
 use std::marker::Model;
 
 /// An owning iterator over the elements, from front to back. Contracts see it as the list of the elements
-/// that are left. A step frees its element's node. When the iterator is dropped, it drops the elements that
-/// are left, and frees every node.
+/// left. A step frees its element's node. When the iterator is dropped, it drops the elements left, and frees
+/// every node.
 #[derive(Drop)]
 pub struct IntoIter<T> {
     pairs: IntoPairs<T, ()>,
@@ -85,7 +85,7 @@ impl<T: Eq + Hash + Drop, S: BuildHasher + Drop> IntoIterator for LinkedHashSet<
         ensures runs_back { GivesInReverse T }
         ensures fits { length (elements_of self) < 2 ^ 63 }
     {
-        // `len` says that no two elements are equal.
+        // The clauses of `len` state that no two elements are equal.
         let _count = self.len();
         let LinkedHashSet { map, alloc: _ } = self;
         IntoIter {
@@ -94,8 +94,7 @@ impl<T: Eq + Hash + Drop, S: BuildHasher + Drop> IntoIterator for LinkedHashSet<
     }
 }
 
-/// Returns the iterator that `iter` returns: over the elements, from front to back. It takes constant time
-/// and does not allocate.
+/// Returns the iterator that `iter` returns. It takes constant time and does not allocate.
 impl<'a, T: Eq + Hash, S: BuildHasher> IntoIterator for &'a LinkedHashSet<T, S> {
     type Item = &'a T;
 

@@ -13,8 +13,7 @@ use std::hash::{BuildHasher, Hash};
 use std::iter::FusedIterator;
 use std::marker::Model;
 
-/// An iterator over the elements, from front to back. Contracts see it as the list of the elements that are
-/// left.
+/// An iterator over the elements, from front to back. Contracts see it as the list of the elements left.
 #[derive(Drop)]
 pub struct Iter<'a, T> {
     pub(crate) keys: Keys<'a, T, ()>,
@@ -38,7 +37,7 @@ impl<'a, T: Eq + Hash> Iter<'a, T> {
         ensures fits { length (elements_in map.now) < 2 ^ 63 }
         ensures distinct { IsDistinct T.eq (elements_in map.now) }
     {
-        // `len` says that no two keys are equal.
+        // The clauses of `len` state that no two keys are equal.
         let _count = map.len();
         Iter { keys: map.keys() }
     }

@@ -1,7 +1,7 @@
 //! A step over the items of one iterator and then of another.
 ghost use Rattle.hashlink_set.specs.Walks.{GivesFromTwo};
 
-/// Returns the next item of `first` or, if it has none, of `second`. It costs what these steps cost.
+/// Returns the next item of `first` or, if it has none, of `second`. It costs what the steps cost.
 pub(crate) fn next_of_two<X, A: Iterator<Item = X>, B: Iterator<Item = X>>(
     first: &mut A,
     second: &mut B,

@@ -1,5 +1,5 @@
-//! The set. A clause sees it as the state of a map with values of type `()`: the elements from front to back,
-//! and the numbers of spare nodes, of room and of stored links.
+//! The set. A contract sees the state of a map with values of type `()`: the elements from front to back, and
+//! the numbers of free nodes, of room and of stored links.
 ghost use Rattle.std.specs.Prelude.{◌≡◌, ◌^◌, ◌<◌, ◌↔◌, length, IfOk, IsOk, IsTrue, Err};
 ghost use Rattle.std.specs.List.{IsDistinct};
 ghost use Rattle.hashlink_model.specs.MapState.{empty_map, HasRoom};
@@ -20,7 +20,7 @@ use std::hash::{BuildHasher, Hash};
 use std::marker::Model;
 
 /// A hash set whose elements are in one order, from front to back. An insert puts its element at the back. If
-/// an equal element is present, that one moves to the back.
+/// an equal element is present, the present one moves to the back instead.
 #[derive(Drop)]
 pub struct LinkedHashSet<T: Eq + Hash, S: BuildHasher = DefaultHashBuilder> {
     pub(crate) map: LinkedHashMap<T, (), S>,
@@ -50,8 +50,8 @@ impl<T: Eq + Hash> LinkedHashSet<T, DefaultHashBuilder> {
     /// Creates an empty set with room for `capacity` elements, which hashes with `DefaultHasher`. It takes
     /// linear time in `capacity`, and does not allocate if that is 0.
     ///
-    /// It returns `CapacityOverflow` if `capacity` is above 2 to the power of 62, and `AllocError` if the
-    /// allocation fails or the table would need more than 2 to the power of 31 buckets.
+    /// It returns `CapacityOverflow` if `capacity` is above 2^62, and `AllocError` if the allocation fails or
+    /// the table would need more than 2^31 buckets.
     pub fn with_capacity(alloc: Global, capacity: usize) -> Result<Self, TryReserveError>
         ensures made { IfOk result (IsMadeWith capacity default_builder) }
         ensures none { capacity ≡ 0 → IsOk result }
@@ -75,8 +75,8 @@ impl<T: Eq + Hash, S: BuildHasher> LinkedHashSet<T, S> {
     /// Creates an empty set with room for `capacity` elements, which hashes with `hash_builder`. It takes
     /// linear time in `capacity`, and does not allocate if that is 0.
     ///
-    /// It returns `CapacityOverflow` if `capacity` is above 2 to the power of 62, and `AllocError` if the
-    /// allocation fails or the table would need more than 2 to the power of 31 buckets.
+    /// It returns `CapacityOverflow` if `capacity` is above 2^62, and `AllocError` if the allocation fails or
+    /// the table would need more than 2^31 buckets.
     pub fn with_capacity_and_hasher(
         alloc: Global,
         capacity: usize,
@@ -115,7 +115,7 @@ impl<T: Eq + Hash, S: BuildHasher> LinkedHashSet<T, S> {
     pub fn capacity(&self) -> usize
         ensures capacity { result ≡ self.now.room }
 
-        // There is room for every node, in use or spare, in this set as in every set.
+        // There is room for every node, in use or free, in this set as in every set.
         ensures enough { HasRoom self.now }
     {
         self.map.capacity()

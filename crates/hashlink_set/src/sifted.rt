@@ -1,4 +1,4 @@
-//! The iterators over the elements of a set that another set has, and over those that it lacks.
+//! The iterators over the elements of a set that another set has, and over the elements that it lacks.
 ghost use Rattle.std.specs.Prelude.{◌≡◌, IfSome, length, ⊤};
 ghost use Rattle.std.specs.Iterator.{at_most, UpTo};
 ghost use Rattle.std.specs.Iterator.SizeHint.{IsWithinCount};
@@ -22,8 +22,7 @@ pub type Intersection<'a, T, S = DefaultHashBuilder> = Sifted<'a, T, S, true>;
 /// lacks.
 pub type Difference<'a, T, S = DefaultHashBuilder> = Sifted<'a, T, S, false>;
 
-/// An iterator over the elements of a set that another set has, or over those that it lacks if `HAS` is
-/// false.
+/// An iterator over the elements of a set that another set has or, if `HAS` is false, that it lacks.
 #[derive(Drop)]
 pub struct Sifted<'a, T: Eq + Hash, S: BuildHasher, const HAS: bool> {
     pub(crate) iter: Iter<'a, T>,

@@ -14,8 +14,8 @@ use std::fmt;
 use std::hash::{BuildHasher, Hash};
 use std::iter::FusedIterator;
 
-/// The iterator that `symmetric_difference` returns: over the elements of each set that the other lacks, in
-/// turn.
+/// The iterator that `symmetric_difference` returns: the elements of the first set that the second lacks, and
+/// then the ones of the second that the first lacks.
 #[derive(Drop)]
 pub struct SymmetricDifference<'a, T: Eq + Hash, S: BuildHasher = DefaultHashBuilder> {
     pub(crate) first: Difference<'a, T, S>,
@@ -25,8 +25,8 @@ pub struct SymmetricDifference<'a, T: Eq + Hash, S: BuildHasher = DefaultHashBui
 impl<'a, T: Eq + Hash, S: BuildHasher> SymmetricDifference<'a, T, S> {
     ghost use Rattle.hashlink_set.specs.Walks.{symmetric_difference_rest, symmetric_difference_walk};
 
-    /// Returns an iterator over the keys of `first` that `second` lacks, and then over those of `second` that
-    /// `first` lacks.
+    /// Returns an iterator over the keys of `first` that `second` lacks, and then over the keys of `second`
+    /// that `first` lacks.
     pub fn of(first: &'a LinkedHashMap<T, (), S>, second: &'a LinkedHashMap<T, (), S>) -> Self
         ensures rest { symmetric_difference_rest T.eq result
             ≡ symmetric_difference_of T.eq (elements_in first.now) (elements_in second.now) }

@@ -15,8 +15,8 @@ use std::fmt;
 use std::hash::{BuildHasher, Hash};
 use std::iter::FusedIterator;
 
-/// The iterator that `union` returns: over the elements of one set, and then over those of the other that it
-/// lacks.
+/// The iterator that `union` returns: the elements of one set, and then the elements of the other that the
+/// first lacks.
 #[derive(Drop)]
 pub struct Union<'a, T: Eq + Hash, S: BuildHasher = DefaultHashBuilder> {
     pub(crate) first: Iter<'a, T>,
@@ -26,7 +26,7 @@ pub struct Union<'a, T: Eq + Hash, S: BuildHasher = DefaultHashBuilder> {
 impl<'a, T: Eq + Hash, S: BuildHasher> Union<'a, T, S> {
     ghost use Rattle.hashlink_set.specs.Walks.{union_rest, union_walk};
 
-    /// Returns an iterator over the keys of `first`, and then over those of `second` that `first` lacks.
+    /// Returns an iterator over the keys of `first`, and then over the keys of `second` that `first` lacks.
     pub fn of(first: &'a LinkedHashMap<T, (), S>, second: &'a LinkedHashMap<T, (), S>) -> Self
         ensures rest { union_rest T.eq result
             ≡ union_of T.eq (elements_in first.now) (elements_in second.now) }

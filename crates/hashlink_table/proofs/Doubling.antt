@@ -1,4 +1,4 @@
--- Where the buckets are doubled: a cell in parts, all cells one after the other, and where each node is then.
+-- The doubling of the buckets: of one cell, of all cells in turn, and the place of each node afterwards.
 use Rattle.hashlink_table.proofs.Names.{◌≡◌, ◌≢◌, ℕ, suc, ◌+◌, ◌-◌, ◌*◌, ◌%◌, ◌<◌, ◌≤◌, inl, inr, Bool, true}
 use Rattle.hashlink_table.proofs.Names.{false, cond, ltb, List, ◌++◌, length, map, get_or, set, Some, Option}
 use Rattle.hashlink_table.proofs.Names.{None, refl, sym, ap, ◌∙◌, arith, cases_eq, cases_lt, IsPowerOfTwo}
@@ -19,11 +19,11 @@ use Rattle.hashlink_table.proofs.Moving.{within_kept}
 use Rattle.hashlink_table.proofs.Nodes.{nodes_in-append}
 use Rattle.hashlink_table.proofs.Sound.{filled-none, linked-none}
 
--- so many buckets twice are a power of two again
+-- twice a power of two is a power of two
 pub twice_power : (n : ℕ) → IsPowerOfTwo n → IsPowerOfTwo (2 * n)
 twice_power n power = (suc power.0, ap (λ (m : ℕ). 2 * m) power.1 ∙ sym (pow-succ' 2 power.0))
 
--- the tags of both halves, where the node stays, or goes to the upper one
+-- the tags of both halves: the node stays, or moves to the upper one
 abbrev pub IsApart : (count hash tag : ℕ) → ℕ × ℕ → Type 0
 IsApart count hash tag tags =
     (low : Bool) × (ltb (hash % (2 * count)) count ≡ low) × (tags ≡ cond low (tag, 0) (0, tag))
@@ -35,11 +35,11 @@ module _ {N : Type 0} {ts : List ℕ} {ns : List N} {rs : List Rest} (tagged : I
   was : Row N
   was = row tagged refl at within
 
-  -- what is stored of a half with this tag
+  -- what is stored for a half with this tag
   abbrev half : ℕ → Row N
   half tag = record { tag = tag; node = was.node; rest = record was.rest { link = END } }
 
-  -- the node of a cell with a tag, or without
+  -- the node of a cell, if it has a tag
   abbrev kept_if : Bool → Option (Hashed N)
   kept_if none = cond none None (Some (record { hash = was.rest.hash; node = was.node }))
 
@@ -90,7 +90,7 @@ module _ {N : Type 0} {ts : List ℕ} {ns : List N} {rs : List Rest} (tagged : I
       written first.0 first.1 (at + count) (half tags.1) _ _ _ _ halves.1 refl (ap (set ns (at + count)) node)
       (ap (set (set rs at r) (at + count)) rest) (ap (high_half count) cell ∙ halves.3)
 
--- all cells are doubled, one after the other
+-- all cells are doubled in turn
 module _ {N : Type 0} (cells : List (Cell N)) where
   abbrev count : ℕ
   count = length cells
@@ -110,7 +110,7 @@ module _ {N : Type 0} (cells : List (Cell N)) where
         length-map cells (high_half count),
       )
 
-  -- what stands in each half
+  -- the cells of each half
   pub read_low : (i : ℕ) → i < count
       → get_or (doubled cells) i bare_cell ≡ low_half count (get_or cells i bare_cell)
   read_low i low =
@@ -123,7 +123,7 @@ module _ {N : Type 0} (cells : List (Cell N)) where
       get_or-append_right lower upper count i bare_cell (length-map cells (low_half count)) high
       ∙ get_or-map (high_half count) cells (i - count) bare_cell
 
-  -- the first so many are doubled, and the others are not
+  -- the first `at` cells are doubled, and the others are not
   pub record IsDoubledTo (at : ℕ) (v : List (Cell N)) : Type 0 where
     pub long : length v ≡ 2 * count
     pub low : (i : ℕ) → i < at → get_or v i bare_cell ≡ low_half count (get_or cells i bare_cell)
@@ -188,7 +188,7 @@ module _ {N : Type 0} (cells : List (Cell N)) where
       ])
       ∙ sym (get_or_default (doubled cells) i e bare_cell (omega (arith, less, d.long, length-doubled))))
 
--- a hash's bucket among twice as many: the same, or so many further on
+-- a hash's bucket among twice as many: the same one, or the one m buckets later
 doubled_bucket : (h m : ℕ) → 0 < m → (h % (2 * m) ≡ h % m) ⊎ (h % (2 * m) ≡ h % m + m)
 doubled_bucket h m some =
     let split : h % (2 * m) ≡ h / m % 2 * m + h % m = mod-mul h {m = 2} (omega arith) some in
@@ -257,7 +257,7 @@ module _ {N : Type 0} where
           ]
 
   module _ (cells : List (Cell N)) where
-    -- no bucket has a chain
+    -- no bucket has a chain then
     none-doubled : (b : ℕ) → next_at (doubled cells) b ≡ END
     none-doubled b = elim (cases_lt b (length cells)) as (λ _. next_at (doubled cells) b ≡ END) [
       | inl low ↦ ap (λ (c : Cell N). c.next) (read_low cells b low)
@@ -285,7 +285,7 @@ module _ {N : Type 0} where
           ]);
     }
 
-    -- and it is the same nodes
+    -- the nodes are the same as before
     pub nodes_in-doubled : IsPermutation (nodes_in cells) (nodes_in (doubled cells))
     nodes_in-doubled =
         subst (IsPermutation (nodes_in cells)) (sym (nodes_in-append (lower cells) (upper cells)))

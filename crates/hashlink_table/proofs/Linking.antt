@@ -1,4 +1,4 @@
--- The chains of a table: what a write to the cells does to them, and what inserts and removals do.
+-- The chains of a table after a write to the cells, after an insert and after a removal.
 use Rattle.hashlink_table.proofs.Names.{◌≡◌, ◌≢◌, ℕ, zero, suc, ◌<◌, ◌≤◌, inl, inr, List, [], ◌∷◌, ◌++◌, map}
 use Rattle.hashlink_table.proofs.Names.{IsSome, length, get_or, set, refl, ap, ◌∙◌, subst, arith, cases_lt}
 use Rattle.hashlink_table.proofs.Names.{false≢true, get_or-set_same, get_or-set_other, get_or_push}
@@ -13,7 +13,7 @@ use Rattle.hashlink_table.proofs.Threads.{SameBut, take_first, take_next, put_fi
 use Rattle.hashlink_table.proofs.Nodes.{nodes_in-set, nodes_in-push, nodes_in-same}
 use Rattle.std.proofs.Math.ListN as by_index
 
--- one element more changes no other place
+-- one more element at the end changes no other place
 push_other : {X : Type 0} (xs : List X) (y d : X) (j : ℕ) → j ≢ length xs → get_or (xs ++ y ∷ []) j d
     ≡ get_or xs j d
 push_other [] y d zero ne = absurd (ne refl)
@@ -25,7 +25,7 @@ module _ {N : Type 0} where
   abbrev label : ℕ → Cell N → ℕ
   label buckets c = chain_of buckets c.kept
 
-  -- after a write
+  -- the cells after a write
   pub next_at-set : (cells : List (Cell N)) (i : ℕ) (c : Cell N) → i < length cells
       → next_at (set cells i c) i ≡ c.next
   next_at-set cells i c h = ap (λ (d : Cell N). d.next) (get_or-set_same cells i c bare_cell h)
@@ -51,7 +51,7 @@ module _ {N : Type 0} where
       → (get_or cells i d).next ≡ next_at cells i
   next_at_read cells i d h = ap (λ (c : Cell N). c.next) (get_or_default cells i d bare_cell h)
 
-  -- the chain of a cell is that of what it has
+  -- the chain of a cell is that of its node
   pub chain_at_within : (buckets : ℕ) (cells : List (Cell N)) (i : ℕ) → i < length cells
       → chain_at buckets cells i ≡ chain_of buckets (kept_at cells i)
   chain_at_within buckets cells i h = get_or-map (label buckets) cells i bare_cell (suc buckets) h
@@ -76,7 +76,7 @@ module _ {N : Type 0} where
       ap (λ ls. get_or ls j (suc buckets))
       (map-set_same (label buckets) cells i c bare_cell (ap (chain_of buckets) same))
 
-  -- after a push
+  -- the cells after a push
   pub next_at-push : (cells : List (Cell N)) (c : Cell N) → next_at (cells ++ c ∷ []) (length cells) ≡ c.next
   next_at-push cells c = ap (λ (d : Cell N). d.next) (get_or_push cells c bare_cell (length cells) refl)
 
@@ -97,7 +97,7 @@ module _ {N : Type 0} where
       ∙ push_other (map (label buckets) cells) (label buckets c) (suc buckets) j
       (λ e. ne (e ∙ length-map cells (label buckets)))
 
-  -- which cells are on chains
+  -- the cells that are on a chain
   pub chain_at_past : (buckets : ℕ) (cells : List (Cell N)) (i : ℕ) → length cells ≤ i
       → chain_at buckets cells i ≡ suc buckets
   chain_at_past buckets cells i h =
@@ -125,7 +125,7 @@ pub positive_by_power : (n : ℕ) → IsPowerOfTwo n → 0 < n
 positive_by_power n p = omega (arith, p.1, pow_pos p.0)
 
 module _ {N : Type 0} where
-  -- where the chains start
+  -- the first links of the chains
   abbrev starts : List (Cell N) → ℕ → List ℕ
   starts slots free = links_of slots ++ free ∷ []
 
@@ -147,7 +147,7 @@ module _ {N : Type 0} where
   free_start slots free =
       get_or_at (links_of slots) free [] END (length slots) (length-map slots (λ (c : Cell N). c.next))
 
-  -- a slot links on to another cell
+  -- the link of a slot is set to another cell
   starts-set : (slots : List (Cell N)) (free b x : ℕ) (d : Cell N) → b < length slots → d.next ≡ x
       → starts (set slots b d) free ≡ set (starts slots free) b x
   starts-set slots free b x d low to =
@@ -156,19 +156,19 @@ module _ {N : Type 0} where
       ∙ sym (set-append_left (links_of slots) (free ∷ []) b x
       (omega (arith, low, length-map slots (λ (c : Cell N). c.next))))
 
-  -- the chain of the free cells starts elsewhere
+  -- the chain of the free cells has another first link
   starts-free : (slots : List (Cell N)) (free x : ℕ)
       → set (starts slots free) (length slots) x ≡ starts slots x
   starts-free slots free x =
       set_at (links_of slots) free [] x (length slots) (length-map slots (λ (c : Cell N). c.next))
 
-  -- what stands first in a chain is on it
+  -- the first cell of a chain is on the chain
   start_on : (slots cells : List (Cell N)) (free b : ℕ) → IsLinked slots cells free → b ≤ length slots
       → get_or (starts slots free) b END ≢ END
       → chain_at (length slots) cells (get_or (starts slots free) b END) ≡ b
   start_on slots cells free b t low ne = (t b (omega (arith, low, length-starts slots free))).started.on ne
 
-  -- a free cell that is not the end is a cell
+  -- the first free cell, if it is not the end, is on the chain of the free cells
   pub free_on : (slots cells : List (Cell N)) (free : ℕ) → IsLinked slots cells free → free ≢ END
       → chain_at (length slots) cells free ≡ length slots
   free_on slots cells free t ne =
@@ -185,7 +185,7 @@ module _ {N : Type 0} where
         omega (arith, few, within_by_chain (length slots) cells free _ on (omega arith))
   ]
 
-  -- an insert into a new cell
+  -- a node is inserted in a new cell
   pub linked-push : (slots cells : List (Cell N)) (free b : ℕ) (c d : Cell N) → b < length slots
       → length cells < END → c.next ≡ next_at slots b → chain_of (length slots) c.kept ≡ b
       → d.next ≡ length cells → IsLinked slots cells free
@@ -226,7 +226,7 @@ module _ {N : Type 0} where
       (take_first (starts slots free) now (length slots) free t (omega (arith, n)) (free_start slots free)
       (free_on slots cells free t ne) (omega (arith, off, n)) same)
 
-  -- an insert into the first free cell
+  -- a node is inserted in the first free cell
   pub linked-reuse : (slots cells : List (Cell N)) (free b : ℕ) (c d : Cell N) → b < length slots
       → free < length cells → length cells < END → c.next ≡ next_at slots b
       → chain_of (length slots) c.kept ≡ b → d.next ≡ free → IsLinked slots cells free
@@ -238,7 +238,7 @@ module _ {N : Type 0} where
       (leads ∙ sym (bucket_start slots later b low)) on
       (unlinked_free slots cells free (λ e. omega (arith, within, small, e)) t))
 
-  -- a cell that was taken out of its chain becomes the first free one
+  -- a cell that was taken out of its chain becomes the first free cell
   pub linked-give : (slots cells : List (Cell N)) (free i : ℕ) (c : Cell N) → i < length cells
       → length cells < END → c.next ≡ free → c.kept ≡ None → IsLinkedBut slots cells free i
       → IsLinked slots (set cells i c) i
@@ -271,7 +271,7 @@ module _ {N : Type 0} where
       (λ j apart. same j apart ∙ chain_at-set_same (length slots) cells p c alike j)
 
 module _ {N : Type 0} where
-  -- the first free cell is a cell, and has no node
+  -- the first free cell is in the list, and has no node
   pub free_within : (slots cells : List (Cell N)) (free : ℕ) → IsLinked slots cells free → free ≢ END
       → free < length cells
   free_within slots cells free t ne =
@@ -289,7 +289,7 @@ module _ {N : Type 0} where
       (sym (chain_at_within (length slots) cells free (free_within slots cells free t ne))
       ∙ free_on slots cells free t ne)
 
-  -- a cell on a bucket's chain is a cell, and has a node of the bucket
+  -- a cell on a bucket's chain is in the list, and has a node of the bucket
   pub on_within : (buckets : ℕ) (cells : List (Cell N)) (i b : ℕ) → chain_at buckets cells i ≡ b → b < buckets
       → i < length cells
   on_within buckets cells i b on low = within_by_chain buckets cells i b on (omega arith)
@@ -311,7 +311,7 @@ module _ {N : Type 0} where
       sym (ap (chain_of buckets) is) ∙ sym (chain_at_within buckets cells i
       (on_within buckets cells i b on low)) ∙ on
 
-  -- a cell with a node was put somewhere, and linked from its slot
+  -- a cell with a node was added, and its bucket's slot links to it
   pub chained : (slots cells later : List (Cell N)) (free now at b : ℕ) (c d : Cell N) (k : Hashed N)
       → IsLinked slots cells free → b < length slots → b ≡ k.hash % length slots
       → length cells < END → IsPlaced cells later free now c at → c.kept ≡ Some k
@@ -343,7 +343,7 @@ module _ {N : Type 0} where
             (nodes_in-set cells free c (free_within slots cells free t p.0))))
       ]
 
-  -- a cell that is on no chain lost its node
+  -- a cell that is on no chain was freed
   pub taken-nodes : (cells later : List (Cell N)) (i : ℕ) (d : Cell N) (k : Hashed N) → SameNodes cells later
       → i < length later → kept_at later i ≡ Some k → d.kept ≡ None
       → IsPermutation (nodes_in cells) (k ∷ nodes_in (set later i d))
@@ -353,7 +353,7 @@ module _ {N : Type 0} where
       (subst (λ o. IsPermutation (with_node o (nodes_in later))
       (with_node (kept_at later i) (nodes_in (set later i d)))) none (nodes_in-set later i d within)))
 
-  -- where each cell keeps its node and the hash that it stores
+  -- if all cells keep what they store, each has its old node
   pub kept-same : (cells later : List (Cell N)) → SameNodes cells later → (i : ℕ)
       → kept_at later i ≡ kept_at cells i
   kept-same cells later same i =

@@ -1,4 +1,4 @@
--- The bits of a mask: which cells of a group pass a test.
+-- The bits of a mask, one for each cell of a group that passes a test.
 use Rattle.hashlink_table.proofs.Names.{◌≡◌, ℕ, zero, suc, ◌+◌, ◌-◌, ◌*◌, ◌/◌, ◌%◌, ◌^◌, ◌<◌, ◌≤◌, Bool, true}
 use Rattle.hashlink_table.proofs.Names.{false, cond, not, List, [], ◌∷◌, map, length, drop, get_or, count_by}
 use Rattle.hashlink_table.proofs.Names.{None, Some, IsSome, inl, inr, Option, refl, sym, ap, ◌∙◌, subst}
@@ -9,7 +9,7 @@ use Rattle.hashlink_table.proofs.Names.{one-add, count_trailing_zeros, mask_l, s
 use Rattle.hashlink_table.proofs.Names.{next_at, AreTaken, IsFilled, bare_cell, lanes_of}
 
 module _ {X : Type 0} (p : X → Bool) where
-  -- r elements come before the first that passes, and after it come those of the rest of the mask
+  -- the first element that passes is the one at r, and the elements after it have the rest of the mask
   pub record IsFirst (xs : List X) (r : ℕ) : Type 0 where
     pub within : r < length xs
     pub before : (k : ℕ) (d : X) → k < r → p (get_or xs k d) ≡ false
@@ -62,7 +62,7 @@ module _ {X : Type 0} (p : X → Bool) where
             count = counted ∙ f.count ∙ ap (λ n. 1 + count_by p (drop n (x ∷ xs))) next;
           })
 
-  -- the first element that passes is where the lowest bit is
+  -- the lowest bit of the mask is that of the first element that passes
   pub first_set : (xs : List X) → length xs ≤ 16 → (mask_l (map p xs) ≡ 0 → ⊥)
       → IsFirst xs (count_trailing_zeros 64 (mask_l (map p xs)))
   first_set xs few some =
@@ -81,7 +81,7 @@ none_pass p xs e k d low =
     (ap (λ ys. mask_l (map p ys)) (take_all (length xs) xs (omega arith)) ∙ e) k (omega arith)
     (omega (arith, low))
 
--- the cells of a group from one on
+-- the cells of a group from the one at `at` on
 module _ {N : Type 0} (cells : List (Cell N)) (base : ℕ) where
   abbrev from : ℕ → List (Cell N)
   from at = drop (at - base) (lanes_of cells base)
@@ -99,15 +99,15 @@ module _ {N : Type 0} (cells : List (Cell N)) (base : ℕ) where
       ∙ get_or-chunk base 16 cells (n + k) bare_cell (omega (arith, low, within, from_long room at low))
       ∙ ap (λ i. get_or cells i bare_cell) index
 
-  -- by a mask of those that pass a test
+  -- for the mask of the cells that pass a test
   module _ (q : Cell N → Bool) where
-    -- the bits that are left are those of the cells from this one on
+    -- the bits left are those of the cells from `at` on
     pub record IsLeft (at hits : ℕ) : Type 0 where
       pub low : base ≤ at
       pub high : at ≤ base + 16
       pub bits : hits ≡ mask_l (map q (from at))
 
-    -- the lowest bit is that of the first that passes
+    -- the lowest bit is that of the first cell that passes
     pub record IsHit (at hits : ℕ) : Type 0 where
       pub to : at + count_trailing_zeros 64 hits < base + 16
       pub before : (i : ℕ) → at ≤ i → i < at + count_trailing_zeros 64 hits
@@ -160,7 +160,7 @@ module _ {N : Type 0} {cells : List (Cell N)} {base : ℕ} {q : Cell N → Bool}
       ∙ none_pass q (from cells base at) (sym left.bits ∙ empty) k bare_cell within
 
 module _ {N : Type 0} where
-  -- where the mask of a group's free cells is empty, each cell of it has a node
+  -- if the mask of a group's free cells is empty, each cell of the group has a node
   pub all_taken : (cells : List (Cell N)) (base : ℕ) → base + 16 ≤ length cells
       → mask_l (map (λ c. is_none c.kept) (lanes_of cells base)) ≡ 0
       → AreTaken cells base
@@ -172,7 +172,7 @@ module _ {N : Type 0} where
       some_by None e = absurd (true≢false e)
       some_by (Some x) e = refl
 
-  -- and else the lowest bit is that of a free cell
+  -- if it is not, its lowest bit is that of a free cell
   pub record IsFree (cells : List (Cell N)) (base at : ℕ) : Type 0 where
     pub from : base ≤ at
     pub to : at < base + 16
@@ -198,7 +198,7 @@ module _ {N : Type 0} where
       none_by None e = refl
       none_by (Some x) e = absurd (true≢false (sym e))
 
-  -- and then no bucket of the group has a chain
+  -- if it is not, no bucket of the group has a chain
   pub no_chain : (slots : List (Cell N)) (base b : ℕ) → base ≡ b - b % 16 → base + 16 ≤ length slots
       → IsFilled slots
       → (mask_l (map (λ c. is_none c.kept) (lanes_of slots base)) ≡ 0 → ⊥)

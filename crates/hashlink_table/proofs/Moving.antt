@@ -1,4 +1,4 @@
--- The slots: a node comes into one, leaves it, and is followed there by the first of a chain.
+-- The slots: a node is put into one or taken out of one, and the first node of a chain moves there.
 use Rattle.hashlink_table.proofs.Names.{◌≡◌, ◌≢◌, ℕ, ◌+◌, ◌-◌, ◌%◌, ◌<◌, ◌≤◌, ◌⊎◌, inl, inr, List, ◌∷◌, ◌++◌}
 use Rattle.hashlink_table.proofs.Names.{length, get_or, is_some, set, IsSome, Option, None, Some, refl, sym}
 use Rattle.hashlink_table.proofs.Names.{ap, ◌∙◌, subst, arith, IsPermutation, cases_eq, length-map}
@@ -15,7 +15,7 @@ use Rattle.hashlink_table.proofs.Nodes.{nodes_in-set, nodes_in-same}
 use Rattle.hashlink_table.proofs.Walks.{walk_of}
 
 module _ {N : Type 0} where
-  -- a cell with a node is one of the list
+  -- a cell with a node is in the list
   pub within_kept : (cells : List (Cell N)) (i : ℕ) (k : Hashed N) → kept_at cells i ≡ Some k
       → i < length cells
   within_kept cells i k is = within_by_kept cells i (ap is_some is)
@@ -23,7 +23,7 @@ module _ {N : Type 0} where
   pub same_length : (f g : List (Cell N)) → SameNodes f g → length g ≡ length f
   same_length f g same = sym (length-map g stored_in) ∙ ap length same ∙ length-map f stored_in
 
-  -- the slots keep their nodes, and a chain begins where the group is full
+  -- the slots keep their nodes, and only buckets of full groups have chains
   pub arranged-same : (f g : List (Cell N)) {cells : List (Cell N)} {free : ℕ} (later : List (Cell N))
       (now : ℕ) → SameNodes f g → IsArranged f cells free → IsLinked g later now
       → ((b : ℕ) → b < length f → next_at g b ≢ END → AreTaken f (b - b % 16))
@@ -37,7 +37,7 @@ module _ {N : Type 0} where
             (full b (omega (arith, low, n)) ne at from to);
       }
 
-  -- a write to a slot leaves its link: a node of the group comes into it, or no bucket of the group has a
+  -- a write to a slot keeps its link: the slot has a node of its group then, or no bucket of the group has a
   -- chain
   pub arranged-set : {f cells : List (Cell N)} {free : ℕ} (i : ℕ) (d : Cell N) → i < length f
       → d.next ≡ next_at f i → IsArranged f cells free
@@ -70,7 +70,7 @@ module _ {N : Type 0} where
             ];
       }
 
-  -- the new node comes and the old one goes
+  -- the nodes after a write to a slot: the new one is added, and the old one is gone
   pub set-nodes : (f : List (Cell N)) (i : ℕ) (d : Cell N) (over : List (Hashed N)) (o p : Option (Hashed N))
       → i < length f → d.kept ≡ o → kept_at f i ≡ p
       → IsPermutation (with_node o (nodes_in f ++ over)) (with_node p (nodes_in (set f i d) ++ over))
@@ -83,7 +83,7 @@ module _ {N : Type 0} where
       with_more None ks = refl
       with_more (Some k) ks = refl
 
-  -- the link of a slot leads to a cell of the bucket, or to the end
+  -- the link of a slot leads to a cell of the bucket's chain, or to the end
   pub follower_on : (slots cells : List (Cell N)) (free b at : ℕ) → IsLinked slots cells free
       → b < length slots → next_at slots b ≡ at → at ≢ END
       → chain_at (length slots) cells at ≡ b
@@ -91,7 +91,7 @@ module _ {N : Type 0} where
       ap (chain_at (length slots) cells) (sym is)
       ∙ (walk_of slots cells free b t low).link.on (λ e. ne (sym is ∙ e))
 
-  -- all nodes, where one left an overflow cell or came into one
+  -- all nodes, after one was taken out of an overflow cell or put into one
   pub overflow-taken : (slots later : List (Cell N)) (ks js : List (Hashed N)) (k : Hashed N)
       → SameNodes slots later → IsPermutation ks (k ∷ js)
       → IsPermutation (nodes_in slots ++ ks) (k ∷ nodes_in later ++ js)
@@ -108,7 +108,7 @@ module _ {N : Type 0} where
       (IsPermutation-trans _ _ _ (IsPermutation-sym _ _ (IsPermutation-middle (nodes_in slots) k ks))
       (IsPermutation-append_right (nodes_in slots) _ _ p))
 
-  -- a bucket's chain begins elsewhere
+  -- the chain of a bucket has another first link
   pub next-same : (f : List (Cell N)) (b to : ℕ) → SameNodes f (with_next f b to)
   next-same f b to = map-set_same stored_in f b _ bare_cell refl
 

@@ -1,4 +1,4 @@
--- What the proofs of this crate import again and again.
+-- The names that many proofs of this crate import.
 pub use Rattle.hashlink_table.specs.Chains.{AreGrouped, AreSizes, AreTaken, IsArranged, IsChain, IsLink}
 pub use Rattle.hashlink_table.specs.Chains.{Ranks, IsFilled, IsInPlace, IsLinked, IsLinkedBut, IsPlaced}
 pub use Rattle.hashlink_table.specs.Chains.{IsSound, IsThreaded, SameNodes, chain_at, chain_of, contents}

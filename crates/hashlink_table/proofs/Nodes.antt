@@ -1,4 +1,4 @@
--- The nodes of a list of cells: what a write does to them, which there are, and a loop that puts them in.
+-- The nodes of a list of cells: after a write, one by one, and in a loop that inserts them.
 use Rattle.hashlink_table.proofs.Names.{◌≡◌, ℕ, zero, suc, ◌+◌, ◌<◌, ◌≤◌, List, [], ◌∷◌, ◌++◌, length, get_or}
 use Rattle.hashlink_table.proofs.Names.{set, replicate, take, drop, true, Option, Some, None, is_some, refl}
 use Rattle.hashlink_table.proofs.Names.{sym, ap, ◌∙◌, subst, arith, append_assoc, Contains, IsPermutation}
@@ -9,11 +9,11 @@ use Rattle.hashlink_table.proofs.Names.{nodes_in, SameNodes, bare_cell, append-n
 use Rattle.hashlink_table.proofs.Names.{length_permutation, Contents, len_of}
 
 module _ {N : Type 0} where
-  -- two nodes may be exchanged
+  -- two nodes may change places
   exchanged : (j k : Hashed N) (ks : List (Hashed N)) → IsPermutation (j ∷ k ∷ ks) (k ∷ j ∷ ks)
   exchanged j k ks = IsPermutation-middle (j ∷ []) k ks
 
-  -- at most one node before a list
+  -- at most one node is added in front of a list, before or after another one
   with_exchanged : (a b : Option (Hashed N)) (ks : List (Hashed N))
       → IsPermutation (with_node a (with_node b ks)) (with_node b (with_node a ks))
   with_exchanged None b ks = IsPermutation-refl _
@@ -25,7 +25,7 @@ module _ {N : Type 0} where
   with_permuted None ks js p = p
   with_permuted (Some j) ks js p = IsPermutation-cons j ks js p
 
-  -- a write to a cell: the new node comes and the old one goes
+  -- the nodes after a write to a cell: the new one is added, and the old one is gone
   pub nodes_in-set : (cells : List (Cell N)) (i : ℕ) (c : Cell N) → i < length cells
       → IsPermutation (with_node c.kept (nodes_in cells))
       (with_node (kept_at cells i) (nodes_in (set cells i c)))
@@ -37,7 +37,7 @@ module _ {N : Type 0} where
       (IsPermutation-trans _ _ _ (with_permuted x.kept _ _ rest)
       (with_exchanged x.kept (kept_at xs i) (nodes_in (set xs i c))))
 
-  -- a cell more
+  -- one more cell
   pub nodes_in-push : (cells : List (Cell N)) (c : Cell N)
       → IsPermutation (with_node c.kept (nodes_in cells)) (nodes_in (cells ++ c ∷ []))
   nodes_in-push [] c = IsPermutation-refl _
@@ -45,7 +45,7 @@ module _ {N : Type 0} where
       IsPermutation-trans _ _ _ (with_exchanged c.kept x.kept (nodes_in xs))
       (with_permuted x.kept _ _ (nodes_in-push xs c))
 
-  -- the cells have the same nodes where each cell has
+  -- if each cell keeps its node, the nodes are the same
   pub nodes_in-same : (cells later : List (Cell N)) → SameNodes cells later → nodes_in later ≡ nodes_in cells
   nodes_in-same [] [] e = refl
   nodes_in-same [] (y ∷ ys) e = absurd (cc e)
@@ -64,7 +64,7 @@ module _ {N : Type 0} where
       elim x.kept as (λ k. with_node k (nodes_in (xs ++ more)) ≡ with_node k (nodes_in xs) ++ nodes_in more)
       [ None ↦ rest | Some k ↦ ap (λ ks. k ∷ ks) rest ]
 
-  -- the nodes of the first cells: one cell more, and no more than of all
+  -- the nodes of the first cells and of one more; they are among the nodes of all cells
   pub nodes_in-more_at : (cells : List (Cell N)) (i : ℕ) → i < length cells
       → nodes_in (take (i + 1) cells) ≡ nodes_in (take i cells) ++ with_node (kept_at cells i) []
   nodes_in-more_at cells i h =
@@ -78,7 +78,7 @@ module _ {N : Type 0} where
       (drop i cells) in
       omega (arith, ap length all, length-append (nodes_in (take i cells)) (nodes_in (drop i cells)))
 
-  -- a node was put in after others
+  -- a node was inserted after others
   pub inserted-more : (old done now later : List (Hashed N)) (k : Hashed N) → IsPermutation (old ++ done) now
       → IsPermutation (k ∷ now) later
       → IsPermutation (old ++ (done ++ k ∷ [])) later
@@ -87,12 +87,12 @@ module _ {N : Type 0} where
       (IsPermutation-trans _ _ _ (IsPermutation-to_front (old ++ done) k)
       (IsPermutation-trans _ _ _ (IsPermutation-cons k _ _ before) step))
 
-  -- bare cells have none
+  -- bare cells have no nodes
   pub nodes_in-bare : (n : ℕ) → nodes_in (replicate n (bare_cell {N = N})) ≡ []
   nodes_in-bare zero = refl
   nodes_in-bare (suc n) = nodes_in-bare n
 
-  -- where each cell has a node, there are as many as cells
+  -- if each cell has a node, there are as many nodes as cells
   pub nodes_in-full : (cells : List (Cell N)) → ((i : ℕ) → i < length cells → is_some (kept_at cells i)
       ≡ true)
       → length (nodes_in cells) ≡ length cells
@@ -102,7 +102,7 @@ module _ {N : Type 0} where
       elim x.kept as (λ k. is_some k ≡ true → length (with_node k (nodes_in xs)) ≡ suc (length xs))
       [ None ↦ λ e. absurd (cc e) | Some k ↦ λ e. ap suc rest ] (all zero (omega arith))
 
-  -- a node in a cell is one of them
+  -- the node of a cell is among the nodes
   pub contains-at : (cells : List (Cell N)) (i : ℕ) (k : Hashed N) → kept_at cells i ≡ Some k
       → Contains (nodes_in cells) k
   contains-at [] i k e = absurd (cc e)
@@ -112,7 +112,7 @@ module _ {N : Type 0} where
       elim x.kept as (λ j. Contains (with_node j (nodes_in xs)) k)
       [ None ↦ rest | Some j ↦ (suc rest.0, omega (arith, rest.1), rest.2) ]
 
-  -- and each of them is in one
+  -- each node is that of a cell
   pub at-contains : (cells : List (Cell N)) (k : Hashed N) → Contains (nodes_in cells) k
       → (i : ℕ) × (kept_at cells i ≡ Some k)
   at-contains [] k (j, h, e) = absurd (omega arith)
@@ -126,16 +126,16 @@ module _ {N : Type 0} where
       by rest (Some j) is (zero, h, e) = (zero, is ∙ ap Some e)
       by rest (Some j) is (suc n, h, e) = let r = rest (n, omega arith, e) in (suc r.0, r.1)
 
--- these nodes were put in
+-- the nodes `done` were inserted
 pub record IsCopied {N : Type 0} (old : Contents N) (done : List (Hashed N)) (now : Contents N) : Type 0 where
   pub inserted : IsPermutation (old.nodes ++ done) now.nodes
   pub room : now.room ≡ old.room
 
 module _ {N : Type 0} (old : Contents N) where
-  -- one node more
+  -- one more node
   module _ (done more : List (Hashed N)) (k : Hashed N) (next : more ≡ done ++ k ∷ []) (now : Contents N)
       (copied : IsCopied old done now) where
-    -- it finds room, and is put in
+    -- there is room for it, and it is inserted
     pub has_room : (all : List (Hashed N)) → length more ≤ length all → len_of old + length all ≤ old.room
         → len_of now < now.room
     has_room all part enough =
@@ -159,7 +159,7 @@ module _ {N : Type 0} (old : Contents N) where
       room = room ∙ copied.room;
     }
 
--- the nodes of the first cells: those of the next cell, which has this, come last
+-- the nodes of the first cells and of one more, whose node, if any, is the last
 module _ {N : Type 0} (cells : List (Cell N)) (count : ℕ) (low : count < length cells) (o : Option (Hashed N))
     (is : o ≡ kept_at cells count) where
   pub next_in : (p : Option (Hashed N)) → o ≡ p

@@ -12,12 +12,12 @@ use Rattle.hashlink_table.proofs.Nodes.{nodes_in-full, nodes_in-bare, nodes_in-m
 use Rattle.hashlink_table.proofs.Walks.{bucket_begun}
 use Rattle.hashlink_table.proofs.Threads.{begun}
 
--- what a cell with a node has
+-- the node of a cell that has one
 of_kept : {N : Type 0} (o : Option (Hashed N)) → is_some o ≡ true → (k : Hashed N) × (o ≡ Some k)
 of_kept None some = absurd (cc some)
 of_kept (Some k) some = (k, refl)
 
--- each bare cell reads as one past the last
+-- a bare cell reads like a cell past the last one
 bare_read : (N : Type 0) (n i : ℕ) → (kept_at (replicate n (bare_cell {N = N})) i ≡ None)
     × (next_at (replicate n (bare_cell {N = N})) i ≡ END)
 bare_read N zero i = (refl, refl)
@@ -25,7 +25,7 @@ bare_read N (suc n) zero = (refl, refl)
 bare_read N (suc n) (suc i) = bare_read N n i
 
 module _ {N : Type 0} where
-  -- no bucket has a chain: no link leads anywhere, and each cell may be free
+  -- no bucket has a chain if each slot's link is the end
   pub linked-none : (slots : List (Cell N)) → ((b : ℕ) → next_at slots b ≡ END)
       → IsLinked {N = N} slots [] END
   linked-none slots none b h =
@@ -56,7 +56,7 @@ module _ {N : Type 0} where
   pub filled-none : (slots : List (Cell N)) → ((b : ℕ) → next_at slots b ≡ END) → IsFilled slots
   filled-none slots none b low ne = absurd (ne (none b))
 
-  -- where no cell is free, each has a node
+  -- if no cell is free, each has a node
   all_taken : (slots cells : List (Cell N)) (free : ℕ) → IsLinked slots cells free → free ≡ END → (i : ℕ)
       → i < length cells
       → is_some (kept_at cells i) ≡ true
@@ -70,7 +70,7 @@ module _ {N : Type 0} where
         | Some k ↦ λ no. refl
       ] free_chain
 
-  -- where no overflow cell is free, there are no more of them than nodes
+  -- if no overflow cell is free, there are at most as many of them as nodes
   pub full_overflow : {slots overflow : List (Cell N)} {capacity free len room : ℕ}
       → IsSound slots overflow capacity free len room → free ≡ END
       → length overflow ≤ len
@@ -82,7 +82,8 @@ module _ {N : Type 0} where
         nodes_in-full overflow (all_taken slots overflow free s.arranged.linked e),
       )
 
-  -- and if there is one, two nodes at least have a slot: its bucket has a chain, so its group is full
+  -- if moreover there is an overflow cell, two nodes at least are in slots, since the group of a bucket with
+  -- a chain is full
   full_group : {slots overflow : List (Cell N)} {capacity free len room : ℕ}
       → IsSound slots overflow capacity free len room → free ≡ END → 0 < length overflow
       → length overflow + 2 ≤ len
@@ -126,7 +127,7 @@ module _ {N : Type 0} where
         overflow_small = omega arith;
       }
 
-  -- one node more
+  -- one more node
   pub sound-put : {slots overflow : List (Cell N)} {capacity free len room : ℕ}
       (later more : List (Cell N)) (now next : ℕ) (k : Hashed N)
       → IsSound slots overflow capacity free len room → len < room → now ≡ capacity
@@ -156,7 +157,7 @@ module _ {N : Type 0} where
         ];
       }
 
-  -- one node less
+  -- one node fewer
   pub sound-take : {slots overflow : List (Cell N)} {capacity free len room : ℕ}
       (later less : List (Cell N)) (next : ℕ) (k : Hashed N)
       → IsSound slots overflow capacity free len room
@@ -173,7 +174,7 @@ module _ {N : Type 0} where
         overflow_small = omega (arith, s.overflow_small, cells);
       }
 
-  -- the memory of the overflow cells is of another size
+  -- the memory of the overflow cells has another size
   pub sound-moved : {slots overflow : List (Cell N)} {capacity free len room : ℕ}
       (later more : List (Cell N)) (block : ℕ)
       → IsSound slots overflow capacity free len room → later ≡ slots → more ≡ overflow
@@ -199,7 +200,7 @@ module _ {N : Type 0} where
         overflow_small = s.overflow_small;
       })
 
--- and a contract sees none
+-- a contract sees no nodes of it
 pub contents-bare : (N : Type 0) (n room : ℕ)
     → contents (replicate n (bare_cell {N = N})) [] room ≡ record { nodes = []; room = room }
 contents-bare N n room = ap (λ (ks : List (Hashed N)). let t : Contents N = record { nodes = ks; room = room }
@@ -207,7 +208,7 @@ contents-bare N n room = ap (λ (ks : List (Hashed N)). let t : Contents N = rec
     (ap (λ (ks : List (Hashed N)). ks ++ []) (nodes_in-bare {N = N} n))
 
 module _ {N : Type 0} where
-  -- the buckets were doubled, and the nodes of the overflow cells taken out
+  -- the buckets were doubled, and the nodes were taken out of the overflow cells
   pub sound-doubled : {slots overflow : List (Cell N)} {capacity free len room : ℕ}
       (later less : List (Cell N)) (taken : List (Hashed N)) (block count more : ℕ)
       → IsSound slots overflow capacity free len room → AreSizes (length later) block more

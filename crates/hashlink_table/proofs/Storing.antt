@@ -1,4 +1,4 @@
--- The slots: what is stored is what contracts see.
+-- The slots, from what is stored to what contracts see.
 use Rattle.hashlink_table.proofs.Names.{◌≡◌, ℕ, zero, suc, ◌<◌, ◌≤◌, inl, inr, Bool, true, false, cond, ◌++◌}
 use Rattle.hashlink_table.proofs.Names.{eqb, List, [], ◌∷◌, length, map, take, drop, get_or, set, replicate}
 use Rattle.hashlink_table.proofs.Names.{Some, None, refl, sym, ap, ◌∙◌, subst, arith, is_none, IfSome, All}
@@ -10,11 +10,11 @@ use Rattle.hashlink_table.proofs.Names.{may_be, with_kept, with_next, without_ke
 use Rattle.std.specs.Prelude.{IsSome}
 use Rattle.std.specs.Simd.Lanes.{mask_l}
 
--- what a bare cell stores beside its node
+-- what a bare slot stores besides its node
 abbrev pub bare : Rest
 bare = record { hash = 0; link = END }
 
--- the element at a place
+-- the element at an index
 element : {X : Type 0} (xs : List X) (i : ℕ) → i < length xs → (x : X) × ((d : X) → get_or xs i d ≡ x)
 element [] i low = absurd (omega arith)
 element (x ∷ xs) zero low = (x, λ d. refl)
@@ -25,7 +25,7 @@ tag_some : (hash : ℕ) → eqb (tag_of hash) 0 ≡ false
 tag_some hash = ne_eqb (tag_of hash) 0 (λ e. omega (arith, e))
 
 module _ {N : Type 0} where
-  -- the lists hold these cells
+  -- the lists store these cells
   abbrev pub AreCells : List ℕ → List N → List Rest → List (Cell N) → Type 0
   AreCells ts ns rs v = IsTagged ts ns rs × (cells_in ts ns rs ≡ v)
 
@@ -35,7 +35,7 @@ module _ {N : Type 0} where
   zipped [] = refl
   zipped (row ∷ rows) = ap (λ rest. slot row ∷ rest) (zipped rows)
 
-  -- the parts of a list of rows hold the rows' cells
+  -- lists that are the parts of a list of rows store the cells of the rows
   by_rows : (rows : List (Row N)) (ts : List ℕ) (ns : List N) (rs : List Rest) (v : List (Cell N))
       → All IsStored rows → ts ≡ map (λ row. row.tag) rows → ns ≡ map (λ row. row.node) rows
       → rs ≡ map (λ row. row.rest) rows → v ≡ map slot rows
@@ -45,7 +45,7 @@ module _ {N : Type 0} where
     rw (tags, nodes, rests, cells) (zipped rows),
   )
 
-  -- so many bare cells
+  -- n bare cells
   pub bare_cells : (ns : List N) (a b n : ℕ) → length ns ≡ n → a ≡ n → b ≡ n
       → AreCells (replicate a 0) ns (replicate b bare) (replicate n bare_cell)
   bare_cells ns a b n long tags rests =
@@ -57,7 +57,7 @@ module _ {N : Type 0} where
       (splat_is_map ns b bare (long ∙ sym rests) ∙ sym (map-map (λ (r : Row N). r.rest) row ns))
       (splat_is_map ns n bare_cell long ∙ sym (map-map slot row ns))
 
-  -- a test of the tags is one of the cells
+  -- the results of a test of tags are those of a test of cells
   tests-cells : (p : ℕ → Bool) (q : Cell N → Bool)
       → ((row : Row N) → IsStored row → p row.tag ≡ q (slot row))
       → (rows : List (Row N)) → All IsStored rows
@@ -68,7 +68,7 @@ module _ {N : Type 0} where
       let rest = tests-cells p q agree rows (All-tail IsStored row rows h) in
       cc
 
--- the tests of tags
+-- tests of tags that agree with tests of cells
 pub agrees_free : {N : Type 0} (row : Row N) → IsStored row
     → eqb row.tag 0 ≡ is_none (let c : Cell N = slot row in c.kept)
 agrees_free {N} row is =
@@ -83,13 +83,13 @@ agrees_may_have hash row is = elim is.tagged as (λ _. eqb row.tag (tag_of hash)
   | inr e ↦ rw (e, tag_some row.rest.hash) refl
 ]
 
--- what is stored, seen as v
+-- the stored lists, seen as v
 module _ {N : Type 0} {ts : List ℕ} {ns : List N} {rs : List Rest} {v : List (Cell N)}
     (h : IsTagged ts ns rs) (view : cells_in ts ns rs ≡ v) where
   cells : v ≡ map slot h.rows
   cells = sym view ∙ (by_rows h.rows ts ns rs _ h.stored h.tags h.nodes h.rests refl).1
 
-  -- there are as many of each
+  -- each list has as many elements as there are cells
   pub sizes : (length ts ≡ length v) × (length ns ≡ length v) × (length rs ≡ length v)
   sizes = (
     long (λ row. row.tag) ts h.tags,
@@ -100,7 +100,7 @@ module _ {N : Type 0} {ts : List ℕ} {ns : List N} {rs : List Rest} {v : List (
       long : {X : Type 0} (f : Row N → X) (xs : List X) → xs ≡ map f h.rows → length xs ≡ length v
       long f xs is = ap length is ∙ length-map h.rows f ∙ sym (ap length cells ∙ length-map h.rows slot)
 
-  -- cells that come after them
+  -- more cells after them
   pub more_cells : (us xs : List ℕ) (ms ys : List N) (ds zs : List Rest) (w : List (Cell N))
       → AreCells us ms ds w → xs ≡ ts ++ us → ys ≡ ns ++ ms → zs ≡ rs ++ ds
       → AreCells xs ys zs (v ++ w)
@@ -117,7 +117,7 @@ module _ {N : Type 0} {ts : List ℕ} {ns : List N} {rs : List Rest} {v : List (
           → zs ≡ map f (h.rows ++ k.rows)
       both f xs ys zs is are all = cc (map-append f h.rows k.rows)
 
-  -- a test of the sixteen bytes from this one on is one of the cells
+  -- the results of a test of the sixteen bytes from `base` on are those of a test of the cells
   pub group_tests : (p : ℕ → Bool) (q : Cell N → Bool)
       → ((row : Row N) → IsStored row → p row.tag ≡ q (slot row)) → (base bits : ℕ) (bytes : List ℕ)
       → bits ≡ mask_l (map p (chunk base 16 bytes)) → bytes ≡ ts
@@ -131,7 +131,7 @@ module _ {N : Type 0} {ts : List ℕ} {ns : List N} {rs : List Rest} {v : List (
           ≡ map f (chunk base 16 xs)
       map-chunk f xs = ap (take 16) (drop-map f base xs) ∙ take-map f 16 (drop base xs)
 
-  -- a cell, written
+  -- a cell is written
   pub written : (i : ℕ) (row : Row N) (us : List ℕ) (ms : List N) (ds : List Rest) (d : Cell N)
       → IsStored row → us ≡ set ts i row.tag → ms ≡ set ns i row.node → ds ≡ set rs i row.rest → d ≡ slot row
       → AreCells us ms ds (set v i d)
@@ -144,9 +144,9 @@ module _ {N : Type 0} {ts : List ℕ} {ns : List N} {rs : List Rest} {v : List (
           → ys ≡ map f (set h.rows i row)
       part f xs ys is to = cc (map-set f h.rows i row)
 
-  -- one of the cells
+  -- the cell at i
   module _ (i : ℕ) (low : i < length v) where
-    -- what is stored of it
+    -- what is stored for it
     within : i < length h.rows
     within = omega (arith, low, ap length cells, length-map h.rows (slot {N = N}))
 
@@ -178,7 +178,7 @@ module _ {N : Type 0} {ts : List ℕ} {ns : List N} {rs : List Rest} {v : List (
     unfolding row
     stored = subst IsStored (here.1 here.0) (All-get_or IsStored h.rows i here.0 within h.stored)
 
-    -- it stays where it is written again
+    -- a write of its own node changes no node
     pub node_stays : ns ≡ set ns i row.node
     node_stays = sym (ap (set ns i) (sym (node_at row.node)) ∙ set-get_or ns i row.node)
 
@@ -188,7 +188,7 @@ module _ {N : Type 0} {ts : List ℕ} {ns : List N} {rs : List Rest} {v : List (
     rest_stays : rs ≡ set rs i row.rest
     rest_stays = sym (ap (set rs i) (sym (rest_at row.rest)) ∙ set-get_or rs i row.rest)
 
-    -- one without a node, and one with a node
+    -- a cell without a node, and one with a node
     pub none_read : (t : ℕ) → t ≡ get_or ts i t → t ≡ 0 → None ≡ kept_at v i
     none_read t at_t is =
         let none : row.tag ≡ 0 = sym (at_t ∙ tag_at t) ∙ is in
@@ -215,11 +215,11 @@ module _ {N : Type 0} {ts : List ℕ} {ns : List N} {rs : List Rest} {v : List (
         → IfSome (kept_at v i) (λ k. k.node ≡ n)
     node_read n at_n some = rw (kept_read n row.rest at_n (sym (rest_at row.rest)) some) refl
 
-    -- where the chain of its bucket begins
+    -- the first link of its bucket's chain
     pub next_read : (r : Rest) → r ≡ get_or rs i r → (next_at v i ≡ r.link) × (r.link ≤ END)
     next_read r at_r = rw (at_r ∙ rest_at r) (ap (λ (d : Cell N). d.next) cell_at, stored.small)
 
-    -- a node came into it, or was taken out, or its bucket's chain begins elsewhere
+    -- a node was put into it or taken out of it, or its bucket's chain has another first link
     pub put_in : (k : Hashed N) (r : Rest) → r ≡ get_or rs i r
         → AreCells (set ts i (tag_of k.hash)) (set ns i k.node) (set rs i (record r { hash = k.hash }))
         (with_kept v i k)

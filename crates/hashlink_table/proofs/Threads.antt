@@ -1,20 +1,20 @@
--- All chains at once: a cell leaves its chain, and joins another.
+-- All chains together: a cell is taken out of its chain, and put into another one.
 use Rattle.hashlink_table.proofs.Names.{◌≡◌, ◌≢◌, ℕ, ◌<◌, ◌≤◌, ◌+◌, inl, inr, List, length, get_or, set, sym}
 use Rattle.hashlink_table.proofs.Names.{ap, ◌∙◌, refl, subst, arith, cases_eq, cases_lt, cond, eqb, eq-eqb}
 use Rattle.hashlink_table.proofs.Names.{ne_eqb, get_or-set_same, get_or-set_other, length-set, END, IsChain}
 use Rattle.hashlink_table.proofs.Names.{IsLink, IsThreaded, Ranks}
 
--- the new function answers as the old but at i
+-- the new function agrees with the old one except at i
 abbrev pub SameBut : ℕ → (ℕ → ℕ) → (ℕ → ℕ) → Type 0
 SameBut i old new = (j : ℕ) → j ≢ i → new j ≡ old j
 
--- of two cells that are not one the ranks differ
+-- different cells have different ranks
 pub lower : (r : Ranks) (i j : ℕ) → i < END → j < END → i ≢ j → r.of i ≤ r.of j → r.of i < r.of j
 lower r i j at_i at_j other high =
     let apart : r.of i ≢ r.of j = λ e. other (r.apart i j (omega (arith, at_i)) (omega (arith, at_j)) e) in
     omega (arith, apart, high)
 
--- a link to the end has passed each cell of the chain
+-- no cell of the chain is after a link to the end
 pub passed : {next chain : ℕ → ℕ} {start b : ℕ} (c : IsChain next chain start b) {from to : ℕ}
     → IsLink c.rank.of chain b from to → to ≡ END → (j : ℕ) → chain j ≡ b → from ≤ c.rank.of j
 passed c {from} l e j on = elim (cases_lt (c.rank.of j) from) as (λ _. from ≤ c.rank.of j) [
@@ -26,11 +26,11 @@ passed c {from} l e j on = elim (cases_lt (c.rank.of j) from) as (λ _. from ≤
   | inr high ↦ high
 ]
 
--- a chain to which a cell belongs has begun
+-- a chain with a cell has a first link to a cell
 pub begun : {next chain : ℕ → ℕ} {from b : ℕ} → IsChain next chain from b → (j : ℕ) → chain j ≡ b → from ≢ END
 begun c j on e = omega (arith, passed c c.started e j on, c.rank.below j)
 
--- a chain from which nothing is taken, and to which nothing comes
+-- a chain to which nothing is added, and from which nothing is taken
 chain_same : {next chain : ℕ → ℕ} (later now : ℕ → ℕ) {from b : ℕ} (i : ℕ) → IsChain next chain from b
     → chain i ≢ b → now i ≢ b
     → SameBut i chain now → ((j : ℕ) → chain j ≡ b → later j ≡ next j)
@@ -50,10 +50,10 @@ chain_same {chain = chain} later now {b = b} i c off gone same links =
       linked = λ j e. rw (links j (was j e)) (same_link _ _ (c.linked j (was j e)));
     }
 
--- a chain that a cell leaves
+-- a chain from which the cell i is taken
 module _ {next chain : ℕ → ℕ} {start b : ℕ} (c : IsChain next chain start b) (i : ℕ) (on : chain i ≡ b)
     (now : ℕ → ℕ) (gone : now i ≢ b) (same : SameBut i chain now) where
-  -- a cell that is still on it is another
+  -- a cell that is still on it is not i
   other : (j : ℕ) → now j ≡ b → (j ≢ i) × (chain j ≡ b)
   other j e =
       let ne : j ≢ i = λ q. gone (ap now (sym q) ∙ e) in (ne, sym (same j ne) ∙ e)
@@ -63,7 +63,7 @@ module _ {next chain : ℕ → ℕ} {start b : ℕ} (c : IsChain next chain star
   stays {to = to} l ne =
       record { on = λ go. same to ne ∙ l.on go; falls = l.falls; whole = λ j e. l.whole j (other j e).1 }
 
-  -- one to the cell leads past it
+  -- a link to i becomes one to the cell after it
   past : {from : ℕ} → IsLink c.rank.of chain b from i → IsLink c.rank.of now b from (next i)
   past l =
       let n = c.linked i on in
@@ -75,13 +75,13 @@ module _ {next chain : ℕ → ℕ} {start b : ℕ} (c : IsChain next chain star
             n.whole j o.1 (lower c.rank j i (c.small j o.1) (c.small i on) o.0 (l.whole j o.1 low));
       }
 
-  -- no link to the cell is from above another one
+  -- only one link leads to i
   alone : {from : ℕ} (j : ℕ) → IsLink c.rank.of chain b from i → chain j ≡ b → c.rank.of i < c.rank.of j
       → from ≤ c.rank.of j
   alone {from} j l is falls = elim (cases_lt (c.rank.of j) from) as (λ _. from ≤ c.rank.of j)
       [ inl less ↦ absurd (omega (arith, l.whole j is less, falls)) | inr high ↦ high ]
 
-  -- it is the first
+  -- i is the first cell
   without_first : start ≡ i → IsChain next now (next i) b
   without_first e =
       let first = subst (IsLink c.rank.of chain b c.rank.top) e c.started in
@@ -95,7 +95,7 @@ module _ {next chain : ℕ → ℕ} {start b : ℕ} (c : IsChain next chain star
             omega (arith, c.rank.below j, q', l.falls, alone j first was));
       }
 
-  -- it comes after another cell
+  -- i is the cell after p
   without_next : (p : ℕ) (later : ℕ → ℕ) → chain p ≡ b → next p ≡ i → later p ≡ next i → SameBut p next later
       → IsChain later now start b
   without_next p later here leads cut links =
@@ -118,7 +118,7 @@ module _ {next chain : ℕ → ℕ} {start b : ℕ} (c : IsChain next chain star
         ];
       }
 
--- a chain that a cell joins before its first: it gets the highest rank
+-- a chain to which a cell is added as the first: it gets the highest rank
 module _ {next chain : ℕ → ℕ} {start b : ℕ} (c : IsChain next chain start b) (i : ℕ) (low : i < END)
     (off : chain i ≢ b) (later now : ℕ → ℕ) (leads : later i ≡ start) (links : SameBut i next later)
     (joins : now i ≡ b) (same : SameBut i chain now) where
@@ -144,7 +144,7 @@ module _ {next chain : ℕ → ℕ} {start b : ℕ} (c : IsChain next chain star
       ];
     }
 
-    -- a link of before
+    -- a link that was there before
     kept : {from to : ℕ} → from ≤ c.rank.top → IsLink c.rank.of chain b from to → IsLink rank now b from to
     kept {to = to} high l =
         let apart : to ≢ i = elim (cases_eq to END) as (λ _. to ≢ i)
@@ -179,7 +179,7 @@ module _ {next chain : ℕ → ℕ} {start b : ℕ} (c : IsChain next chain star
       joined (λ j. cond (eqb j i) c.rank.top (c.rank.of j)) (rw (eq-eqb i i refl) refl)
       (λ j old. rw (ne_eqb j i old) refl)
 
--- what starts at b after the start of a is set
+-- the first link of b, after that of a was set
 start_cases : (P : ℕ → Type 0) (starts : List ℕ) (a b x : ℕ) → b < length starts → (b ≡ a → P x)
     → (b ≢ a → P (get_or starts b END))
     → P (get_or (set starts a x) b END)
@@ -190,7 +190,7 @@ start_cases P starts a b x h here there = elim (cases_eq b a) as (λ _. P (get_o
   | inr ne ↦ subst P (sym (get_or-set_other starts a b x END ne)) (there ne)
 ]
 
--- the first cell of a chain leaves it
+-- the first cell is taken out of its chain
 pub take_first : (starts : List ℕ) {next chain : ℕ → ℕ} (now : ℕ → ℕ) (a i : ℕ)
     → IsThreaded starts next chain
     → a < length starts → get_or starts a END ≡ i → chain i ≡ a → length starts ≤ now i → SameBut i chain now
@@ -202,7 +202,7 @@ take_first starts {next} {chain} now a i t within first on off same b h =
     (λ e. without_first (t b below) i (on ∙ sym e) now gone same (ap (λ n. get_or starts n END) e ∙ first))
     (λ apart. chain_same next now i (t b below) (λ e. apart (sym e ∙ on)) gone same (λ j _. refl))
 
--- the cell after p leaves their chain
+-- the cell after p is taken out of their chain
 pub take_next : (starts : List ℕ) {next chain : ℕ → ℕ} (later now : ℕ → ℕ) (p i : ℕ)
     → IsThreaded starts next chain
     → next p ≡ i → later p ≡ next i → SameBut p next later → chain i ≡ chain p → length starts ≤ now i
@@ -216,7 +216,7 @@ take_next starts {next} {chain} later now p i t leads cut links on off same b h 
           (λ j e. links j (λ q. apart (ap chain (sym q) ∙ e)))
     ]
 
--- a cell that is on no chain joins one
+-- a cell that is on no chain is added to one
 pub put_first : (starts : List ℕ) {next chain : ℕ → ℕ} (later now : ℕ → ℕ) (a i : ℕ)
     → IsThreaded starts next chain
     → a < length starts → i < END → length starts ≤ chain i → later i ≡ get_or starts a END

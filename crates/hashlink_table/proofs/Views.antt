@@ -1,4 +1,4 @@
--- What a contract sees of the cells: which nodes there are, and how many agree with a hash.
+-- What a contract sees of the cells: their nodes, and how many of them agree with a hash.
 use Rattle.hashlink_table.proofs.Names.{◌≡◌, ℕ, zero, suc, ◌+◌, ◌-◌, ◌%◌, ◌<◌, ◌≤◌, inl, inr, Bool, true}
 use Rattle.hashlink_table.proofs.Names.{false, cond, eqb, List, [], ◌∷◌, ◌++◌, length, get_or, take, drop}
 use Rattle.hashlink_table.proofs.Names.{Option, Some, None, count_by, refl, sym, ap, ◌∙◌, arith, Contains}
@@ -13,12 +13,12 @@ use Rattle.hashlink_table.proofs.Groups.{group_within, grouped_in}
 use Rattle.hashlink_table.proofs.Linking.{positive_by_power}
 use Rattle.hashlink_table.proofs.Nodes.{contains-at, at-contains}
 
--- how many of the list pass, one element more
+-- the number of elements that pass, with one more element
 count_by-cons : {X : Type 0} (p : X → Bool) (x : X) (xs : List X)
     → count_by p (x ∷ xs) ≡ cond (p x) 1 0 + count_by p xs
 count_by-cons p x xs = sum_by-cons (λ y. cond (p y) 1 0) x xs
 
--- fewer pass a stronger test
+-- fewer elements pass a stronger test
 count_by-weaker : {X : Type 0} (p q : X → Bool) (d : X) (xs : List X)
     → ((k : ℕ) → k < length xs → p (get_or xs k d) ≡ true → q (get_or xs k d) ≡ true)
     → count_by p xs ≤ count_by q xs
@@ -34,7 +34,7 @@ count_by-weaker p q d (x ∷ xs) weaker =
     by false false h = omega arith
 
 module _ {N : Type 0} where
-  -- the nodes of the cells are counted by counting cells
+  -- to count nodes is to count cells
   count_by-nodes_in : (p : Hashed N → Bool) (q : Option (Hashed N) → Bool) (cells : List (Cell N))
       → q None ≡ false → ((k : Hashed N) → q (Some k) ≡ p k)
       → count_by p (nodes_in cells) ≡ count_by (λ c. q c.kept) cells
@@ -69,7 +69,7 @@ module _ {N : Type 0} where
       let grouped = own k refl in
       eq-eqb (k.hash % m) b (omega (arith, low, sought, tags, grouped, here, is))
 
-  -- what is counted in a group is counted in all
+  -- the count in a group is at most the count in all cells
   count_by-lanes : (p q : Cell N → Bool) (cells : List (Cell N)) (base : ℕ) → base + 16 ≤ length cells
       → ((k : ℕ) → k < 16 → p (get_or cells (base + k) bare_cell) ≡ true
       → q (get_or cells (base + k) bare_cell) ≡ true)
@@ -90,7 +90,7 @@ module _ {N : Type 0} where
       ∙ ap (λ n. count_by q (take base cells) + n) (sum_by-append (λ c. cond (q c) 1 0) lanes rest) in
       omega (arith, fewer, all)
 
-  -- a search looks at nodes of the hash's bucket alone: those of its group that have the tag, and its chain
+  -- a search looks only at nodes of the hash's bucket: at those of its group with the tag, and at its chain
   pub looked_at : (slots overflow : List (Cell N)) (hash base : ℕ) → IsPowerOfTwo (length slots)
       → length slots % 16 ≡ 0 → IsInPlace slots → base ≡ hash % length slots - hash % length slots % 16
       → count_by (may_be hash) (lanes_of slots base)
@@ -113,7 +113,7 @@ module _ {N : Type 0} where
         in_bucket-nodes overflow hash m some,
       )
 
-  -- what it found is one of the nodes
+  -- the node that a search found is among the nodes
   pub contains_found : (slots overflow : List (Cell N)) (spot : Spot) (k : Hashed N)
       → kept_by slots overflow spot ≡ Some k
       → Contains (nodes_in slots ++ nodes_in overflow) k
@@ -122,7 +122,7 @@ module _ {N : Type 0} where
   contains_found slots overflow (Overflow at) k is =
       Contains-append_right (nodes_in slots) (nodes_in overflow) k (contains-at overflow at k is)
 
-  -- what is so of the nodes of all cells is so of each node
+  -- what holds for the nodes of all cells holds for each node
   pub none_left : (slots overflow : List (Cell N)) (hash : ℕ) (refused : N → Type 0)
       → ((at : ℕ) (node : N) → kept_at slots at ≡ Some (record { hash = hash; node = node }) → refused node)
       → ((at : ℕ) (node : N) → kept_at overflow at ≡ Some (record { hash = hash; node = node })
@@ -135,10 +135,10 @@ module _ {N : Type 0} where
         | inr later ↦ let at = at-contains overflow _ later in over at.0 node at.1
       ]
 
--- what is stored of a table, seen as v
+-- the stored cells of a table, seen as v
 module _ {N : Type 0} {slots overflow : List (Cell N)} {capacity free len room : ℕ} {v : Contents N}
     (s : IsSound slots overflow capacity free len room) (view : contents slots overflow room ≡ v) where
-  -- so many buckets it has, and some where it has nodes
+  -- the number of its buckets; a table with nodes has buckets
   buckets_are : 0 < length slots → AreBuckets v (length slots)
   buckets_are some =
       record {
@@ -149,7 +149,7 @@ module _ {N : Type 0} {slots overflow : List (Cell N)} {capacity free len room :
   some_buckets : (len ≡ 0 → ⊥) → 0 < length slots
   some_buckets some = omega (arith, some, s.held, s.sizes.headed)
 
-  -- so a search may ask about a node where the hashes agree
+  -- so a search may ask about a node whose hash agrees
   pub can_ask : (hash : ℕ) (asked : N → Type 0) → CanAsk v hash asked → (len ≡ 0 → ⊥) → (h : ℕ) (node : N)
       → Contains (nodes_in slots ++ nodes_in overflow) (record { hash = h; node = node })
       → h % length slots ≡ hash % length slots
@@ -157,7 +157,7 @@ module _ {N : Type 0} {slots overflow : List (Cell N)} {capacity free len room :
   can_ask hash asked can some h node there agree =
       can h node (rw (← view) there) (length slots, buckets_are (some_buckets some), agree)
 
-  -- what it takes, and what one takes that looks at nothing
+  -- the cost of a search, and of one that looks at no node
   pub search_cost : (hash before after : ℕ) → (len ≡ 0 → ⊥)
       → after ≤ before + count_by (λ k. eqb (k.hash % length slots) (hash % length slots))
       (nodes_in slots ++ nodes_in overflow)

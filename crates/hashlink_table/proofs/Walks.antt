@@ -1,4 +1,4 @@
--- A walk along a chain: it stays in the chain, and ends.
+-- A walk along a chain, from link to link: it stays in the chain, and ends.
 use Rattle.hashlink_table.proofs.Names.{◌≡◌, ◌≢◌, ℕ, zero, suc, ◌+◌, ◌<◌, ◌≤◌, cond, eqb, IsSome, ◌⊎◌, inl}
 use Rattle.hashlink_table.proofs.Names.{inr, Bool, true, false, List, length, get_or, set, count_by, refl}
 use Rattle.hashlink_table.proofs.Names.{sym, ap, ◌∙◌, subst, arith, cases_eq, cases_lt, true≢false, eq-eqb}
@@ -9,18 +9,18 @@ use Rattle.hashlink_table.proofs.Linking.{on_within, on_some, bucket_start, leng
 use Rattle.hashlink_table.proofs.Linking.{chain_at_within}
 use Rattle.hashlink_table.proofs.Threads.{lower, passed}
 
--- how many links lead from a cell to the end, if no more than so many
+-- the number of links from a cell to the end, or `most` if there are more
 abbrev pub steps_left : (ℕ → ℕ) → ℕ → ℕ → ℕ
 steps_left next zero at = zero
 steps_left next (suc most) at = cond (eqb at END) zero (suc (steps_left next most (next at)))
 
--- so many links lead to the end, and each brings it nearer
+-- at most `count` links lead to the end, and each brings it nearer
 record IsNear (next : ℕ → ℕ) (most at count : ℕ) : Type 0 where
   pub few : steps_left next most at ≤ count
   pub enough : steps_left next (suc most) at ≡ steps_left next most at
   pub falls : at ≢ END → steps_left next most (next at) < steps_left next most at
 
--- a link to a cell of chain b, or to the end. The cells of the chain from this rank on were passed
+-- the link to a cell of chain b, or to the end, after the cells from the rank `from` on were passed
 pub record IsWalk {N : Type 0} (cells : List (Cell N)) (m b at : ℕ) : Type 0 where
   pub start : ℕ
   pub all : IsChain (next_at cells) (chain_at m cells) start b
@@ -31,11 +31,11 @@ module _ {N : Type 0} {cells : List (Cell N)} {m b at : ℕ} (w : IsWalk cells m
   abbrev pub rank : ℕ → ℕ
   rank = w.all.rank.of
 
-  -- a walk that has not ended goes on past a cell of the chain
+  -- a walk that has not ended goes on after its cell
   abbrev pub walk_on : at ≢ END → IsWalk cells m b (next_at cells at)
   walk_on ne = record { start = w.start; all = w.all; from = rank at; link = w.all.linked at (w.link.on ne) }
 
-  -- a cell that is still to come is this one, or comes after it
+  -- a cell that was not passed is the walk's, or comes after it
   pub to_come : (j : ℕ) → chain_at m cells j ≡ b → rank j < w.from → at ≢ END → (j ≡ at) ⊎ (rank j < rank at)
   to_come j on later ne = elim (cases_eq j at) as (λ _. (j ≡ at) ⊎ (rank j < rank at)) [
     | inl e ↦ inl e
@@ -43,11 +43,11 @@ module _ {N : Type 0} {cells : List (Cell N)} {m b at : ℕ} (w : IsWalk cells m
         (w.link.whole j on later))
   ]
 
-  -- where one is to come the walk has not ended
+  -- if a cell was not passed, the walk has not ended
   pub walk_goes : (j : ℕ) → chain_at m cells j ≡ b → rank j < w.from → at ≢ END
   walk_goes j on later e = omega (arith, passed w.all w.link e j on, later)
 
--- a walk has no more links than there are cells that pass
+-- a walk has at most as many links as there are cells that pass
 module _ {X : Type 0} (p : X → Bool) (d : X) (none : p d ≡ false) where
   one_less : (xs : List X) (i : ℕ) → p (get_or xs i d) ≡ true → count_by p xs ≡ 1 + count_by p (set xs i d)
   one_less xs i pass =
@@ -91,7 +91,7 @@ module _ {X : Type 0} (p : X → Bool) (d : X) (none : p d ≡ false) where
       ]
 
 module _ {N : Type 0} where
-  -- how many cells are on the chain of a bucket
+  -- the number of cells on the chain of a bucket
   abbrev pub in_bucket : List (Cell N) → ℕ → ℕ → ℕ
   in_bucket cells m b = count_by (λ c. eqb (chain_of m c.kept) b) cells
 
@@ -123,14 +123,14 @@ module _ {N : Type 0} where
             (bucket_start slots free b low) c.started;
       }
 
-  -- a bucket's chain to which a cell belongs has begun
+  -- a bucket whose chain has a cell links to a cell
   pub bucket_begun : (slots cells : List (Cell N)) (free b j : ℕ) → IsLinked slots cells free
       → b < length slots → chain_at (length slots) cells j ≡ b
       → next_at slots b ≢ END
   bucket_begun slots cells free b j t low on =
       let w = walk_of slots cells free b t low in walk_goes w j on (w.all.rank.below j)
 
-  -- a search along a chain that has passed over cells which are not what is sought. It took a step for each
+  -- a search along a chain, which has passed only cells that it does not seek, with a step for each
   pub record IsSearch (cells : List (Cell N)) (m b at : ℕ) (IsOther : ℕ → Type 0)
       (before now : ℕ) : Type 0 where
     pub walk : IsWalk cells m b at
@@ -138,7 +138,7 @@ module _ {N : Type 0} where
     pub goes_on : before ≤ now
     pub cost : now + steps_left (next_at cells) (length cells) at ≤ before + in_bucket cells m b
 
-  -- a search from a bucket's head
+  -- a search that begins at a bucket
   pub search_start : (slots cells : List (Cell N)) (free b : ℕ) {IsOther : ℕ → Type 0} (before : ℕ)
       → IsLinked slots cells free → b < length slots
       → IsSearch cells (length slots) b (next_at slots b) IsOther before before
@@ -153,7 +153,7 @@ module _ {N : Type 0} where
 
   module _ {cells : List (Cell N)} {m b at : ℕ} {IsOther : ℕ → Type 0} {before now : ℕ}
       (s : IsSearch cells m b at IsOther before now) where
-    -- a search that passes over one more cell
+    -- a search that passes one more cell
     pub search_on : b < m → at ≢ END → IsOther at → (to later : ℕ) → next_at cells at ≡ to → later ≡ now + 1
         → IsSearch cells m b to IsOther before later
     search_on low ne other to later leads e =
@@ -172,7 +172,7 @@ module _ {N : Type 0} where
     pub search_ends : at ≡ END → (j : ℕ) → chain_at m cells j ≡ b → IsOther j
     search_ends e j on = s.none j on (passed s.walk.all s.walk.link e j on)
 
-  -- a walk along a bucket's chain that has not ended is at a cell, which has a node
+  -- a walk along a bucket's chain that has not ended is at a cell, and the cell has a node
   pub record IsAt (cells : List (Cell N)) (at : ℕ) (read : Cell N) : Type 0 where
     pub within : at < length cells
     pub kept : kept_at cells at ≡ read.kept

@@ -9,13 +9,13 @@ use Rattle.hashlink_table.specs.declared.store.cell.TheConstants.{END}
 use Rattle.hashlink_table.specs.declared.store.slots.Rest.{Rest}
 use Rattle.hashlink_table.specs.Stored.{bare_cell, tag_of}
 
--- what is stored of a cell
+-- what is stored for a slot
 pub record Row (N : Type 0) : Type 0 where
   pub tag : ℕ
   pub node : N
   pub rest : Rest
 
--- the tag is the hash's, or none
+-- the tag is that of the hash, or 0
 pub record IsStored {N : Type 0} (row : Row N) : Type 0 where
   pub tagged : (row.tag ≡ 0) ⊎ (row.tag ≡ tag_of row.rest.hash)
   pub small : row.rest.link ≤ END
@@ -29,7 +29,7 @@ abbrev pub may_be : {N : Type 0} → ℕ → Cell N → Bool
 may_be hash c = kept_may_be hash c.kept
 
 module _ {N : Type 0} where
-  -- a cell of which this is stored
+  -- the cell for which this is stored
   abbrev pub slot : Row N → Cell N
   slot row = record {
     kept = cond (row.tag == 0) None (Some (record { hash = row.rest.hash; node = row.node }));
@@ -41,7 +41,7 @@ module _ {N : Type 0} where
   cells_in ts ns rs =
       map (λ p. slot (record { tag = p.0; node = p.1.0; rest = p.1.1 })) (zip ts (zip ns rs))
 
-  -- the lists are the parts of one list, of what is stored of each cell
+  -- the lists are the parts of one list of rows, one for each slot
   pub record IsTagged (ts : List ℕ) (ns : List N) (rs : List Rest) : Type 0 where
     pub rows : List (Row N)
     pub tags : ts ≡ map (λ row. row.tag) rows
@@ -49,11 +49,11 @@ module _ {N : Type 0} where
     pub rests : rs ≡ map (λ row. row.rest) rows
     pub stored : All IsStored rows
 
-  -- the sixteen cells from this one on
+  -- the sixteen cells from `base` on
   abbrev pub lanes_of : List (Cell N) → ℕ → List (Cell N)
   lanes_of cells base = chunk base 16 cells
 
-  -- the cells, where one has this node, has none, or links on to this cell
+  -- the cells, with this node in the cell at `at`, without a node there, and with this link there
   abbrev pub with_kept : List (Cell N) → ℕ → Hashed N → List (Cell N)
   with_kept cells at k =
       slice_set cells at (record (slice_index_or cells at bare_cell) { kept = Some k; hash = k.hash })
@@ -64,7 +64,7 @@ module _ {N : Type 0} where
   abbrev pub with_next : List (Cell N) → ℕ → ℕ → List (Cell N)
   with_next cells at to = slice_set cells at (record (slice_index_or cells at bare_cell) { next = to })
 
-  -- the node that a cell has in the lower half, and in the upper, where so many buckets are doubled
+  -- if `count` buckets are doubled: the node that a cell has in the lower half, and the one in the upper half
   abbrev pub low_kept : ℕ → Option (Hashed N) → Option (Hashed N)
   low_kept count None = None
   low_kept count (Some k) = cond (ltb (k.hash % (2 * count)) count) (Some k) None
@@ -73,7 +73,8 @@ module _ {N : Type 0} where
   high_kept count None = None
   high_kept count (Some k) = cond (ltb (k.hash % (2 * count)) count) None (Some k)
 
-  -- what a cell becomes where so many are doubled, and what stands so many cells later; no bucket has a chain
+  -- if `count` buckets are doubled: the cell in the lower half, and the one in the upper half. No chain
+  -- begins at either
   abbrev pub low_half : ℕ → Cell N → Cell N
   low_half count c = record { kept = low_kept count c.kept; hash = c.hash; next = END }
 
@@ -83,7 +84,7 @@ module _ {N : Type 0} where
   abbrev pub doubled : List (Cell N) → List (Cell N)
   doubled cells = map (low_half (length cells)) cells ++ map (high_half (length cells)) cells
 
-  -- the cells, where this one alone is doubled
+  -- the cells, if only the one at `at` is doubled
   abbrev pub parted : List (Cell N) → ℕ → ℕ → List (Cell N)
   parted cells at count =
       slice_set (slice_set cells at (low_half count (slice_index_or cells at bare_cell))) (at + count)

@@ -1,7 +1,7 @@
 use std::error::Error;
 use std::{alloc, fmt};
 
-/// Why `Table::reserve` or `Table::with_room` failed.
+/// The error of `Table::reserve` and `Table::with_room`.
 #[derive(Clone, Copy, Debug, PartialEq, Eq)]
 pub enum TryReserveError {
     /// No table has that much room.
@@ -29,7 +29,7 @@ impl fmt::Display for TryReserveError {
 
     fn fmt<W: fmt::Write>(&self, f: &mut fmt::Formatter<W>) -> fmt::Result {
         match self {
-            TryReserveError::CapacityOverflow => write!(f, "no table has that much room"),
+            TryReserveError::CapacityOverflow => write!(f, "no table can have so much room"),
             TryReserveError::AllocError => write!(f, "memory allocation failed"),
         }
     }

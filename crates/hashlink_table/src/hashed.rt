@@ -1,4 +1,4 @@
-/// A node that the table holds, with the hash that it was given for it.
+/// A node of the table, with the hash that was given for it.
 #[derive(Clone, Copy)]
 pub struct Hashed<N> {
     pub hash: u32,

@@ -1,8 +1,8 @@
-//! A hash table of nodes: which nodes stand under which hash.
+//! A hash table of nodes, which finds nodes by their hashes.
 //!
-//! The table holds small handles and the hashes that it was given with them. It never hashes, and never
-//! compares keys: a find asks its caller's closure. All growth happens in `reserve`, so that an insert does
-//! not allocate.
+//! The table keeps small handles and the hashes that were given with them. It never hashes, and never
+//! compares keys: a search asks its caller's closure. Only `reserve` grows the table, so an insert does not
+//! allocate.
 #![tactic(auto)]
 
 mod error;
@@ -17,7 +17,7 @@ pub use hashed::Hashed;
 pub use steps::Steps;
 pub use table::{MAX_ROOM, Table};
 
-// An overflow cell takes 8 bytes beside its node, and a slot 9.
+// An overflow cell takes 8 bytes besides its node, and a slot 9.
 const _: () = prove!(std::mem::size_of::<store::cell::Stored<u64>>() == 16);
 
 const _: () = prove!(std::mem::size_of::<store::slots::Rest>() == 8);

@@ -1,4 +1,4 @@
-//! Searches. What they read of a node they read by `look`, which counts it.
+//! Searches. They read a node only by `look`, which counts it.
 ghost use Rattle.std.specs.Prelude.{◌≡◌, ℕ, ◌+◌, ◌%◌, ◌<◌, ◌≤◌, ◌==◌, ◌++◌};
 ghost use Rattle.std.specs.Prelude.{Contains, IfNone, IfSome, Some, count_by, false, length, true};
 ghost use Rattle.std.specs.Int.{IsPowerOfTwo};
@@ -16,10 +16,10 @@ use super::store::slots::Slots;
 use super::store::spot::{Found, Spot};
 use std::sync::ledger::Ledger;
 
-// Searches are inlined into the look-ups of the layers above, which are inlined into their callers.
+// Searches are inlined into the lookups of the layers above, which are inlined into their callers.
 
-// The first cell of a group whose node has this hash and matches, and the node. It looks closer at the nodes
-// alone of which the tag is the hash's, and takes a step for each.
+// Returns the first cell of a group whose node has this hash and matches, and the node. It looks only at
+// nodes whose tag is the hash's, and takes a step for each.
 #[inline(always)]
 fn seek_slots<N: Copy, F: Fn(N) -> bool, L: Ledger>(
     slots: &Slots<N>,
@@ -59,8 +59,8 @@ fn seek_slots<N: Copy, F: Fn(N) -> bool, L: Ledger>(
     None
 }
 
-// The first cell of the bucket's chain whose node has this hash and matches, and the node. It takes a step
-// for each cell that it passes.
+// Returns the first cell of the bucket's chain whose node has this hash and matches, and the node. It takes a
+// step for each cell at which it looks.
 #[inline(always)]
 fn seek_overflow<N: Copy, F: Fn(N) -> bool, L: Ledger>(
     slots: &Slots<N>,
@@ -98,8 +98,8 @@ fn seek_overflow<N: Copy, F: Fn(N) -> bool, L: Ledger>(
     None
 }
 
-// Where the first node is that has this hash and matches: in the cells of its group, or else in the chain of
-// its bucket.
+// Returns the first node that has this hash and matches, and where it is: in a slot of its group, or else in
+// the chain of its bucket.
 #[inline(always)]
 pub fn seek<N: Copy, F: Fn(N) -> bool, L: Ledger>(
     slots: &Slots<N>,

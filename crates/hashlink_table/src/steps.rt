@@ -3,7 +3,7 @@ ghost use Rattle.std.specs.Prelude.{◌≡◌, ◌+◌, ◌<◌};
 use std::marker::Model;
 use std::sync::ledger::{Blank, Book, Ledger, Share};
 
-/// How many stored hashes finds have looked at. It takes no bytes, and has no greatest value.
+/// The number of stored hashes at which searches have looked. It takes no bytes, and has no greatest value.
 #[derive(Drop)]
 pub struct Steps<L: Ledger> {
     book: Book<L>,

@@ -1,5 +1,5 @@
-//! The cells with their nodes, and what moves the nodes. `Table` and its searches stand outside: of a cell
-//! that has a node they can read by `look` alone, which takes a step.
+//! The cells with their nodes, and the code that moves nodes. `Table` and its searches are outside of this
+//! module. They can read a cell that has a node only by `look`, which takes a step.
 
 pub mod bucket;
 pub mod cell;

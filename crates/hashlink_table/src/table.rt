@@ -19,32 +19,32 @@ use std::alloc::{AllocError, Global};
 use std::marker::{Brand, Model};
 use std::sync::ledger::{Blank, Ledger};
 
-/// The most nodes that a table can be asked to have room for.
+/// The greatest room that a table can be asked for.
 pub const MAX_ROOM: usize = 1 << 62;
 
-// The most buckets that a table has, so that the cells' numbers fit into a link. A request for more fails as
-// an allocation does.
+// The greatest number of buckets, so that the index of each cell fits into a link. A request for more fails
+// as a failed allocation does.
 const MAX_BUCKETS: usize = 1 << 31;
 
-// The least room that a table grows to.
+// The least room to which a table grows.
 const MIN_ROOM: usize = 4;
 
 /// Nodes by their hashes.
 ///
-/// A new table does not allocate. One with room takes 9 bytes and a node for each bucket, of which there are
-/// as many as it has room for nodes, or twice as many in a small table, and at least 16; a shrink may leave
-/// up to twice these. It takes 8 bytes and a node more for each node of its room, for the overflow cells;
-/// after a growth that was refused up to eight times these.
+/// A new table does not allocate. One with room has at least 16 buckets: one for each node of its room, or
+/// two in a small table, and after a shrink up to twice as many. A bucket takes 9 bytes and a node. An
+/// overflow cell for each node of the room takes 8 bytes and a node. After a growth that failed, the table
+/// may have memory for up to eight times as many overflow cells.
 pub struct Table<N> {
-    // The slots. There are none or a power of two, and whole groups.
+    // The slots. Their number is 0 or a power of two, and a multiple of 16.
     slots: Slots<N>,
-    // The cells of the nodes for which there was no place in their group.
+    // The overflow cells, for nodes whose group has no free slot.
     overflow: Vec<Stored<N>>,
-    // The first overflow cell without a node, or `END`.
+    // The first free overflow cell, or `END`.
     free: usize,
     len: usize,
     room: usize,
-    // What a cell without a node has in place of one.
+    // The node that is stored in a cell without a node.
     filler: N,
 }
 
@@ -64,7 +64,8 @@ impl<N> Model for Table<N> {
         t.room };
 }
 
-// By hand, so that a drop is one call. What is derived is written out wherever a value ends.
+// Written by hand, so that a drop is one call. A derived drop would be inlined at each place that drops a
+// table.
 impl<N: Drop> Drop for Table<N> {
     fn drop(self) {
         let Table {
@@ -79,8 +80,8 @@ impl<N: Drop> Drop for Table<N> {
 }
 
 impl<N: Copy> Table<N> {
-    /// Creates an empty table. It does not allocate. The filler is any node; cells that have none are filled
-    /// with it.
+    /// Creates an empty table. It does not allocate. `filler` is any node, which is stored in cells without a
+    /// node.
     pub fn new(alloc: Global, filler: N) -> Self
         ensures { result ≡ record { nodes = []; room = 0 } }
     {
@@ -94,7 +95,7 @@ impl<N: Copy> Table<N> {
         }
     }
 
-    /// Creates an empty table with room for so many nodes. For none it does not allocate.
+    /// Creates an empty table with room for `room` nodes. If that is 0, it does not allocate.
     pub fn with_room(alloc: Global, filler: N, room: usize) -> Result<Self, TryReserveError>
         ensures empty { IfOk result (λ t. t.nodes ≡ []) }
         ensures room { IfOk result (λ t. room ≤ t.room) }
@@ -107,7 +108,7 @@ impl<N: Copy> Table<N> {
         Ok(table)
     }
 
-    // Creates an empty table with so many buckets.
+    // Creates an empty table with `buckets` buckets.
     fn with_buckets(
         alloc: Global,
         filler: N,
@@ -140,7 +141,7 @@ impl<N: Copy> Table<N> {
         ensures value { result ≡ len_of self.now }
         ensures within { result ≤ self.now.room }
     {
-        self.len // counted, so nothing is walked
+        self.len // a stored count, so this takes constant time
     }
 
     /// Returns the number of nodes that fit without an allocation.
@@ -149,7 +150,7 @@ impl<N: Copy> Table<N> {
         ensures value { result ≡ self.now.room }
         ensures small { result ≤ 2 ^ 62 }
     {
-        self.room // which the buckets and the memory of the overflow cells allow
+        self.room // at most what the buckets and the memory of the overflow cells allow
     }
 
     /// Inserts a node under its hash. It does not allocate.
@@ -172,9 +173,9 @@ impl<N: Copy> Table<N> {
         self.len += 1;
     }
 
-    /// Removes a node of this hash that matches, which frees its room, and returns it: `remove_counted`,
-    /// where nobody counts the steps.
-    #[inline]
+    /// Removes a node of this hash that matches, and returns it. Its room is free then. It is
+    /// `remove_counted` without a counter of the caller's.
+    #[inline(always)]
     pub fn remove<F: Fn(N) -> bool>(&mut self, hash: u32, is_match: F) -> Option<N>
         requires callable { CanAsk self.old hash (λ node. F.pre is_match node) }
         requires telling { AcceptsOnly self.old hash (λ node. F.post is_match node true) }
@@ -190,6 +191,7 @@ impl<N: Copy> Table<N> {
     }
 
     // `remove_counted`, with a counter of its own.
+    #[inline(always)]
     fn remove_from<F: Fn(N) -> bool, L: Ledger>(
         &mut self,
         hash: u32,
@@ -213,9 +215,9 @@ impl<N: Copy> Table<N> {
         self.remove_counted(hash, is_match, &mut steps)
     }
 
-    /// Removes a node of this hash that matches, which frees its room, and returns it. It looks for it as
-    /// `find` does, and compares no keys.
-    #[inline]
+    /// Removes a node of this hash that matches, and returns it. Its room is free then. It searches as `find`
+    /// does, and compares no keys.
+    #[inline(always)]
     pub fn remove_counted<F: Fn(N) -> bool, L: Ledger>(
         &mut self,
         hash: u32,
@@ -252,10 +254,10 @@ impl<N: Copy> Table<N> {
         }
     }
 
-    /// Returns the node of this hash that matches, if no more than one does: the first that it looks at. It
-    /// takes a step for each node that it looks at: those of the hash's group of which the tag is the hash's,
-    /// and then those of its chain. They are all of the hash's bucket. It calls `is_match` on nodes that it
-    /// looks at alone, which may be of other hashes.
+    /// Returns a node of this hash that matches: the first at which it looks. It looks at the nodes of the
+    /// hash's group whose tag is the hash's, and then at those of the hash's chain. All of them are of the
+    /// hash's bucket. It takes a step for each. It calls `is_match` only on nodes at which it looks; their
+    /// hashes may differ from this one.
     #[inline(always)]
     pub fn find<F: Fn(N) -> bool, L: Ledger>(
         &self,
@@ -280,7 +282,7 @@ impl<N: Copy> Table<N> {
         }
     }
 
-    /// `find`, where nobody counts the steps.
+    /// `find` without a counter of the caller's.
     #[inline(always)]
     pub fn look_up<F: Fn(N) -> bool>(&self, hash: u32, is_match: F) -> Option<N>
         requires callable { CanAsk self.now hash (λ node. F.pre is_match node) }
@@ -325,8 +327,8 @@ impl<N: Copy> Table<N> {
         self.len = 0;
     }
 
-    /// Makes room for so many more nodes, by doubling, if there is less. It hashes nothing. If it fails, it
-    /// changes nothing.
+    /// Makes room for `additional` more nodes, if there is less, by doubling. It hashes nothing. If it fails,
+    /// it changes nothing.
     #[inline]
     pub fn reserve(&mut self, additional: usize) -> Result<(), TryReserveError>
         ensures ok { OnOk result (len_of self.old + additional ≤ self.new.room) }
@@ -336,7 +338,7 @@ impl<N: Copy> Table<N> {
         ensures power { self.old.room < self.new.room → IsPowerOfTwo self.new.room }
         ensures err { OnErr result (self.new ≡ self.old) }
 
-        // If there is enough room it does not fail, and changes nothing.
+        // If there is enough room, it does not fail and changes nothing.
         ensures enough { len_of self.old + additional ≤ self.old.room → IsOk result × (self.new ≡ self.old) }
         ensures overflow { (result ≡ Err CapacityOverflow) ↔ (MAX_ROOM < len_of self.old + additional) }
     {
@@ -352,8 +354,8 @@ impl<N: Copy> Table<N> {
         Ok(())
     }
 
-    /// Frees memory: the room is the length afterwards, and without nodes the table holds no memory. If it
-    /// fails, it changes nothing.
+    /// Frees memory. Afterwards the room is the number of nodes, and a table without nodes has no memory. If
+    /// it fails, it changes nothing.
     pub fn shrink(&mut self) -> Result<(), AllocError>
         ensures nodes { IsPermutation self.old.nodes self.new.nodes }
         ensures ok { OnOk result (self.new.room ≡ len_of self.old) }
@@ -369,9 +371,9 @@ impl<N: Copy> Table<N> {
         self.rebuild(buckets_for(len.next_power_of_two()), len)
     }
 
-    // Grows to so many buckets, for this room. If they stay as many, only the overflow cells get more memory.
-    // If they double, the nodes in the slots move without a search. Else a new table is made. If it fails, it
-    // changes no node and no room, but may keep memory that it took.
+    // Grows to `buckets` buckets and this room. If the number of buckets stays, only the overflow cells get
+    // more memory. If it doubles, the nodes in the slots move without a search. Else a new table is made. If
+    // it fails, it changes no node and no room, but may keep memory that it requested.
     #[cold]
     fn grow(&mut self, buckets: usize, room: usize) -> Result<(), AllocError>
         requires power { IsPowerOfTwo buckets }
@@ -402,7 +404,7 @@ impl<N: Copy> Table<N> {
         Ok(())
     }
 
-    // Puts the nodes into so many new buckets, for this room. If it fails, it changes nothing.
+    // Moves the nodes to a new table with `buckets` buckets and this room. If it fails, it changes nothing.
     #[cold]
     fn rebuild(&mut self, buckets: usize, room: usize) -> Result<(), AllocError>
         requires power { IsPowerOfTwo buckets }

@@ -1,4 +1,4 @@
--- What may answer a text, worked out line by line from the entries that there are.
+-- The possible answers to a text, worked out line by line from the entries before each line.
 use Rattle.std.proofs.Common.{◌≡◌, ℕ, ◌++◌, ◌⊎◌, List, [], ◌∷◌, Option, None, Some, Result, Ok, Err, codes}
 use Rattle.std.proofs.Common.{decimal, nat_eq, refl, sym, ap, ap₂, ◌∙◌, subst, inl, inr}
 use Rattle.std.specs.Fmt.{digits}
@@ -21,7 +21,7 @@ use Rattle.hashlink_text.proofs.ReadSo.{read_of, runs_read, shows_read}
 abbrev Pairs : Type 0
 Pairs = List (ℕ × ℕ)
 
--- of a pair that is read, the pair itself is said
+-- the value that is returned for a pair that is read is the pair itself
 said_itself : (pair said : Option (ℕ × ℕ)) → SaysOf Itself pair said → said ≡ pair
 said_itself None None s = refl
 said_itself None (Some q) s = absurd s
@@ -38,17 +38,17 @@ shrunk (Ok done) h = refl
 shrunk (Err e) h = cc
 
 module _ (S : Type 0) where
-  -- whatever may answer the line where there are these entries is such
+  -- P holds for each possible answer to the line, if the map has these entries
   abbrev Of : Pairs → List ℕ → (MapState ℕ ℕ S → MapState ℕ ℕ S → List ℕ → Type 0) → Type 0
   Of es line P =
       (n r w : ℕ) (s : S) (new : MapState ℕ ℕ S) (text : List ℕ)
       → Shows (map_state es n r w s) (read_of line) text new → P (map_state es n r w s) new text
 
-  -- where there are these entries, this answers the line, and those are left
+  -- if the map has these entries, this is the answer to the line, and the entries `left` remain
   record Answers (es : Pairs) (line answer : List ℕ) (left : Pairs) : Type 0 where
     by : Of es line (λ old new text. (text ≡ answer) × (new.entries ≡ left))
 
-  -- this answers the lines
+  -- this is the answer to the lines
   pub record AnswersAll (es : Pairs) (lines : List (List ℕ)) (answer : List ℕ) : Type 0 where
     pub all :
         (old new : MapState ℕ ℕ S) (text : List ℕ) → old.entries ≡ es → ShowsAll LineShows old lines text new
@@ -68,7 +68,7 @@ module _ (S : Type 0) where
         h.5 ∙ ap₂ (λ a m. ended a ++ m) first.0 (more.all h.1 new h.2 first.1 h.4);
   }
 
-  -- by one reply
+  -- by a single reply
   replied : {es left : Pairs} (line : List ℕ) (form : Form) (reply : Reply ℕ ℕ (ℕ × ℕ))
       → Of es line (λ old new text.
       (replies : List (Reply ℕ ℕ (ℕ × ℕ))) × (new.entries ≡ left) × (replies ≡ reply ∷ [])
@@ -79,7 +79,7 @@ module _ (S : Type 0) where
         let a = shows n r w s new text h in (a.3 ∙ ap (replies_shown form) a.2, a.1);
   }
 
-  -- and no change
+  -- without a change
   finds : {es : Pairs} (line : List ℕ) (form : Form) (reply : Reply ℕ ℕ (ℕ × ℕ))
       → Of es line (λ old new text.
       (replies : List (Reply ℕ ℕ (ℕ × ℕ))) × ((new ≡ old) × (replies ≡ reply ∷ []))
@@ -110,7 +110,7 @@ module _ (S : Type 0) where
             (b.0, ap (λ m. m.entries) b.1);
       }
 
-  -- the first insert is done or refused
+  -- the first insert succeeds or is refused
   inserts : (s : S) (mid new : MapState ℕ ℕ S) (r : Result (Option ℕ) (ℕ × ℕ)) (text : List ℕ)
       → Inserts nat_eq (empty_map s) mid 1 10 0 r
       → ShowsAll LineShows mid (codes "get 1" ∷ codes "iter" ∷ []) text new

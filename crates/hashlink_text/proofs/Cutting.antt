@@ -1,4 +1,4 @@
--- What is read from the front of a text is the first of its parts, words or lines.
+-- The part that is read from the front of a text is its first part, such as a word or a line.
 use Rattle.std.proofs.Common.{◌≡◌, ℕ, ◌+◌, ◌<◌, Bool, true, false, nat_eq, nat_lt, List, [], ◌∷◌, length}
 use Rattle.std.proofs.Common.{take, drop, Option, None, Some, unwrap_or, refl, sym, ap, ◌∙◌, ⊎_elim, arith}
 use Rattle.std.proofs.Common.{Bor}
@@ -27,7 +27,7 @@ module _ {X : Type 0} (p : X → Bool) where
       let h = cond_some _ _ _ e in
       rw (sym h.1) (slice_split_first p (x ∷ xs) x (ltb-true _ _ h.0))
 
--- some part is there, be it empty
+-- there is always a part, which may be empty
 parts_of-some : (byte : ℕ) (text : List ℕ)
     → (part : List ℕ) × (parts : List (List ℕ)) × (parts_of byte text ≡ part ∷ parts)
 parts_of-some byte text =
@@ -47,7 +47,7 @@ without_empty_end-one : (part : List ℕ) → (length part ≡ 0 → ⊥) → wi
 without_empty_end-one [] some = absurd (some refl)
 without_empty_end-one (b ∷ bs) some = refl
 
--- the first line of a text that isn't empty, where a cut at a byte 10 left the rest
+-- the first line of a text that isn't empty, if a cut at a byte 10 left the rest
 pub lines_of-cut : (text line : List ℕ) (left : Option (Bor (List ℕ))) (rest empty : Bor (List ℕ))
     → 0 < length text
     → parts_of 10 text ≡ line ∷ parts_left 10 left → empty.now ≡ [] → rest ≡ unwrap_or left empty

@@ -12,13 +12,13 @@ use Rattle.std.proofs.lemmas.Str.{digit_value_digit}
 use Rattle.std.proofs.lemmas.List.{take_all}
 use Rattle.hashlink_text.specs.Lines.{value_of}
 
--- the value of the first n digits, which are digits
+-- the first n bytes are digits, and this is their value
 pub record IsValueOfFirst (digits : List ℕ) (n value : ℕ) : Type 0 where
   pub all : AllDigits 10 (take n digits)
   pub sum : value ≡ digits_value 10 (take n digits)
   pub fits : value < 2 ^ 64
 
--- digits and their value in std's words
+-- std's relation between digits and their value
 pub digits_model : IsNumeralModel (λ ds. all_ascii_digits ds ≡ true) (digits_value 10)
 digits_model = numerals_by_value _ tells_all_ascii_digits
 
@@ -42,7 +42,7 @@ IsValueOfFirst-more digits n value at first one = record {
   fits = one.1;
 }
 
--- what has a byte that is no digit, or goes beyond a u64, has no value
+-- a text with a byte that is no digit, or with a value above the greatest u64, has no value
 pub value_of-none : (digits : List ℕ) (n value : ℕ) → n < length digits → IsValueOfFirst digits n value
     → (IsInRange 48 57 (get_or digits n 0) × (value * 10 + (get_or digits n 0 - 48) < 2 ^ 64) → ⊥)
     → value_of digits ≡ None

@@ -1,5 +1,5 @@
--- What a text says is what is read of it: a line is read as the one whose spelling it is. The words of a
--- spelling and those that are read are each other's, so a reader is compared with a spelling word by word.
+-- A text means what is read from it: a line is read as the one whose spelling it is. The words of a spelling
+-- and the words as they are read determine each other, so a reader is compared with a spelling word by word.
 use Rattle.std.proofs.Common.{◌≡◌, ℕ, ◌^◌, ◌<◌, ◌⊎◌, Bool, true, false, ◌&&◌, cond, not, nat_eq, nat_lt, List}
 use Rattle.std.proofs.Common.{[], ◌∷◌, length, get_or, zero, suc, Option, None, Some, option_and_then, map}
 use Rattle.std.proofs.Common.{decimal, refl, sym, ap, ap₂, ◌∙◌, subst, inl, inr, ⊎_elim, arith, lit<, is_none}
@@ -22,7 +22,7 @@ use Rattle.hashlink_text.specs.Spelling.{Word, Name, Number, word_shown, FitsWor
 use Rattle.hashlink_text.specs.Tables.{Token, tokens, numbers_of}
 use Rattle.hashlink_text.proofs.Digits.{digits_model}
 
--- ---- what comes of a choice, of a step that may fail, and of a map
+-- ---- the results of a choice, of a step that may fail, and of a map
 
 pub chosen : {X : Type 0} (b : Bool) (x y z : X) → cond b x y ≡ z → ((b ≡ true) × (x ≡ z))
     ⊎ ((b ≡ false) × (y ≡ z))
@@ -48,7 +48,7 @@ begins_as_number-facts (d ∷ []) e = (omega arith, λ _. refl)
 begins_as_number-facts (d ∷ c ∷ ds) e =
     (omega arith, λ zero. absurd (let t : not (nat_eq d 48) ≡ false = rw zero refl in cc))
 
--- a word that spells a number is as the number is printed
+-- a word that spells a number is the number as it is printed
 number_of-spelled : (word : List ℕ) (n : ℕ) → number_of word ≡ Some n → (decimal n ≡ word) × (n < 2 ^ 64)
 number_of-spelled word n e =
     ⊎_elim (λ (starts : (begins_as_number word ≡ true) × (value_of word ≡ Some n)).
@@ -81,11 +81,11 @@ number_of-decimal (suc m) low =
 
 -- ---- words as they are read, and the words of a spelling
 
--- the word that was written so
+-- the word whose spelling this is
 abbrev pub word_of : List ℕ → Word
 word_of written = option_map_or Number (number_of written) (Name written)
 
--- and what is read where a word was written
+-- what is read from a written word
 abbrev pub token_of : Word → Token
 token_of (Name name) = (name, None)
 token_of (Number n) = (decimal n, Some n)
@@ -124,7 +124,7 @@ Spaceless-digits (d ∷ digits) h =
     All-cons (λ b. nat_eq b 32 ≡ false) d digits (ne_eqb d 32 (λ e. omega arith))
     (Spaceless-digits digits h.1)
 
--- each name is one word of a line, and no number
+-- each name is a single word, and no number
 abbrev pub are_names : List Word → Bool
 are_names [] = true
 are_names (Name name ∷ words) = has_no_space name && (is_none (number_of name) && are_names words)
@@ -155,17 +155,17 @@ tokens-shown (Number n ∷ words) fit e =
       (Spaceless-digits (decimal n) (decimal_is_IsNumeral n fit.0).0.1, more.1),
     )
 
--- ---- what is read of words is what a text says
+-- ---- what is read from words is what a text means
 
 module _ {X : Type 0} (spell : X → Option (List Word)) where
   module _ (read : List Token → Option X) where
-    -- what has words is read of them. It is said in two equations also where there are none, so that one
-    -- proof serves each
+    -- if x has words, x is read from them. This is stated in two equations even if there are none, so that
+    -- one proof serves for each
     abbrev pub IsRead : Option (List Word) → X → Type 0
     IsRead None x = (true ≡ true) × (Some x ≡ Some x)
     IsRead (Some words) x = (are_names words ≡ true) × (read (map token_of words) ≡ Some x)
 
-    -- and what is read of words has them
+    -- and if x is read from words, it has them
     abbrev pub IsOf : List (List ℕ) → Type 0
     IsOf written = (x : X) → read (tokens written) ≡ Some x → spell x ≡ Some (map word_of written)
 
@@ -174,7 +174,7 @@ module _ {X : Type 0} (spell : X → Option (List Word)) where
       pub from : (written : List (List ℕ)) → IsOf written
       pub to : (x : X) → IsRead (spell x) x
 
-    -- what is read of a text is said by it
+    -- a text means what is read from it
     abbrev pub SaysWhatIsRead : Type 0
     SaysWhatIsRead = (text : List ℕ) (said : Option X) → said ≡ read (tokens (words_of text))
         → Says spell text said
@@ -207,13 +207,13 @@ module _ {X : Type 0} {spell : X → Option (List Word)} {read : List Token → 
   pub says_as : SaysWhatIsRead spell read
   says_as text said is = subst (Says spell text) (sym is) (says_read text)
 
-  -- no two have one spelling
+  -- no two have the same spelling
   pub one_spelling : (a b : X) (text : List ℕ) → Spells spell a text → Spells spell b text → a ≡ b
   one_spelling a b text p q =
       let read = says_read text in
       same_Some a b (sym ((read.one a).1 p) ∙ (read.one b).1 q)
 
-  -- so what a text says is what is read
+  -- so a text means only what is read from it
   pub said_is : (text : List ℕ) (said : Option X) → Says spell text said
       → said ≡ read (tokens (words_of text))
   said_is text said s = by said (read (tokens (words_of text))) s (says_read text)
@@ -235,7 +235,7 @@ numbers_of-written (word ∷ written) ns e =
     rw (first.1, numbers_of-written written more.0 more.1) (ap (map Number) more.2)
 
 module _ {X : Type 0} (spell : X → Option (List Word)) (among : List ℕ → List X) where
-  -- each of these is spelled by its name and these numbers
+  -- the spelling of each is its name and the numbers
   abbrev pub AllNamed : List ℕ → List X → Type 0
   AllNamed ns xs = map spell xs ≡ map (λ x. Some (word_of (first_name (spell x)) ∷ map Number ns)) xs
 

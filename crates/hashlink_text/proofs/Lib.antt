@@ -1,4 +1,4 @@
--- Lemmas on texts in answer to commands.
+-- Lemmas on texts of commands and the answers to them.
 pub mod Cutting
 pub mod Digits
 pub mod Grammar

@@ -2,7 +2,7 @@
 use Rattle.std.proofs.Common.{◌≡◌, ℕ, List, [], ◌∷◌, ◌++◌, append-nil, append_assoc, map, sym, ap, ◌∙◌}
 use Rattle.std.specs.List.{flat_map, join_with_byte}
 
--- what follows others, with a space before each
+-- the items after the first, with a space before each
 abbrev pub following_shown : {X : Type 0} → (X → List ℕ) → List X → List ℕ
 following_shown show xs = flat_map (λ x. 32 ∷ show x) xs
 
@@ -11,7 +11,7 @@ pub joined-cons : {X : Type 0} (show : X → List ℕ) (x : X) (xs : List X)
 joined-cons show x [] = sym (append-nil (show x))
 joined-cons show x (y ∷ ys) = ap (λ text. show x ++ 32 ∷ text) (joined-cons show y ys)
 
--- what is written once the first is
+-- what is written after the first item
 pub joined-first : {X : Type 0} (show : X → List ℕ) (old new : List ℕ) (x : X) (xs : List X)
     → new ≡ old ++ show x
     → new ++ following_shown show xs ≡ old ++ join_with_byte 32 (map show (x ∷ xs))

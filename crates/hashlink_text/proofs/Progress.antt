@@ -1,11 +1,11 @@
--- A run over lines that has come some way.
+-- A run over lines that has answered some of them.
 use Rattle.std.proofs.Common.{◌≡◌, ℕ, List, [], ◌∷◌, ◌++◌, refl, sym, ap, ◌∙◌, append_assoc, append-nil}
 use Rattle.std.proofs.Common.{subst}
 use Rattle.std.specs.declared.string.String.{String}
 use Rattle.hashlink_text.specs.Transcript.{Pushes, ShowsAll, ended}
 
 module _ {M : Type 0} (ShowsLine : M → List ℕ → List ℕ → M → Type 0) where
-  -- so much was written after `before`; whatever answers the rest from here goes on it, as an answer to all
+  -- this was written after `before`; any answer to the lines left, appended to it, is an answer to all lines
   pub record HasCome (start now : M) (all rest : List (List ℕ)) (before after : List ℕ) : Type 0 where
     pub written : List ℕ
     pub wrote : after ≡ before ++ written
@@ -41,7 +41,7 @@ module _ {M : Type 0} (ShowsLine : M → List ℕ → List ℕ → M → Type 0)
       come.wrote,
     )
 
--- an answer to all by containers is one by what is seen of them
+-- an answer to all lines by containers is one by the values that contracts see of them
 module _ {C M : Type 0} (seen : C → M) (ShowsLine : M → List ℕ → List ℕ → M → Type 0) where
   abbrev pub SeesLine : C → List ℕ → List ℕ → C → Type 0
   SeesLine old line answer new = ShowsLine (seen old) line answer (seen new)

@@ -1,4 +1,4 @@
--- What is answered to what is read of a line is what is answered to the line.
+-- The answer to what is read from a line is the answer to the line.
 use Rattle.std.proofs.Common.{ℕ, List, ◌∷◌, Option, subst}
 use Rattle.hashlink_model.specs.MapState.{MapState}
 use Rattle.hashlink_text.specs.Lines.{words_of}
@@ -11,7 +11,7 @@ use Rattle.hashlink_text.specs.declared.modes.Mode.{Mode}
 use Rattle.hashlink_text.proofs.Grammar.{said_is, says_read}
 use Rattle.hashlink_text.proofs.Readers.{reads_line, reads_mode}
 
--- what is read of a line, and of the first one
+-- what is read from a line, and from the first line
 abbrev pub read_of : List ℕ → Option Said
 read_of line = line_read (tokens (words_of line))
 

@@ -1,4 +1,4 @@
--- What is read of a line is what it says: for lines to caches, first lines, and lines to a map.
+-- What is read from a line is what it means: for lines to caches, first lines, and lines to a map.
 use Rattle.std.proofs.Common.{◌≡◌, ℕ, zero, suc, true, false, nat_le, List, [], ◌∷◌, ◌++◌, take, drop, map}
 use Rattle.std.proofs.Common.{Option, Some, option_and_then, refl, codes, sym, ap, ap₂, ◌∙◌, ⊎_elim, cond}
 use Rattle.std.specs.Option.{option_map, option_map_or}
@@ -157,7 +157,7 @@ steps_found [] = (refl, refl)
 steps_found (Next ∷ steps) = let more = steps_found steps in (more.0, rw more.1 refl)
 steps_found (step ∷ steps) = let more = steps_found steps in (more.0, rw more.1 refl)
 
--- ---- and all of them
+-- ---- and all lines
 
 commands_named : EachNamed spelled commands
 commands_named (k ∷ v ∷ []) = refl

@@ -14,11 +14,11 @@ use Rattle.hashlink_text.proofs.ReadSo.{read_of, runs_mode, shows_line}
 abbrev State : Type 0
 State = MapState ℕ ℕ DefaultHashBuilder
 
--- these entries, spare nodes, room, and links stored
+-- the state with the given entries and numbers of free nodes, room and stored links
 abbrev state : List (ℕ × ℕ) → ℕ → ℕ → ℕ → State
 state es spare room writes = map_state es spare room writes default_builder
 
--- a pair goes in at the back, where there is room for the others alone
+-- a pair is inserted at the back, if there is room only for the others
 adds : (es : List (ℕ × ℕ)) (w : ℕ) (pair : ℕ × ℕ) → IsPowerOfTwo (length es + 1)
     → Adds (state es 0 (length es) w) (state (es ++ pair ∷ []) 0 (length es + 1) (w + 4)) (es ++ pair ∷ [])
 adds es w pair power =
@@ -48,21 +48,22 @@ changes old new room w stored most le = record {
   hasher = refl;
 }
 
--- from old, the text answers the lines, and new is left: a record, so that its arguments are found
+-- starting at old, the lines have this answer, and new is left. It is a record, so that its arguments are
+-- found
 record Shown (old new : State) (lines : List (List ℕ)) (text : List ℕ) : Type 0 where
   all : ShowsAll LineShows old lines text new
 
 no_line : {m : State} → Shown m m [] []
 no_line = record { all = (refl, refl) }
 
--- a line with its answer, which leads to mid, and the others after it
+-- a line with its answer, which leads to mid, followed by the other lines
 first : {old new : State} {lines : List (List ℕ)} {text : List ℕ} (line answer : List ℕ) (mid : State)
     → Shows old (read_of line) answer mid → Shown mid new lines text
     → Shown old new (line ∷ lines) (ended answer ++ text)
 first {old} {text = text} line answer mid shows more =
     record { all = (answer, mid, text, shows_line old mid line answer shows, more.all, refl) }
 
--- to the lines after the first one, which asks for a map
+-- for the lines after the first one, which asks for a map
 runs : {new : State} {lines : List (List ℕ)} {text : List ℕ}
     → Shown (empty_map default_builder) new lines text
     → LinesRun DefaultHashBuilder (codes "map" ∷ lines) text

@@ -1,4 +1,4 @@
--- What answers a line to a cache, and a line to two caches.
+-- The answers to a line to a cache, and to a line to two caches.
 use Rattle.std.specs.Prelude.{◌≡◌, ℕ, List, ◌∷◌, ◌++◌, length, codes, decimal, nat_eq, Option, None, Some}
 use Rattle.hashlink_model.specs.Cache.{CacheState}
 use Rattle.hashlink_history.specs.CacheRuns.{answer_to, after_event}
@@ -13,7 +13,8 @@ use Rattle.hashlink_text.specs.declared.shown.Form.TheVariants.{OfValue}
 use Rattle.hashlink_text.specs.Transcript.{Itself, ShowsAll, ended, shown_by, list_shown, replies_shown}
 
 module _ {S : Type 0} where
-  -- from old, this text may answer what a line says, and the cache goes on to new; a bad line changes nothing
+  -- starting at old, this text may answer a line with this meaning, and the cache reaches new; a bad line
+  -- changes nothing
   abbrev pub CacheShows : CacheState ℕ ℕ S → Option CacheLine → List ℕ → CacheState ℕ ℕ S → Type 0
   CacheShows old None text new = (text ≡ codes "bad") × (new ≡ old)
   CacheShows old (Some Len) text new = (text ≡ decimal (length old.map.entries)) × (new ≡ old)
@@ -26,23 +27,23 @@ module _ {S : Type 0} where
   CacheLineShows old line text new =
       (said : Option CacheLine) × Says cache_spelled line said × CacheShows old said text new
 
--- ---- two caches, by what they hold
+-- ---- two caches, by their entries
 
 abbrev pub TwoLists : Type 0
 TwoLists = List (ℕ × ℕ) × List (ℕ × ℕ)
 
--- what the two caches answer to a command
+-- the results that the two caches return for a command
 abbrev pub answers_shown : TwoLists → PairCommand ℕ ℕ → List ℕ
 answers_shown held command =
     shown_by decimal (answer_to nat_eq held.0 (event_of command))
     ++ (32 ∷ shown_by decimal (answer_to nat_eq held.1 (event_of command)))
 
--- what both hold, a line for each
+-- the entries of both, a line for each
 abbrev pub lists_shown : TwoLists → List ℕ
 lists_shown held = ended (list_shown held.0) ++ ended (list_shown held.1)
 
 module _ (c d : ℕ) where
-  -- of two caches of capacities c and d, none of whose inserts is refused
+  -- the answer to a line to two caches of capacities c and d, if no insert is refused
   abbrev pub PairShows : TwoLists → Option (PairCommand ℕ ℕ) → List ℕ → TwoLists → Type 0
   PairShows old None text new = (text ≡ codes "bad") × (new ≡ old)
   PairShows old (Some command) text new =
@@ -53,7 +54,7 @@ module _ (c d : ℕ) where
   PairLineShows old line text new =
       (said : Option (PairCommand ℕ ℕ)) × Says pair_spelled line said × PairShows old said text new
 
-  -- an answer to the lines from old on, and what both hold at the end
+  -- an answer to the lines, starting at old, and the entries of both at the end
   abbrev pub PairRun : TwoLists → List (List ℕ) → List ℕ → Type 0
   PairRun old lines text =
       (answers : List ℕ) × (new : TwoLists) × ShowsAll PairLineShows old lines answers new

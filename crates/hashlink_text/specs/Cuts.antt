@@ -1,9 +1,9 @@
--- What is behind references: the parts of a text that is read from its front, and a table of words.
+-- The values behind references: the parts of a text that is read from its front, and a table of words.
 use Rattle.std.specs.Prelude.{ℕ, List, [], Option, None, Some, map}
 use Rattle.std.specs.Borrow.{Bor}
 use Rattle.hashlink_text.specs.Lines.{parts_of}
 
--- the parts of what is left: none after the last
+-- the parts that are left; none after the last
 abbrev pub parts_left : ℕ → Option (Bor (List ℕ)) → List (List ℕ)
 parts_left byte None = []
 parts_left byte (Some rest) = parts_of byte rest.now

@@ -1,4 +1,4 @@
--- What a fault says.
+-- The message of a fault.
 use Rattle.std.specs.Prelude.{ℕ, List, codes}
 use Rattle.hashlink_text.specs.declared.faults.Fault.{Fault}
 use Rattle.hashlink_text.specs.declared.faults.Fault.TheVariants.{Reading, Memory, Writing}

@@ -1,4 +1,4 @@
--- What is written in answer to a text of commands.
+-- The answers to a text of commands.
 pub mod Lines
 pub mod Cuts
 pub mod Tables

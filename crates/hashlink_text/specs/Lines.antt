@@ -1,11 +1,11 @@
--- What a text is made of: lines, the words of a line, and numbers.
+-- The parts of a text: lines, the words of a line, and numbers.
 use Rattle.std.specs.Prelude.{ℕ, ◌^◌, Bool, true, false, ◌&&◌, not, List, [], ◌∷◌, Option, None, Some, nat_lt}
 use Rattle.std.specs.Prelude.{◌==◌, if◌then◌else◌}
 use Rattle.std.specs.List.{slice_split}
 use Rattle.std.specs.Str.{all_ascii_digits}
 use Rattle.std.specs.Str.Parse.{digits_value}
 
--- the parts that a byte stands between
+-- the parts that a byte separates
 abbrev pub parts_of : ℕ → List ℕ → List (List ℕ)
 parts_of byte text = slice_split (λ b. b == byte) text
 
@@ -19,7 +19,7 @@ without_empty_end (part ∷ parts) = part ∷ without_empty_end parts
 abbrev pub lines_of : List ℕ → List (List ℕ)
 lines_of text = without_empty_end (parts_of 10 text)
 
--- the words of a line: one space stands between two, and a space too many makes an empty word
+-- the words of a line: a single space separates two, so two spaces in a row have an empty word between them
 abbrev pub words_of : List ℕ → List (List ℕ)
 words_of line = parts_of 32 line
 

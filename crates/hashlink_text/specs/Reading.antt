@@ -1,5 +1,5 @@
--- How a line is read: of all that is said with so many numbers, the one that its first word names. Only the
--- functions below those that read a line say this; what a line says is in `Spelling`.
+-- How a line is read: its first word chooses among all meanings with as many numbers. Only the functions that
+-- readers of lines call use them; the meaning of a line is defined in `Spelling`.
 use Rattle.std.specs.Prelude.{ℕ, zero, suc, ◌||◌, List, [], ◌∷◌, take, map, Option, None, Some}
 use Rattle.std.specs.Prelude.{option_and_then, if◌then◌else◌, codes}
 use Rattle.std.specs.Map.{lookup}
@@ -11,24 +11,24 @@ use Rattle.hashlink_text.specs.Spelling.{Word, Name, Number, Said, Do, Cursor, s
 use Rattle.hashlink_text.specs.Spelling.{step_spelled, entry_steps, cursor_step_words, cursor_steps}
 use Rattle.hashlink_text.specs.Tables.{Token, numbers_of}
 
--- the name that the words begin with
+-- the name with which the words begin
 abbrev pub first_name : Option (List Word) → List ℕ
 first_name None = []
 first_name (Some []) = []
 first_name (Some (Name name ∷ words)) = name
 first_name (Some (Number n ∷ words)) = []
 
--- `among` has for some numbers what is said with them
+-- `among` lists the possible meanings for some numbers
 module _ {X : Type 0} (spell : X → Option (List Word)) (among : List ℕ → List X) where
-  -- each of these by its name
+  -- each of them by its name
   abbrev pub by_name : List ℕ → List (List ℕ × X)
   by_name ns = map (λ x. (first_name (spell x), x)) (among ns)
 
-  -- the one that this name says with the words after it, which spell numbers
+  -- the meaning of this name and the words after it, which spell numbers
   abbrev pub read_in : List ℕ → List Token → Option X
   read_in name words = option_and_then (λ ns. lookup (bytes_eq name) (by_name ns)) (numbers_of words)
 
-  -- the one that these words say
+  -- the meaning of the words
   abbrev pub read_words : List Token → Option X
   read_words [] = None
   read_words (name ∷ words) = read_in name.0 words
@@ -45,11 +45,11 @@ entry_read (key ∷ words) =
 abbrev pub cursor_step_spelled : CursorStep ℕ ℕ → Option (List Word)
 cursor_step_spelled step = Some (cursor_step_words step)
 
--- how many numbers stand after the name of a step
+-- how many numbers follow the name of a step
 abbrev pub numbers_after : List ℕ → ℕ
 numbers_after name = if bytes_eq name (codes "before") || bytes_eq name (codes "after") then 2 else 0
 
--- the steps that the words after the first n say, each by its name and the numbers after it
+-- the steps that the words after the first n mean, each by its name and the numbers after it
 abbrev pub steps_after : ℕ → List Token → Option (List (CursorStep ℕ ℕ))
 steps_after n [] = Some []
 steps_after (suc n) (word ∷ words) = steps_after n words

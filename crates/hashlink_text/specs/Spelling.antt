@@ -1,5 +1,5 @@
--- How what a line says is spelled. What a text says is the one whose spelling it is. After each spelling
--- comes what is said with so many numbers, among which those who read a line look for its first word.
+-- The spelling of what a line may mean. A text means the one whose spelling it is. Each spelling is followed
+-- by a list of all meanings with given numbers; a reader looks the first word of a line up in it.
 use Rattle.std.specs.Prelude.{◌≡◌, ◌↔◌, ℕ, ◌^◌, ◌<◌, List, [], ◌∷◌, map, codes, decimal, Option, None, Some}
 use Rattle.std.specs.Prelude.{nat_le, if◌then◌else◌}
 use Rattle.std.specs.Option.{option_map}
@@ -33,12 +33,12 @@ abbrev pub word_shown : Word → List ℕ
 word_shown (Name name) = name
 word_shown (Number n) = decimal n
 
--- it is such as a line can have
+-- it can be a word of a line
 abbrev pub FitsWord : Word → Type 0
 FitsWord (Name name) = Unit {0}
 FitsWord (Number n) = n < 2 ^ 64
 
--- `spell` has the words of what a line may say, or nothing where no line says it
+-- `spell` has the words of what a line may mean, or nothing if no line means it
 module _ {X : Type 0} (spell : X → Option (List Word)) where
   -- the text is the spelling of x: its words, with one space between two
   pub record Spells (x : X) (text : List ℕ) : Type 0 where
@@ -47,7 +47,7 @@ module _ {X : Type 0} (spell : X → Option (List Word)) where
     pub fit : AllByRecursion FitsWord words
     pub is : text ≡ join_with_byte 32 (map word_shown words)
 
-  -- what the text says: the one whose spelling it is, or nothing where it is the spelling of none
+  -- the meaning of the text: the one whose spelling it is, or none if it is no spelling
   pub record Says (text : List ℕ) (said : Option X) : Type 0 where
     pub one : (x : X) → (said ≡ Some x) ↔ Spells x text
 
@@ -60,20 +60,19 @@ named name ns = Some (named_words name ns)
 
 -- ---- lines to a map
 
--- what a line may say: a command to the map, steps of a cursor, or that the list of all pairs is asked for
+-- the meaning of a line: a command to the map, steps of a cursor, or a request for the list of all pairs
 pub data Said : Type 0 where
   Do : Command ℕ ℕ → Said
   Cursor : List (CursorStep ℕ ℕ) → Said
   Iter : Said
 
--- what a line says that was read, with the list of a cursor's steps for what holds them
+-- the meaning of a line that was read, with the list of a cursor's steps in place of their vector
 abbrev pub said : Line → Said
 said (line.Do (command.Cursor steps)) = Cursor steps.items
 said (line.Do command) = Do command
 said line.Iter = Iter
 
--- the words for what is done at a key's place. None say that the key alone is replaced, and that a pair is
--- taken out whole
+-- the words for a step at a key's place. No words spell `ReplaceKey` or `RemoveEntry`
 abbrev pub step_spelled : EntryStep ℕ → Option (List Word)
 step_spelled step.Get = named (codes "get") []
 step_spelled (step.OrInsert v) = named (codes "or_insert") (v ∷ [])
@@ -106,8 +105,8 @@ cursor_steps [] = cursor.Next ∷ cursor.Prev ∷ cursor.Current ∷ cursor.Peek
 cursor_steps (k ∷ v ∷ []) = cursor.Before k v ∷ cursor.After k v ∷ []
 cursor_steps ns = []
 
--- the words of the line that says it. None say that a pair is taken out whole, and a cursor's steps are said
--- as their list, of which there is one at least
+-- the words of the line that means it. No words spell `RemoveEntry`, and a cursor has a list of at least one
+-- step
 abbrev pub spelled : Said → Option (List Word)
 spelled (Do (command.Insert k v)) = named (codes "insert") (k ∷ v ∷ [])
 spelled (Do (command.InsertFront k v)) = named (codes "insert_front") (k ∷ v ∷ [])
@@ -200,7 +199,7 @@ weighted_lines ns = []
 
 -- ---- the first line
 
--- of two caches the first is the smaller one
+-- the first of two caches is the smaller one
 abbrev pub mode_spelled : Mode → Option (List Word)
 mode_spelled mode.Map = named (codes "map") []
 mode_spelled (mode.Cache c) = named (codes "cache") (c ∷ [])

@@ -1,4 +1,4 @@
--- The words of a line as it is read, and the numbers that stand after a word.
+-- The words of a line as it is read, and the numbers that follow a word.
 use Rattle.std.specs.Prelude.{ℕ, List, [], ◌∷◌, map, Option, None, Some, option_and_then}
 use Rattle.std.specs.Option.{option_map}
 use Rattle.hashlink_text.specs.Lines.{number_of}
@@ -12,12 +12,12 @@ Token = List ℕ × Option ℕ
 abbrev pub tokens : List (List ℕ) → List Token
 tokens words = map (λ word. (word, number_of word)) words
 
--- the numbers, where each word spells one
+-- the numbers, if each word spells one
 abbrev pub numbers_of : List Token → Option (List ℕ)
 numbers_of [] = Some []
 numbers_of (word ∷ words) = option_and_then (λ n. option_map (λ ns. n ∷ ns) (numbers_of words)) word.1
 
--- the numbers, where there are three at most
+-- the numbers, if there are at most three
 abbrev pub three_at_most : List ℕ → Option Numbers
 three_at_most [] = Some Nothing
 three_at_most (k ∷ []) = Some (One k)

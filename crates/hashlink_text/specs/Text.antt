@@ -1,4 +1,4 @@
--- What `run_text` answers, and what `serve` writes.
+-- What `run_text` returns, and what `serve` writes.
 use Rattle.std.specs.Prelude.{◌≡◌, ℕ, List, [], ◌∷◌, codes, Option, None, Some}
 use Rattle.std.specs.Io.KnownBytes.{Appends}
 use Rattle.hashlink_model.specs.Cache.{CacheState}
@@ -16,8 +16,8 @@ use Rattle.hashlink_text.specs.Transcript.{LineShows, ShowsAll, ended}
 use Rattle.hashlink_text.specs.WeightedTranscript.{WeightedLineShows}
 
 module _ (S : Type 0) where
-  -- the answer to the lines after the mode line, from an empty map or empty caches on. A bad mode line is
-  -- answered alone, and what two caches hold is shown at the end
+  -- the answer to the lines after the mode line, starting with an empty map or empty caches. If the mode line
+  -- is bad, only it is answered. In the mode `pair`, the entries of both caches are shown at the end
   abbrev pub ModeRun : Option Mode → List (List ℕ) → List ℕ → Type 0
   ModeRun None lines text = text ≡ ended (codes "bad")
   ModeRun (Some Map) lines text =
@@ -29,7 +29,7 @@ module _ (S : Type 0) where
       (hasher : S) × (new : WeightedState ℕ ℕ S)
       × ShowsAll WeightedLineShows (empty_weighted hasher b) lines text new
 
-  -- the answer to a text of these lines, the first of which names the mode
+  -- the answer to a text of lines, the first of which names the mode
   abbrev pub LinesRun : List (List ℕ) → List ℕ → Type 0
   LinesRun [] text = text ≡ []
   LinesRun (mode ∷ lines) text = (said : Option Mode) × Says mode_spelled mode said × ModeRun said lines text
@@ -38,6 +38,6 @@ module _ (S : Type 0) where
 abbrev pub IsTranscript : List ℕ → List ℕ → Type 0
 IsTranscript input text = LinesRun DefaultHashBuilder (lines_of input) text
 
--- an answer to the input follows the bytes that were written before, where they are known
+-- an answer to the input follows the bytes that were written before, if they are known
 abbrev pub AppendsTranscript : Option (List ℕ) → Option (List ℕ) → List ℕ → Type 0
 AppendsTranscript old new input = (text : List ℕ) × IsTranscript input text × Appends old new text

@@ -1,7 +1,6 @@
--- What a line to a map is answered with, and lines in turn: a state goes from line to line, and each line has
--- one line in answer.
--- The map's own choices are open: whether an insert that needs a new node is refused, whether a shrink of a
--- map that isn't empty is, and for how many nodes there is room.
+-- The answer to a line to a map, and to several lines: each line leads from one state to the next, and is
+-- answered by one line. The map's own choices are open: whether an insert that needs a new node is refused,
+-- whether a shrink of a map that isn't empty is refused, and for how many nodes there is room.
 use Rattle.std.specs.Prelude.{◌≡◌, ℕ, List, [], ◌∷◌, ◌++◌, map, codes, decimal, nat_eq, Option, None, Some}
 use Rattle.std.specs.Prelude.{string_bytes}
 use Rattle.std.specs.List.{join_with_byte}
@@ -25,12 +24,12 @@ use Rattle.hashlink_run.specs.Step.{Step}
 abbrev pub ended : List ℕ → List ℕ
 ended text = text ++ 10 ∷ []
 
--- ---- what is shown of numbers, of pairs and of replies
+-- ---- how numbers, pairs and replies are shown
 
 abbrev pub pair_shown : ℕ × ℕ → List ℕ
 pair_shown pair = decimal pair.0 ++ (codes ":" ++ decimal pair.1)
 
--- what there is, or a dash
+-- the value, or a dash if there is none
 abbrev pub shown_by : {X : Type 0} → (X → List ℕ) → Option X → List ℕ
 shown_by show None = codes "-"
 shown_by show (Some x) = show x
@@ -40,8 +39,9 @@ abbrev pub list_shown : List (ℕ × ℕ) → List ℕ
 list_shown [] = codes "empty"
 list_shown (pair ∷ pairs) = join_with_byte 32 (map pair_shown (pair ∷ pairs))
 
--- how a command to a map shows a pair that it read: one at an end or at a place of a cursor whole, one whose
--- key was named by its value. Where an `or_insert` found none, its own value is shown, which then stands
+-- how a command to a map shows a pair that it read. A pair at an end or at a cursor's place is shown whole,
+-- and the pair of a named key by its value. If an `or_insert` finds no pair, it shows the value that it
+-- inserts
 abbrev pub form_of : Command ℕ ℕ → Form
 form_of command.Front = Whole
 form_of command.Back = Whole
@@ -54,7 +54,7 @@ read_shown OfValue pair = shown_by (λ p. decimal p.1) pair
 read_shown Whole pair = shown_by pair_shown pair
 read_shown (OrGiven v) pair = decimal (option_map_or (λ p. p.1) pair v)
 
--- a reply, where what is said of a pair that was read is the pair itself
+-- a reply, if the closure returns the pair that was read
 abbrev pub reply_shown : Form → Reply ℕ ℕ (ℕ × ℕ) → List ℕ
 reply_shown form Done = codes "ok"
 reply_shown form Denied = codes "memory"
@@ -70,14 +70,15 @@ reply_shown form (TooHeavy key value) = codes "heavy"
 abbrev pub replies_shown : Form → List (Reply ℕ ℕ (ℕ × ℕ)) → List ℕ
 replies_shown form replies = join_with_byte 32 (map (reply_shown form) replies)
 
--- of a pair that is read, the pair itself is said
+-- for a pair that is read, the closure returns the pair itself
 abbrev pub Itself : ℕ → ℕ → ℕ × ℕ → Type 0
 Itself k v pair = pair ≡ (k, v)
 
--- ---- what answers a line, and a text
+-- ---- the answer to a line, and to a text
 
 module _ {S : Type 0} where
-  -- from old, this text may answer what a line says, and the map goes on to new; a bad line changes nothing
+  -- starting at old, this text may answer a line with this meaning, and the map reaches new; a bad line
+  -- changes nothing
   abbrev pub Shows : MapState ℕ ℕ S → Option Said → List ℕ → MapState ℕ ℕ S → Type 0
   Shows old None text new = (text ≡ codes "bad") × (new ≡ old)
   Shows old (Some Iter) text new = (text ≡ list_shown old.entries) × (new ≡ old)
@@ -91,8 +92,8 @@ module _ {S : Type 0} where
   abbrev pub LineShows : MapState ℕ ℕ S → List ℕ → List ℕ → MapState ℕ ℕ S → Type 0
   LineShows old line text new = (said : Option Said) × Says spelled line said × Shows old said text new
 
--- from old, this text may answer the lines, a line for each, and the state goes on to new. `ShowsLine` says
--- what may answer one line
+-- starting at old, this text may answer the lines, a line for each, and the state becomes new. `ShowsLine`
+-- states which text may answer one line
 module _ {M : Type 0} (ShowsLine : M → List ℕ → List ℕ → M → Type 0) where
   abbrev pub ShowsAll : M → List (List ℕ) → List ℕ → M → Type 0
   ShowsAll old [] text new = (text ≡ []) × (new ≡ old)
@@ -100,7 +101,7 @@ module _ {M : Type 0} (ShowsLine : M → List ℕ → List ℕ → M → Type 0)
       (answer : List ℕ) × (between : M) × (more : List ℕ)
       × ShowsLine old line answer between × ShowsAll between lines more new × (text ≡ ended answer ++ more)
 
--- ---- what is written to the end of a text
+-- ---- writes to the end of a text
 
 module _ {A : Type 0} where
   -- a text for which P holds

@@ -1,4 +1,4 @@
--- What answers a line to a cache with a budget.
+-- The answer to a line to a cache with a budget.
 use Rattle.std.specs.Prelude.{◌≡◌, ℕ, List, map, length, codes, decimal, nat_eq, Option, None, Some}
 use Rattle.hashlink_model.specs.Weights.{WeightedState, total_weight}
 use Rattle.hashlink_run.specs.declared.replies.Reply.{Reply}
@@ -14,7 +14,8 @@ abbrev pub pairs_of : List (ℕ × (ℕ × ℕ)) → List (ℕ × ℕ)
 pairs_of entries = map (λ e. (e.0, e.1.0)) entries
 
 module _ {S : Type 0} where
-  -- from old, this text may answer what a line says, and the cache goes on to new; a bad line changes nothing
+  -- starting at old, this text may answer a line with this meaning, and the cache reaches new; a bad line
+  -- changes nothing
   abbrev pub WeightedShows : WeightedState ℕ ℕ S → Option WeightedLine → List ℕ → WeightedState ℕ ℕ S → Type 0
   WeightedShows old None text new = (text ≡ codes "bad") × (new ≡ old)
   WeightedShows old (Some (Do command)) text new =

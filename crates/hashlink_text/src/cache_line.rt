@@ -12,12 +12,12 @@ use crate::tables::said_by;
 use crate::words::{Words, is};
 use hashlink_run::CacheCommand;
 
-/// What a line to a cache says.
+/// What a line to a cache means.
 #[derive(Clone, Copy)]
 pub enum CacheLine {
     /// A command to the cache.
     Do(CacheCommand<u64, u64>),
-    /// Asks how many pairs there are.
+    /// Asks for the number of pairs.
     Len,
     /// Asks for the list of all pairs.
     Iter,
@@ -44,7 +44,7 @@ fn line_of(text: &[u8]) -> Option<CacheLine>
     said_of_name(name, words)
 }
 
-// Returns what a word says with the words after it.
+// Returns the line that the name and the words after it mean.
 fn said_of_name(name: &[u8], words: Words<'_>) -> Option<CacheLine>
     ensures { result ≡ read_in cache_spelled cache_lines name.now
         (tokens (parts_left 32 words.entry.rest)) }
@@ -57,7 +57,7 @@ fn said_of_name(name: &[u8], words: Words<'_>) -> Option<CacheLine>
     }
 }
 
-// Returns what a word says that stands alone.
+// Returns the line that the name means without a word after it.
 fn said_alone(name: &[u8]) -> Option<CacheLine>
     ensures { result ≡ lookup (bytes_eq name.now) (by_name cache_spelled cache_lines []) }
 {
@@ -72,7 +72,7 @@ fn said_alone(name: &[u8]) -> Option<CacheLine>
     )
 }
 
-// Returns what a word says before a capacity, or before a key.
+// Returns the line that the name means before a capacity or a key.
 fn said_of_number(name: &[u8], number: u64) -> Option<CacheLine>
     ensures { result ≡ lookup (bytes_eq name.now) (by_name cache_spelled cache_lines (number ∷ [])) }
 {
@@ -90,7 +90,7 @@ fn said_of_number(name: &[u8], number: u64) -> Option<CacheLine>
     )
 }
 
-// Returns what a word says before a key and a value.
+// Returns the line that the name means before a key and a value.
 fn said_of_pair(name: &[u8], key: u64, value: u64) -> Option<CacheLine>
     ensures { result ≡ lookup (bytes_eq name.now) (by_name cache_spelled cache_lines (key ∷ value ∷ [])) }
 {

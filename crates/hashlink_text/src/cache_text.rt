@@ -16,7 +16,7 @@ use hashlink_lru::LruCache;
 use hashlink_run::answer_cache;
 use std::alloc::{AllocError, Global};
 
-// Pushes the answers to the lines, which speak to a cache of this capacity that is empty at first.
+// Pushes the answers to the lines, which are run on a cache of this capacity that is empty at first.
 pub(crate) fn run_cache_lines(
     alloc: Global,
     capacity: usize,
@@ -38,7 +38,7 @@ impl AnswersLines for LruCache<u64, u64> {
     }
 }
 
-// Pushes the answer to what a line says.
+// Pushes the answer to a line with this meaning.
 fn answer(
     cache: &mut LruCache<u64, u64>,
     line: Option<CacheLine>,

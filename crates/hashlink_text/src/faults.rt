@@ -5,7 +5,7 @@ use std::alloc::AllocError;
 use std::error::Error;
 use std::fmt;
 
-/// Why there is no answer to a text.
+/// Why a text was not answered.
 #[derive(Clone, Copy, Debug, PartialEq, Eq)]
 pub enum Fault {
     /// The input could not be read to its end. Nothing was written.

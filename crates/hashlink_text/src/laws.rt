@@ -1,9 +1,9 @@
-//! Texts, and the answers that they can have. Each function has an empty body: its contract is the statement.
+//! Texts, and the answers that they can have. Each function has an empty body: its contract is the theorem.
 ghost use Rattle.std.specs.Prelude.{◌≡◌, ◌⊎◌, ℕ, List, [], codes};
 ghost use Rattle.hashlink_text.specs.Text.{IsTranscript};
 
-/// These texts have these answers and no others: one if the map has no choice, and two if an insert needs a
-/// new node: one for its success, and one for when memory runs out.
+/// These texts have these answers and no others. There is one answer if the map has no choice. There are two
+/// if an insert needs a new node: one for its success, and one if memory runs out.
 pub fn answers_to_texts()
     ensures no_line { (text : List ℕ) → IsTranscript [] text → text ≡ [] }
     ensures mode_alone { (text : List ℕ) → IsTranscript (codes "map") text → text ≡ [] }
@@ -36,8 +36,8 @@ pub fn a_worked_text()
         (codes "-\n-\n10\n11\n20\n1:11\n") }
 {}
 
-/// A text with entries: one that is occupied moves to the back and keeps its value, one that is vacant is
-/// inserted, and one is replaced at its place.
+/// A text with entries: one is occupied, moves to the back and keeps its value; one is vacant and is
+/// inserted; and one is replaced at its place.
 #[tactic(auto, using(crate::proofs::Worked::worked_entries))]
 pub fn a_worked_text_of_entries()
     ensures { IsTranscript (codes

@@ -1,4 +1,4 @@
-//! The text form in which a program reads commands to a container and writes the answers to them.
+//! The text form in which a program reads commands to a container and writes the answers.
 #![tactic(auto)]
 
 mod cache_line;

@@ -16,7 +16,7 @@ use crate::words::{Words, is};
 use hashlink_run::{Command, CursorStep, EntryStep};
 use std::alloc::{AllocError, Global};
 
-/// What a line of the text form says.
+/// The meaning of a line of the text form.
 #[derive(Drop)]
 pub enum Line {
     /// A command to the map.
@@ -60,7 +60,7 @@ fn line_of(alloc: Global, text: &[u8]) -> Result<Option<Line>, AllocError>
     }
 }
 
-// Returns what a word says with the words after it.
+// Returns the line that the name and the words after it mean.
 fn said_of_name(name: &[u8], words: Words<'_>) -> Option<Line>
     ensures { option_map said result ≡ read_in spelled commands name.now
         (tokens (parts_left 32 words.entry.rest)) }
@@ -73,7 +73,7 @@ fn said_of_name(name: &[u8], words: Words<'_>) -> Option<Line>
     }
 }
 
-// Returns what a word says that stands alone.
+// Returns the line that the name means without a word after it.
 fn said_alone(name: &[u8]) -> Option<Line>
     ensures { option_map said result ≡ lookup (bytes_eq name.now) (by_name spelled commands []) }
 {
@@ -100,7 +100,7 @@ fn said_alone(name: &[u8]) -> Option<Line>
     }
 }
 
-// Returns what a word says before one number.
+// Returns the line that the name means before one number.
 fn said_of_key(name: &[u8], key: u64) -> Option<Line>
     ensures { option_map said result ≡ lookup (bytes_eq name.now) (by_name spelled commands (key ∷ [])) }
 {
@@ -117,7 +117,7 @@ fn said_of_key(name: &[u8], key: u64) -> Option<Line>
     }
 }
 
-// Returns what a word says before two numbers.
+// Returns the line that the name means before two numbers.
 fn said_of_pair(name: &[u8], key: u64, value: u64) -> Option<Line>
     ensures { option_map said result
         ≡ lookup (bytes_eq name.now) (by_name spelled commands (key ∷ value ∷ [])) }
@@ -133,7 +133,7 @@ fn said_of_pair(name: &[u8], key: u64, value: u64) -> Option<Line>
     }
 }
 
-// Returns what the words after `entry` say: a key, what is done at its place, and the value for it.
+// Returns the line that the words after `entry` mean: a key, a step at its place, and the value for it.
 fn said_of_entry(mut words: Words<'_>) -> Option<Line>
     ensures { option_map said result ≡ entry_read (tokens (parts_left 32 words.entry.rest)) }
 {
@@ -143,7 +143,7 @@ fn said_of_entry(mut words: Words<'_>) -> Option<Line>
     Some(Line::Do(Command::Entry(key, step)))
 }
 
-// Returns the step at a key's place that a word says, with the words after it.
+// Returns the step at a key's place that the name and the words after it mean.
 fn said_of_step(name: &[u8], words: Words<'_>) -> Option<EntryStep<u64>>
     ensures { result ≡ read_in step_spelled entry_steps name.now (tokens (parts_left 32 words.entry.rest)) }
 {
@@ -154,7 +154,7 @@ fn said_of_step(name: &[u8], words: Words<'_>) -> Option<EntryStep<u64>>
     }
 }
 
-// Returns the step of a word that stands alone.
+// Returns the step that the name means without a word after it.
 fn step_alone(name: &[u8]) -> Option<EntryStep<u64>>
     ensures { result ≡ lookup (bytes_eq name.now) (by_name step_spelled entry_steps []) }
 {
@@ -169,7 +169,7 @@ fn step_alone(name: &[u8]) -> Option<EntryStep<u64>>
     )
 }
 
-// Returns the step of a word before a value.
+// Returns the step that the name means before a value.
 fn step_of_value(name: &[u8], value: u64) -> Option<EntryStep<u64>>
     ensures { result ≡ lookup (bytes_eq name.now) (by_name step_spelled entry_steps (value ∷ [])) }
 {
@@ -184,7 +184,7 @@ fn step_of_value(name: &[u8], value: u64) -> Option<EntryStep<u64>>
     )
 }
 
-// Returns what the words after `cursor` say: one step or more.
+// Returns the line that the words after `cursor` mean: one step or more.
 fn said_of_cursor(alloc: Global, mut words: Words<'_>) -> Result<Option<Line>, AllocError>
     ensures { IfOk result (λ line. option_map said line
         ≡ cursor_read (tokens (parts_left 32 words.entry.rest))) }
@@ -202,7 +202,7 @@ fn said_of_cursor(alloc: Global, mut words: Words<'_>) -> Result<Option<Line>, A
     Ok(Some(Line::Do(Command::Cursor(steps))))
 }
 
-// Returns the step of this name, which reads the numbers that stand after it.
+// Returns the step of this name, and reads the numbers that follow it.
 fn cursor_step(name: &[u8], words: &mut Words<'_>) -> Option<CursorStep<u64, u64>>
     ensures said { result ≡ read_in cursor_step_spelled cursor_steps name.now
         (take (numbers_after name.now) (tokens (parts_left 32 words.old.rest))) }
@@ -219,7 +219,7 @@ fn cursor_step(name: &[u8], words: &mut Words<'_>) -> Option<CursorStep<u64, u64
     }
 }
 
-// Returns the step of a name that stands alone.
+// Returns the step that the name means without a number after it.
 fn cursor_step_alone(name: &[u8]) -> Option<CursorStep<u64, u64>>
     ensures { result ≡ lookup (bytes_eq name.now) (by_name cursor_step_spelled cursor_steps []) }
 {
@@ -235,7 +235,7 @@ fn cursor_step_alone(name: &[u8]) -> Option<CursorStep<u64, u64>>
     )
 }
 
-// Returns the step of a name before a key and a value.
+// Returns the step that the name means before a key and a value.
 fn cursor_step_of_pair(name: &[u8], key: u64, value: u64) -> Option<CursorStep<u64, u64>>
     ensures { result ≡ lookup (bytes_eq name.now)
         (by_name cursor_step_spelled cursor_steps (key ∷ value ∷ [])) }

@@ -4,7 +4,7 @@ ghost use Rattle.hashlink_text.specs.Lines.{lines_of};
 
 use crate::cuts::cut;
 
-// The lines of a text that are not read yet.
+// The lines of a text that have not been read yet.
 #[derive(Drop)]
 pub struct Lines<'a> {
     rest: &'a [u8],

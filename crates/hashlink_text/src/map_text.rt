@@ -17,7 +17,7 @@ use hashlink_map::LinkedHashMap;
 use hashlink_run::{Reply, answer_command};
 use std::alloc::{AllocError, Global};
 
-// Pushes the answers to the lines, which speak to a map that is empty at first.
+// Pushes the answers to the lines, which are run on a map that is empty at first.
 pub(crate) fn run_map_lines(
     alloc: Global,
     lines: Lines<'_>,
@@ -34,7 +34,7 @@ pub(crate) fn run_map_lines(
     answer_lines(&mut map, lines, out)
 }
 
-// A map, and the replies to the last line, whose memory the next line uses again.
+// A map, and the replies to the last line, whose memory the next line reuses.
 #[derive(Drop)]
 struct MapWithReplies {
     alloc: Global,
@@ -52,7 +52,7 @@ impl AnswersLines for MapWithReplies {
 }
 
 impl MapWithReplies {
-    // Pushes the answer to what a line says.
+    // Pushes the answer to a line with this meaning.
     fn answer(&mut self, line: Option<Line>, out: &mut String) -> Result<(), AllocError>
         ensures { OnOk result (PushesLine (λ text. Shows (state_of self.old.map) (option_map said line) text
             (state_of self.new.map)) out.old out.new) }

@@ -11,14 +11,14 @@ use crate::numbers::{Numbers, read_numbers};
 use crate::tables::said_by;
 use crate::words::{Words, is};
 
-/// What the lines after the first speak to.
+/// The container on which the lines after the first are run.
 #[derive(Clone, Copy)]
 pub enum Mode {
     /// A map of numbers.
     Map,
     /// A cache of this capacity.
     Cache(usize),
-    /// Two caches of these capacities, the smaller one first.
+    /// Two caches of the given capacities, the smaller one first.
     Pair(usize, usize),
     /// A cache whose weights may sum to this budget.
     Weighted(u64),
@@ -41,7 +41,7 @@ fn mode_of_words(line: &[u8]) -> Option<Mode>
     mode_of_name(name, words)
 }
 
-// Returns the mode that a word says with the words after it.
+// Returns the mode that the name and the words after it mean.
 fn mode_of_name(name: &[u8], words: Words<'_>) -> Option<Mode>
     ensures { result ≡ read_in mode_spelled modes name.now
         (tokens (parts_left 32 words.entry.rest)) }
@@ -54,7 +54,7 @@ fn mode_of_name(name: &[u8], words: Words<'_>) -> Option<Mode>
     }
 }
 
-// Returns the mode of a word before a capacity, or before a budget.
+// Returns the mode that the name means before a capacity or a budget.
 fn mode_of_number(name: &[u8], number: u64) -> Option<Mode>
     ensures { result ≡ lookup (bytes_eq name.now) (by_name mode_spelled modes (number ∷ [])) }
 {
@@ -67,7 +67,7 @@ fn mode_of_number(name: &[u8], number: u64) -> Option<Mode>
     }
 }
 
-// Returns the mode of a word before two capacities, of which the first may not be the larger one.
+// Returns the mode that the name means before two capacities, of which the first may not be the larger one.
 fn mode_of_two(name: &[u8], small: u64, large: u64) -> Option<Mode>
     ensures { result ≡ lookup (bytes_eq name.now) (by_name mode_spelled modes (small ∷ large ∷ [])) }
 {

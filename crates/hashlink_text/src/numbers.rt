@@ -7,7 +7,7 @@ ghost use Rattle.hashlink_text.specs.Tables.{numbers_of, three_at_most, tokens};
 
 use crate::words::Words;
 
-// The numbers that stand after a word. No word has more than three.
+// The numbers that follow a word, of which there are at most three.
 #[derive(Clone, Copy)]
 pub(crate) enum Numbers {
     Nothing,
@@ -16,7 +16,7 @@ pub(crate) enum Numbers {
     Three(u64, u64, u64),
 }
 
-// Returns the numbers that the words spell, if each spells one and they are three at most.
+// Returns the numbers that the words spell, if each spells one and there are at most three.
 pub(crate) fn read_numbers(mut words: Words<'_>) -> Option<Numbers>
     ensures { result ≡ option_and_then three_at_most (numbers_of (tokens (parts_left 32 words.entry.rest))) }
 {

@@ -30,7 +30,7 @@ fn command_of(text: &[u8]) -> Option<PairCommand<u64, u64>>
     command_of_name(name, words)
 }
 
-// Returns the command that a word says with the words after it.
+// Returns the command that the name and the words after it mean.
 fn command_of_name(name: &[u8], words: Words<'_>) -> Option<PairCommand<u64, u64>>
     ensures { result ≡ read_in pair_spelled pair_commands name.now
         (tokens (parts_left 32 words.entry.rest)) }
@@ -43,7 +43,7 @@ fn command_of_name(name: &[u8], words: Words<'_>) -> Option<PairCommand<u64, u64
     }
 }
 
-// Returns what a word says before a key.
+// Returns the command that the name means before a key.
 fn said_of_key(name: &[u8], key: u64) -> Option<PairCommand<u64, u64>>
     ensures { result ≡ lookup (bytes_eq name.now) (by_name pair_spelled pair_commands (key ∷ [])) }
 {
@@ -56,7 +56,7 @@ fn said_of_key(name: &[u8], key: u64) -> Option<PairCommand<u64, u64>>
     )
 }
 
-// Returns what a word says before a key and a value.
+// Returns the command that the name means before a key and a value.
 fn said_of_pair(name: &[u8], key: u64, value: u64) -> Option<PairCommand<u64, u64>>
     ensures { result ≡ lookup (bytes_eq name.now) (by_name pair_spelled pair_commands (key ∷ value ∷ [])) }
 {

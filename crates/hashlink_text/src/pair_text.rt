@@ -1,4 +1,4 @@
-//! Lines to two caches, and what they hold at the end.
+//! Lines to two caches, and the lists of their entries at the end.
 ghost use Rattle.std.specs.Prelude.{◌≡◌, ◌++◌, ◌∷◌, Some, OnOk, decimal, string_bytes};
 ghost use Rattle.hashlink_core.specs.declared.hash_builder.DefaultHashBuilder.{DefaultHashBuilder};
 ghost use Rattle.hashlink_text.specs.Lines.{lines_of};
@@ -15,8 +15,8 @@ use hashlink_lru::LruCache;
 use hashlink_run::{PairCommand, Reply, answer_call};
 use std::alloc::{AllocError, Global};
 
-// Pushes the answers to the lines, which speak to two caches of these capacities that are empty at first, and
-// what the caches hold afterwards.
+// Pushes the answers to the lines, which are run on two caches of the given capacities that are empty at
+// first, and then the entries of the caches.
 pub(crate) fn run_pair_lines(
     alloc: Global,
     small_capacity: usize,
@@ -32,8 +32,8 @@ pub(crate) fn run_pair_lines(
     answer_all(&mut small, &mut large, lines, out)
 }
 
-// Pushes the answers to the lines, and what the caches hold afterwards. An insert that fails to allocate
-// counts as running out of memory for the answer.
+// Pushes the answers to the lines, and then the entries of the caches. If an insert fails to allocate, it
+// returns `AllocError`, as if there were no memory for the answer.
 fn answer_all(
     small: &mut LruCache<u64, u64>,
     large: &mut LruCache<u64, u64>,
@@ -49,7 +49,7 @@ fn answer_all(
     push_lists(small, large, out)
 }
 
-// Pushes the answer to what a line says.
+// Pushes the answer to a line with this meaning.
 fn answer(
     small: &mut LruCache<u64, u64>,
     large: &mut LruCache<u64, u64>,
@@ -71,7 +71,7 @@ fn answer(
     push_answers(small_answer, large_answer, out)
 }
 
-// Pushes the line that shows both answers.
+// Pushes the line that shows both results.
 fn push_answers(small: Option<u64>, large: Option<u64>, out: &mut String) -> Result<(), AllocError>
     ensures { OnOk result (string_bytes out.new
         ≡ string_bytes out.old ++ ended (shown_by decimal small ++ (32 ∷ shown_by decimal large))) }
@@ -82,7 +82,7 @@ fn push_answers(small: Option<u64>, large: Option<u64>, out: &mut String) -> Res
     writeln!(out)
 }
 
-// Pushes a line for each cache that shows what it holds.
+// Pushes a line for each cache that shows its entries.
 fn push_lists(
     small: &LruCache<u64, u64>,
     large: &LruCache<u64, u64>,

@@ -1,4 +1,4 @@
-//! Lines in turn, each of which has one line in answer.
+//! Several lines, each of which is answered by one line.
 ghost use Rattle.std.specs.Prelude.{ℕ, List, OnOk};
 ghost use Rattle.hashlink_text.specs.Lines.{lines_of};
 ghost use Rattle.hashlink_text.specs.Transcript.{Pushes, PushesLine, ShowsAll};
@@ -6,9 +6,9 @@ ghost use Rattle.hashlink_text.specs.Transcript.{Pushes, PushesLine, ShowsAll};
 use crate::Lines;
 use std::alloc::AllocError;
 
-// A container that lines of a text speak to.
+// A container on which lines of a text are run.
 pub(crate) trait AnswersLines {
-    // what may answer a line to the container, and what the container is afterwards
+    // which text may answer a line to the container, and the container afterwards
     ghost shows: { Self → List ℕ → List ℕ → Self → Type 0 };
 
     // Pushes the answer to one line.

@@ -7,13 +7,13 @@ use crate::text::run_text;
 use std::alloc::Global;
 use std::io::{ErrorKind, Read, Write};
 
-/// Reads all of the reader's input, writes the answer of `run_text` to it, and flushes.
+/// Reads all of the reader's input, writes the answer of `run_text` to `writer`, and flushes.
 ///
-/// The text and its answer are held in memory as a whole. Whether a read, a write or an allocation fails is
-/// up to the reader, the writer and the memory, and no clause says it.
+/// The whole text and the whole answer are kept in memory. Whether a read, a write or an allocation fails
+/// depends on the reader, the writer and the memory, and no clause states it.
 pub fn serve<R: Read, W: Write>(alloc: Global, reader: &mut R, writer: &mut W) -> Result<(), Fault>
-    // If the bytes of the reader and the writer are known, an answer to all that was read is written, and
-    // nothing else.
+    // If the bytes of the reader and the writer are known, it writes an answer to all input, and nothing
+    // else.
     ensures answer { OnOk result (IfSome (R.remaining reader.old)
         (AppendsTranscript (W.contents writer.old) (W.contents writer.new))) }
     ensures end { OnOk result (IsAtEnd (R.remaining reader.new)) }

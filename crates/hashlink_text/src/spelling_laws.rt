@@ -1,4 +1,4 @@
-//! Laws of the text form's lines. Each function has an empty body: its contract is the statement.
+//! Theorems on the lines of the text form. Each function has an empty body: its contract is the theorem.
 ghost use Rattle.std.specs.Prelude.{◌≡◌, ℕ, ◌++◌, List, [], ◌∷◌, Option, Some, None, codes};
 ghost use Rattle.hashlink_run.specs.declared.cache_commands.PairCommand.{PairCommand};
 ghost use Rattle.hashlink_run.specs.declared.commands.CursorStep.TheVariants.{Next, Prev, Current};
@@ -24,7 +24,7 @@ pub fn no_two_lines_share_a_spelling()
         → Spells mode_spelled a text → Spells mode_spelled b text → a ≡ b }
 {}
 
-/// A line ends at a byte 10. What follows the last one is a line if it is not empty. A byte 13 is like any
+/// A line ends at a byte 10. The bytes after the last one are a line if there are any. A byte 13 is like any
 /// other.
 pub fn lines_of_texts()
     ensures empty { lines_of [] ≡ [] }
@@ -34,7 +34,8 @@ pub fn lines_of_texts()
     ensures carriage_return { lines_of (codes "map" ++ 13 ∷ 10 ∷ []) ≡ (codes "map" ++ 13 ∷ []) ∷ [] }
 {}
 
-/// A line of a cursor says its steps in turn, and a name that needs numbers takes those that stand after it.
+/// A line of a cursor spells its steps in order, and a name that needs numbers takes the words that follow
+/// it.
 #[tactic(auto, using(crate::proofs::Readers::says_so))]
 pub fn lines_of_cursors()
     ensures moves { Says spelled (codes "cursor next prev cur")
@@ -45,7 +46,7 @@ pub fn lines_of_cursors()
         (Some (Cursor (Before 1 10 ∷ Current ∷ After 2 20 ∷ []))) }
 {}
 
-/// Lines that say nothing.
+/// Lines without a meaning.
 pub fn bad_lines()
     ensures empty { Says spelled [] None }
     ensures missing_word { Says spelled (codes "insert 1") None }

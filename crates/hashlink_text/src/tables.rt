@@ -3,7 +3,7 @@ ghost use Rattle.std.specs.Map.{lookup};
 ghost use Rattle.std.specs.Str.{bytes_eq};
 ghost use Rattle.hashlink_text.specs.Cuts.{words_shown};
 
-// Returns what the table says of the word.
+// Returns what the table has for the name.
 pub(crate) fn said_by<T: Copy>(name: &[u8], table: &[(&[u8], T)]) -> Option<T>
     ensures { result ≡ lookup (bytes_eq name.now) (words_shown table.now) }
 {

@@ -15,12 +15,12 @@ use hashlink_map::Iter;
 use hashlink_run::Reply;
 use std::alloc::{AllocError, Global};
 
-/// Returns the answer to a text of lines, of which the first names the container that the others speak to.
+/// Returns the answer to a text of lines. The first line names the container on which the others are run.
 ///
-/// It reads the text once, and each line costs what the method of the container costs that it names. If
-/// memory for the answer runs out, it returns `AllocError`. An insert that runs out of memory has a line in
-/// the answer, and the next line follows. But in the mode `pair` it returns `AllocError` then, too. For a
-/// text without a line it needs no memory.
+/// It reads the text once, and each line has the cost of the container's method that it names. If memory for
+/// the answer runs out, it returns `AllocError`. If an insert runs out of memory, its line is answered, and
+/// the next line follows; but in the mode `pair` it returns `AllocError`. For a text without a line it needs
+/// no memory.
 pub fn run_text(alloc: Global, input: &[u8]) -> Result<Vec<u8>, AllocError>
     ensures answer { IfOk result (λ text. IsTranscript input.now text.items) }
     ensures none { lines_of input.now ≡ [] → IsOk result }
@@ -34,7 +34,7 @@ pub fn run_text(alloc: Global, input: &[u8]) -> Result<Vec<u8>, AllocError>
     Ok(out.into_bytes())
 }
 
-// Pushes the answers to the lines, which speak to what the mode names.
+// Pushes the answers to the lines, which are run on the container that the mode names.
 fn run_lines(
     alloc: Global,
     mode: Option<Mode>,
@@ -94,7 +94,7 @@ pub(crate) fn push_reply(
     }
 }
 
-// Pushes what a command read.
+// Pushes the pair that a command read.
 fn push_read(form: Form, pair: Option<(u64, u64)>, out: &mut String) -> Result<(), AllocError>
     ensures { OnOk result (string_bytes out.new ≡ string_bytes out.old ++ read_shown form pair) }
 {
@@ -106,7 +106,7 @@ fn push_read(form: Form, pair: Option<(u64, u64)>, out: &mut String) -> Result<(
     }
 }
 
-// Pushes the line that shows the pairs that an iterator has left.
+// Pushes the line that shows the pairs that an iterator has yet to return.
 pub(crate) fn push_list(mut pairs: Iter<'_, u64, u64>, out: &mut String) -> Result<(), AllocError>
     ensures { OnOk result (string_bytes out.new ≡ string_bytes out.old ++ ended (list_shown pairs.entry)) }
 {

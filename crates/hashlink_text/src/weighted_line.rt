@@ -12,14 +12,14 @@ use crate::tables::said_by;
 use crate::words::Words;
 use hashlink_run::WeightedCommand;
 
-/// What a line to a cache with a budget says.
+/// The meaning of a line to a cache with a budget.
 #[derive(Clone, Copy)]
 pub enum WeightedLine {
     /// A command to the cache.
     Do(WeightedCommand<u64, u64>),
     /// Asks for the sum of the weights.
     Total,
-    /// Asks how many pairs there are.
+    /// Asks for the number of pairs.
     Len,
     /// Asks for the list of all pairs.
     Iter,
@@ -46,7 +46,7 @@ fn line_of(text: &[u8]) -> Option<WeightedLine>
     said_of_name(name, words)
 }
 
-// Returns what a word says with the words after it.
+// Returns the line that the name and the words after it mean.
 fn said_of_name(name: &[u8], words: Words<'_>) -> Option<WeightedLine>
     ensures { result ≡ read_in weighted_spelled weighted_lines name.now
         (tokens (parts_left 32 words.entry.rest)) }
@@ -59,7 +59,7 @@ fn said_of_name(name: &[u8], words: Words<'_>) -> Option<WeightedLine>
     }
 }
 
-// Returns what a word says that stands alone.
+// Returns the line that the name means without a word after it.
 fn said_alone(name: &[u8]) -> Option<WeightedLine>
     ensures { result ≡ lookup (bytes_eq name.now) (by_name weighted_spelled weighted_lines []) }
 {
@@ -73,7 +73,7 @@ fn said_alone(name: &[u8]) -> Option<WeightedLine>
     )
 }
 
-// Returns what a word says before a key.
+// Returns the line that the name means before a key.
 fn said_of_key(name: &[u8], key: u64) -> Option<WeightedLine>
     ensures { result ≡ lookup (bytes_eq name.now) (by_name weighted_spelled weighted_lines (key ∷ [])) }
 {
@@ -87,7 +87,7 @@ fn said_of_key(name: &[u8], key: u64) -> Option<WeightedLine>
     )
 }
 
-// Returns what a word says before a key, a value and a weight.
+// Returns the line that the name means before a key, a value and a weight.
 fn said_of_entry(name: &[u8], key: u64, value: u64, weight: u64) -> Option<WeightedLine>
     ensures { result ≡ lookup (bytes_eq name.now)
         (by_name weighted_spelled weighted_lines (key ∷ value ∷ weight ∷ [])) }

@@ -15,7 +15,7 @@ use hashlink_run::answer_weighted;
 use hashlink_weighted::{WeightedCache, WeightedIter};
 use std::alloc::{AllocError, Global};
 
-// Pushes the answers to the lines, which speak to a cache of this budget that is empty at first.
+// Pushes the answers to the lines, which are run on a cache of this budget that is empty at first.
 pub(crate) fn run_weighted_lines(
     alloc: Global,
     budget: u64,
@@ -37,7 +37,7 @@ impl AnswersLines for WeightedCache<u64, u64> {
     }
 }
 
-// Pushes the answer to what a line says.
+// Pushes the answer to a line with this meaning.
 fn answer(
     cache: &mut WeightedCache<u64, u64>,
     line: Option<WeightedLine>,
@@ -57,7 +57,7 @@ fn answer(
     }
 }
 
-// Pushes the line that shows the pairs that an iterator has left, without their weights.
+// Pushes the line that shows the pairs that an iterator has yet to return, without their weights.
 fn push_pairs(mut entries: WeightedIter<'_, u64, u64>, out: &mut String) -> Result<(), AllocError>
     ensures { OnOk result (string_bytes out.new
         ≡ string_bytes out.old ++ ended (list_shown (pairs_of entries.entry))) }

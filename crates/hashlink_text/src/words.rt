@@ -6,15 +6,15 @@ ghost use Rattle.hashlink_text.specs.Lines.{words_of};
 
 use crate::cuts::cut;
 
-// Returns whether it is that word.
+// Returns whether the two words are the same.
 pub(crate) fn is(name: &[u8], word: &[u8]) -> bool
     ensures { result ≡ bytes_eq name.now word.now }
 {
     name == word
 }
 
-// The words of a line that are not read yet, by the text behind the last space read. After the last
-// word there is none.
+// The words of a line that have not been read yet: the text after the last space read. After the last word
+// there is none.
 #[derive(Drop)]
 pub(crate) struct Words<'a> {
     rest: Option<&'a [u8]>,

@@ -1,4 +1,4 @@
--- Items that go to those that were seen, one after another, where they appear first.
+-- Items are appended to those seen before, one after another, if they appear for the first time.
 use Rattle.std.proofs.Common.{cond, ◌||◌, map}
 use Rattle.std.specs.Set.{is_member}
 use Rattle.std.proofs.lemmas.List.{map_push}
@@ -11,7 +11,7 @@ module _ {X : Type 0} (eq : X → X → Bool) where
       ≡ seen ++ first_appearances eq seen (x ∷ xs)
   appears seen x xs = grind (arith, append_assoc seen (x ∷ []))
 
--- the same of what is seen of each item
+-- the same for a function of each item
 module _ {X Y : Type 0} (eq : X → X → Bool) (f : Y → X) where
   any-map : (y : Y) (ys : List Y) → list_any (λ z. eq (f y) (f z)) ys ≡ list_any (eq (f y)) (map f ys)
   any-map y [] = refl

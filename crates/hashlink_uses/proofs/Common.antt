@@ -1,4 +1,4 @@
--- What the proofs of this crate import again and again.
+-- What many proofs of this crate import.
 pub use Rattle.hashlink.proofs.AtKey.{absent-written, written-key}
 pub use Rattle.hashlink.proofs.CallerLemmas.{extended_by_all, extended_until}
 pub use Rattle.hashlink.proofs.Walking.{on-some}

@@ -1,4 +1,4 @@
--- A key is found exactly where it has a place, and a first value exactly where there is an entry.
+-- A key is found exactly if it has a place, and a first value exactly if there is an entry.
 use Rattle.std.proofs.Common.{◌≡◌, ℕ, zero, suc, ◌+◌, ◌-◌, ◌<◌, ◌%◌, Bool, true, false, List, [], ◌∷◌}
 use Rattle.std.proofs.Common.{None, Some, is_some, is_none, refl, sym, ap, ◌∙◌, arith, mod-eq_of_lt}
 use Rattle.std.proofs.Math.Nat.{add-mod_right}
@@ -34,7 +34,7 @@ pub no-value-left : {K V : Type 0} (es : List (K × V))
 no-value-left [] p = refl
 no-value-left (e ∷ es) p = absurd (cc)
 
--- the place before the last is the guard only where there are fewer than two entries
+-- the place before the last is the guard only if there are fewer than two entries
 pub few-before-last : (n : ℕ) → preceding_place n (n - 1) ≡ n → n < 2
 few-before-last zero p = omega arith
 few-before-last (suc zero) p = omega arith

@@ -1,8 +1,8 @@
--- Addresses that hold until a time.
+-- Addresses that are valid until a time.
 use Rattle.std.specs.Prelude.{ℕ, Bool, cond, nat_lt, Option, None, Some}
 use Rattle.hashlink_uses.specs.declared.names.Answer.{Answer}
 
--- whether an address holds at a time, and the address if it does
+-- whether an address is valid at a time; the address if it is
 abbrev pub holds_at : ℕ → Answer → Bool
 holds_at now answer = nat_lt now answer.expires
 

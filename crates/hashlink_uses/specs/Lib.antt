@@ -1,7 +1,9 @@
--- What the contracts of the uses cite, beside the definitions that `hashlink` hands on.
+-- What the contracts of this crate use, besides the definitions that `hashlink` passes on.
 pub mod Answers
 pub mod Appearances
 pub mod Contents
 pub mod Merged
+pub mod Numbered
+pub mod Recent
+pub mod Subscribers
 pub mod Turns
-pub mod WithoutFirst

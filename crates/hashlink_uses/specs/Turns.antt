@@ -1,8 +1,8 @@
--- Turns that go round.
+-- Turns, round after round.
 use Rattle.std.specs.Prelude.{ℕ, zero, suc, List, [], ◌∷◌, ◌++◌}
 
 module _ {T : Type 0} where
-  -- the tasks that so many calls of `next` return, one after another, and the order that they leave
+  -- the tasks that this many calls of `next` return, in order, and the order that the calls leave
   abbrev pub turns_given : ℕ → List T → List T
   turns_given zero ts = []
   turns_given (suc n) [] = []

@@ -1,17 +1,16 @@
-//! Calls of a cache, and what is known of it once a loan has ended.
-ghost use Rattle.std.specs.Prelude.{◌≡◌, ℕ, ◌+◌, ◌<◌, ◌^◌, [], IsTrue, IsFalse, IsOk, OnOk, IfErr, Ok};
-ghost use Rattle.std.specs.Prelude.{is_some, length, unwrap_or};
+//! Calls of a cache, and what the caller knows after a loan has ended.
+ghost use Rattle.std.specs.Prelude.{◌≡◌, ℕ, ◌+◌, ◌<◌, ◌^◌, IsTrue, IsFalse, IsOk, OnOk, IfErr, Ok, length};
+ghost use Rattle.std.specs.Prelude.{is_some, unwrap_or};
 ghost use Rattle.std.specs.Map.{lookup};
 ghost use Rattle.hashlink.specs.Cache.{CacheGetsAndWrites, EvictsFront, OnMap, IsWithin, front_evicted};
 ghost use Rattle.hashlink.specs.Entries.{put};
 ghost use Rattle.hashlink.specs.MapState.{MapState, Inserts, RefusesEntry};
-ghost use Rattle.hashlink.specs.Steps.{with_value_of};
+ghost use Rattle.hashlink.specs.Steps.{Drains, with_value_of};
 ghost use Rattle.hashlink.specs.Cached.{entries_of, state_of};
 
 use crate::maps::entries::count_word as count_word_in;
 use hashlink::LruCache;
 use std::hash::{BuildHasher, Hash};
-use std::mem::drop;
 
 /// Writes the value of a key by `get_mut`, which is a use, and returns whether the key is present.
 pub fn use_and_write<K: Eq + Hash, V: Drop, S: BuildHasher>(
@@ -54,14 +53,11 @@ pub fn write_in_place<K: Eq + Hash, V: Drop, S: BuildHasher>(
     }
 }
 
-/// Empties a cache, and keeps its nodes. What a drain of a cache leaves is not known to its caller, so a
-/// `clear` follows, which finds nothing to remove.
+/// Empties a cache, and keeps its nodes.
 pub fn empty_out<K: Eq + Hash + Drop, V: Drop, S: BuildHasher>(cache: &mut LruCache<K, V, S>)
-    ensures empty { entries_of cache.new ≡ [] }
-    ensures capacity { (state_of cache.new).cap ≡ (state_of cache.old).cap }
+    ensures { OnMap Drains (state_of cache.old) (state_of cache.new) }
 {
-    drop(cache.drain());
-    cache.clear();
+    let _rest = cache.drain();
 }
 
 /// Inserts a value by `entry` if the key is absent. If there were more entries than the capacity, this cannot
@@ -77,8 +73,8 @@ pub fn put_by_entry<K: Eq + Hash + Drop, V: Drop, S: BuildHasher>(
     Ok(())
 }
 
-/// Counts a word by an entry of the map, once there is room. If there are more entries than the capacity, the
-/// first is evicted. Then the map is as an insert of one more than the count so far leaves it.
+/// Counts a word by an entry of the map, after making room. If there are more entries than the capacity, the
+/// first is evicted. Then the map is as after an insert of one more than the count so far.
 pub fn count_word<K: Eq + Hash + Drop, S: BuildHasher>(
     cache: &mut LruCache<K, u64, S>,
     word: K,
@@ -100,8 +96,8 @@ pub fn count_word<K: Eq + Hash + Drop, S: BuildHasher>(
     count_word_in(cache.map_mut(), word)
 }
 
-/// Inserts two pairs. If the first insert evicts an entry, the second cannot fail. However many entries the
-/// cache has beyond its capacity, it has no more afterwards, and none if the second pair is inserted.
+/// Inserts two pairs. If the first insert evicts an entry, the second cannot fail. The number of entries
+/// beyond the capacity does not grow, and it is 0 afterwards if the second pair is inserted.
 pub fn insert_both<K: Eq + Hash + Drop, V: Drop, S: BuildHasher>(
     cache: &mut LruCache<K, V, S>,
     first: (K, V),

@@ -1,4 +1,4 @@
-//! What a larger or a smaller capacity of a cache is worth.
+//! The effect of a larger or a smaller capacity of a cache.
 ghost use Rattle.std.specs.Prelude.{◌≡◌, ◌≤◌, ◌+◌, ◌-◌, ◌*◌, ℕ, List, map, IfOk, count_by, is_none};
 ghost use Rattle.hashlink.specs.Cached.{entries_of};
 ghost use Rattle.hashlink.specs.History.{Schedule, cache_misses, misses};
@@ -25,7 +25,7 @@ pub fn two_caches<K: Eq + Hash + Copy, V: Copy>(
 }
 
 /// Returns how many of the uses miss in a cache of this capacity, which is as many as the history of their
-/// keys says. With fewer places, however well they are filled, not much fewer miss.
+/// keys implies. With a smaller capacity not much fewer miss, whatever the replacement policy.
 pub fn misses_in_a_cache<K: Eq + Hash + Copy, V: Copy>(
     alloc: Global,
     capacity: usize,

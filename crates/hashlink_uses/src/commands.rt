@@ -1,4 +1,4 @@
-//! Lists of commands, and what is known of the container after them.
+//! Lists of commands, and what the caller knows about the container afterwards.
 ghost use Rattle.std.specs.Prelude.{[], ◌∷◌, ◌≡◌, ◌≢◌, ◌≤◌, All, Option, Some, length, slice_get, IfOk};
 ghost use Rattle.std.specs.Prelude.{IsSome};
 ghost use Rattle.std.specs.List.{AllPass};
@@ -15,12 +15,12 @@ use hashlink::{AllocError, LinkedHashMap, LruCache};
 use std::alloc::Global;
 use std::hash::{BuildHasher, Hash};
 
-// What a read tells of every pair.
+// The closure for reads, which returns the same for every pair.
 fn any<K, V>(_key: &K, _value: &V) -> bool {
     true
 }
 
-/// Runs the commands on the cache and returns how many entries it then has. These are never more than its
+/// Runs the commands on the cache and returns how many entries it then has. They are never more than its
 /// capacity, if there were no more before and no command goes through an entry.
 pub fn length_after<K: Eq + Hash + Drop, V: Drop, S: BuildHasher>(
     cache: &mut LruCache<K, V, S>,
@@ -86,8 +86,9 @@ pub fn remove_then_insert<K: Eq + Hash + Drop, V: Drop, S: BuildHasher>(
     run(map, commands, &any)
 }
 
-/// Puts the pair in and leaves the entries whose value divides `total`, in one run, and returns the replies.
-/// The closure divides by the values that it is shown: those of the map and the one that goes in, none zero.
+/// Inserts the pair and keeps the entries whose value divides `total`, in one run, and returns the replies.
+/// The closure divides by the values that it is shown, which are those of the map and the inserted one; none
+/// is zero.
 pub fn insert_then_keep_divisors<K: Eq + Hash + Drop, S: BuildHasher>(
     alloc: Global,
     map: &mut LinkedHashMap<K, u64, S>,

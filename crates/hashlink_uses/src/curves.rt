@@ -1,4 +1,4 @@
-//! Curves of misses, and what is known of the misses that they report.
+//! Miss curves, and what the caller knows about the misses that they report.
 ghost use Rattle.std.specs.Prelude.{◌≡◌, ◌*◌, ◌≤◌, ◌<◌, ◌^◌, map, IfOk};
 ghost use Rattle.hashlink.specs.History.{cache_misses};
 
@@ -7,7 +7,7 @@ use hashlink::miss_curve::{MissCurve, miss_curve};
 use std::alloc::{AllocError, Global};
 use std::hash::Hash;
 
-/// Returns the misses at a capacity and at twice that: doubling it never adds a miss.
+/// Returns the misses at a capacity and at twice that capacity. Doubling a capacity never adds a miss.
 pub fn doubled<K: Eq + Hash>(curve: &MissCurve<K>, capacity: usize) -> (u64, u64)
     requires { 2 * capacity < 2 ^ 64 }
     ensures { result.1 ≤ result.0 }
@@ -15,7 +15,7 @@ pub fn doubled<K: Eq + Hash>(curve: &MissCurve<K>, capacity: usize) -> (u64, u64
     (curve.misses(capacity), curve.misses(2 * capacity))
 }
 
-/// Returns how often a cache of this capacity misses that is given these keys.
+/// Returns how often the given keys miss in a cache of this capacity.
 pub fn misses_of<K: Eq + Hash + Copy>(
     alloc: Global,
     keys: &[K],
@@ -26,8 +26,8 @@ pub fn misses_of<K: Eq + Hash + Copy>(
     Ok(miss_curve(alloc, keys)?.misses(capacity))
 }
 
-/// Returns how often a cache of this capacity misses that is given the uses: as counted in its replies, and
-/// as reported by the curve of their keys. The two are one number.
+/// Returns how often the uses miss in a cache of this capacity: as counted in its replies, and as reported by
+/// the curve of their keys. The two numbers are equal.
 pub fn misses_by_replies_and_by_curve<K: Eq + Hash + Copy, V: Copy>(
     alloc: Global,
     pairs: &[(K, V)],

@@ -23,7 +23,7 @@ pub fn recall(sizes: &mut LruCache<u32, u64>, page: u32) -> Option<u64>
     sizes.get(&page).copied()
 }
 
-/// Removes a page, and returns it with its size. What is returned was in the cache.
+/// Removes a page, and returns it with its size. The returned entry was in the cache.
 pub fn forget_entry(sizes: &mut LruCache<u32, u64>, page: u32) -> Option<(u32, u64)>
     ensures { IfSome result (Contains (entries_of sizes.old)) }
 {

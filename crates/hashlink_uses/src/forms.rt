@@ -1,13 +1,15 @@
-//! Forms that a caller writes by habit: loops over borrowed containers, `?` on what needs memory, operators.
-ghost use Rattle.std.specs.Prelude.{◌≡◌, [], IfOk, OnErr, nat_eq};
+//! Forms that a caller writes by habit: loops over borrowed containers, `?` on calls that allocate,
+//! operators, and `collect`.
+ghost use Rattle.std.specs.Prelude.{◌≡◌, [], IfOk, OnErr, nat_eq, reverse};
 ghost use Rattle.std.specs.List.{list_any};
+ghost use Rattle.std.specs.Map.{keys_of};
 ghost use Rattle.hashlink.specs.Algebra.{intersection_of};
 ghost use Rattle.hashlink.specs.Cached.{entries_of};
 ghost use Rattle.hashlink.specs.Keyed as keyed;
 ghost use Rattle.hashlink.specs.Sets.{elements_of};
 
 use hashlink::{LinkedHashMap, LinkedHashSet, LruCache};
-use std::alloc::AllocError;
+use std::alloc::{AllocError, Global};
 use std::hash::{BuildHasher, Hash};
 
 /// Returns whether an entry has this value.
@@ -66,7 +68,7 @@ pub fn insert_with_room<K: Eq + Hash + Drop, V: Drop, S: BuildHasher>(
     Ok(())
 }
 
-/// Removes the entries in turn, front first.
+/// Removes the entries one by one, from the front.
 pub fn pop_each<K: Eq + Hash + Drop, V: Drop, S: BuildHasher>(map: &mut LinkedHashMap<K, V, S>)
     ensures { keyed.entries_of map.new ≡ [] }
 {
@@ -82,4 +84,29 @@ pub fn shared<S: BuildHasher + Default + Drop>(
         ≡ intersection_of nat_eq (elements_of left.now) (elements_of right.now)) }
 {
     left & right
+}
+
+/// Takes all pairs out of a map, in their order. If memory runs out, they are dropped. The clauses of
+/// `collect` state nothing about what its iterator borrows, so a `clear` follows, which finds nothing to
+/// remove.
+pub fn take_all<S: BuildHasher>(
+    alloc: Global,
+    map: &mut LinkedHashMap<u64, u64, S>,
+) -> Result<Vec<(u64, u64)>, AllocError>
+    ensures pairs { IfOk result (λ pairs. pairs.items ≡ keyed.entries_of map.old) }
+    ensures empty { keyed.entries_of map.new ≡ [] }
+{
+    let pairs = map.drain().collect(alloc);
+    map.clear();
+    pairs
+}
+
+/// Returns the keys of a map, the last one first.
+pub fn latest_keys<S: BuildHasher>(
+    alloc: Global,
+    map: &LinkedHashMap<u64, u64, S>,
+) -> Result<Vec<u64>, AllocError>
+    ensures { IfOk result (λ keys. keys.items ≡ reverse (keys_of (keyed.entries_of map.now))) }
+{
+    map.keys().rev().map(|key| *key).collect(alloc)
 }

@@ -1,4 +1,4 @@
-//! Uses of the containers by the names of `hashlink` alone, each with what its caller may rely on.
+//! Uses of the containers, by the names of `hashlink` only, each with the facts on which its caller may rely.
 #![tactic(auto)]
 
 pub mod caches;
@@ -13,7 +13,12 @@ pub mod maps;
 pub mod memo;
 pub mod names;
 pub mod pages;
+pub mod recent;
+pub mod segments;
 pub mod sets;
 pub mod settings;
+pub mod symbols;
 pub mod tasks;
+pub mod threads;
+pub mod topics;
 pub mod weighted;

@@ -1,4 +1,4 @@
-//! Items and lines where they appear first.
+//! First appearances of items and of lines.
 ghost use Rattle.std.specs.Prelude.{◌≡◌, [], ◌∷◌, ◌++◌, IfOk, OnOk, if◌then◌else◌, map};
 ghost use Rattle.std.specs.Set.{is_member};
 ghost use Rattle.std.specs.Str.{bytes_eq};
@@ -10,7 +10,7 @@ use hashlink::LinkedHashSet;
 use std::alloc::{AllocError, Global};
 use std::hash::Hash;
 
-/// Returns the items without those that equal an earlier one, in their order.
+/// Returns the items that equal no earlier one, in their order.
 pub fn distinct<T: Copy + Eq + Hash>(
     alloc: Global,
     items: &[T],
@@ -24,7 +24,7 @@ pub fn distinct<T: Copy + Eq + Hash>(
     Ok(seen)
 }
 
-/// Puts an item last, unless one that equals it is there.
+/// Puts an item last, unless an equal one is present.
 fn add_new<T: Copy + Eq + Hash>(seen: &mut LinkedHashSet<T>, item: T) -> Result<(), AllocError>
     ensures { OnOk result (elements_of seen.new
         ≡ if is_member T.eq (elements_of seen.old) item then elements_of seen.old
@@ -39,7 +39,7 @@ fn add_new<T: Copy + Eq + Hash>(seen: &mut LinkedHashSet<T>, item: T) -> Result<
     }
 }
 
-/// Returns the lines of a text without those that equal an earlier one, in their order.
+/// Returns the lines of a text that equal no earlier one, in their order.
 pub fn distinct_lines(alloc: Global, text: &str) -> Result<LinkedHashSet<&str>, AllocError>
     ensures { IfOk result (λ seen. map (λ line. line.now) (elements_of seen)
         ≡ first_appearances bytes_eq [] (lines text.now)) }

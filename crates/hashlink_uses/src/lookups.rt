@@ -1,5 +1,5 @@
-//! What a look-up finds after a change, over numbers and over texts that are asked for by `&str`. Each caller
-//! but one, of a set of texts, is proved without a file of proof.
+//! What a look-up finds after a change, for numbers and for texts that are queried by `&str`. Each caller
+//! except one, of a set of texts, is proved without a file of proof.
 
 pub mod caches;
 pub mod maps;

@@ -1,4 +1,4 @@
-//! Calls of a map, and what is known of it afterwards.
+//! Calls of a map, and what the caller knows about it afterwards.
 
 pub mod cursors;
 pub mod drains;

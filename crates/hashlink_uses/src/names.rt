@@ -1,4 +1,4 @@
-//! A cache of names, each with an address that holds until a time.
+//! A cache of names, each with an address that is valid until a time.
 ghost use Rattle.std.specs.Prelude.{◌≡◌, ◌≤◌, IfErr, IfOk, OnErr, OnOk, filter, length};
 ghost use Rattle.std.specs.Option.{option_and_then};
 ghost use Rattle.std.specs.Map.{lookup, remove_entry};
@@ -11,15 +11,16 @@ ghost use Rattle.hashlink_uses.specs.Answers.{address_at, holds_at};
 use hashlink::LruCache;
 use std::hash::BuildHasher;
 
-/// The address of a name, and when it ceases to hold.
+/// The address of a name, and the time until which it is valid.
 #[derive(Clone, Copy, Debug, PartialEq, Eq, Drop)]
 pub struct Answer {
     pub address: u32,
     pub expires: u64,
 }
 
-/// Remembers the address of a name, which is then the name used last, and returns what was known of it. Only
-/// a new name may allocate. If that fails, it returns the name and its address in `Err` and nothing changes.
+/// Stores the address of a name, which is then the most recently used name, and returns what was known about
+/// it. It allocates only for a new name. If that fails, it returns the name and its address in `Err` and
+/// nothing changes.
 pub fn learn<S: BuildHasher>(
     names: &mut LruCache<String, Answer, S>,
     name: String,
@@ -36,8 +37,8 @@ pub fn learn<S: BuildHasher>(
     names.insert(name, answer)
 }
 
-/// Returns the address of a name, if it is known and still holds. The name is looked up as it is, and no
-/// `String` is made; it is then the name used last.
+/// Returns the address of a name, if it is known and still valid. The name, which is looked up without making
+/// a `String`, is then the most recently used one.
 pub fn address_of<S: BuildHasher>(
     names: &mut LruCache<String, Answer, S>,
     name: &str,
@@ -52,7 +53,7 @@ pub fn address_of<S: BuildHasher>(
     Some(answer.address)
 }
 
-/// Removes a name, and returns what was known of it.
+/// Removes a name, and returns what was known about it.
 pub fn forget<S: BuildHasher>(names: &mut LruCache<String, Answer, S>, name: &str) -> Option<Answer>
     ensures known { result ≡ lookup (is_text name.now) (entries_of names.old) }
     ensures entries { entries_of names.new ≡ remove_entry (is_text name.now) (entries_of names.old) }
@@ -61,7 +62,7 @@ pub fn forget<S: BuildHasher>(names: &mut LruCache<String, Answer, S>, name: &st
     names.remove(name)
 }
 
-/// Removes every name whose address no longer holds. The others keep their order.
+/// Removes every name whose address is no longer valid. The others keep their order.
 pub fn sweep<S: BuildHasher>(names: &mut LruCache<String, Answer, S>, now: u64)
     ensures left { entries_of names.new ≡ filter (λ e. holds_at now e.1) (entries_of names.old) }
     ensures capacity { (state_of names.new).cap ≡ (state_of names.old).cap }

@@ -1,4 +1,4 @@
-//! A cache of pages before a store, to which a changed page goes when it leaves the cache.
+//! A cache of pages in front of a store. A changed page is saved in the store when it leaves the cache.
 ghost use Rattle.std.specs.Prelude.{◌≡◌, ◌≤◌, ◌-◌, ℕ, None, false, if◌then◌else◌, length, nat_eq};
 ghost use Rattle.std.specs.Prelude.{IfOk, IfSome, IsFalse, MatchResult, OnErr, OnOk};
 ghost use Rattle.std.specs.Map.{lookup};
@@ -13,7 +13,7 @@ use hashlink::LruCache;
 use std::alloc::Global;
 use std::marker::Model;
 
-/// Where pages are kept, each under its number.
+/// A store of pages, each under its number.
 pub trait Store<V> {
     /// Why a page cannot be read or written.
     type Error: Drop;
@@ -24,14 +24,14 @@ pub trait Store<V> {
     fn load(&self, number: u64) -> Result<V, Self::Error>
         ensures { IfOk result (λ value. value ≡ Self.page self.now number) };
 
-    /// Stores a page. If this fails, the page may be any afterwards. The others do not change.
+    /// Stores a page. If this fails, the page may have any content afterwards. The others do not change.
     fn save(&mut self, number: u64, value: V) -> Result<(), Self::Error>
         ensures saved { OnOk result (Self.page self.new number ≡ value) }
         ensures others { (other : ℕ) → IsFalse (nat_eq number other)
             → Self.page self.new other ≡ Self.page self.old other };
 }
 
-/// A page in the cache, and whether the store does not have it yet.
+/// A page in the cache, and whether it still has to be saved in the store.
 #[derive(Drop)]
 pub struct Page<V> {
     value: V,
@@ -45,8 +45,8 @@ pub enum PageError<E> {
     Store(E),
 }
 
-/// A store with a cache before it. A clause sees the pages in the cache, how many it may hold, and the store.
-/// `content` tells of them what is read under each number: what was last written there.
+/// A store with a cache in front of it. A contract sees the pages in the cache, how many it may hold, and the
+/// store. `content` is what is read under each number: the value last written there.
 #[derive(Drop)]
 pub struct PageCache<V, T: Store<V>> {
     pages: LruCache<u64, Page<V>>,
@@ -66,7 +66,7 @@ impl<V, T: Store<V>> Model for PageCache<V, T> {
 }
 
 impl<V: Copy, T: Store<V>> PageCache<V, T> {
-    /// Puts a cache of this many pages before a store.
+    /// Puts a cache of this many pages in front of a store.
     pub fn new(alloc: Global, capacity: usize, store: T) -> Self
         requires { 1 ≤ capacity }
         ensures { (n : ℕ) → content T.page result n ≡ T.page store n }
@@ -77,8 +77,8 @@ impl<V: Copy, T: Store<V>> PageCache<V, T> {
         }
     }
 
-    /// Returns a page, which is then the one used last. It fails only if the store does not load it, and what
-    /// is read does not change.
+    /// Returns a page, which is then the most recently used one. It fails only if the store fails to load it,
+    /// and the content does not change.
     pub fn read(&mut self, number: u64) -> Result<V, T::Error>
         ensures read { IfOk result (λ value. value ≡ content T.page self.old number) }
         ensures same { (n : ℕ) → content T.page self.new n ≡ content T.page self.old n }
@@ -95,8 +95,8 @@ impl<V: Copy, T: Store<V>> PageCache<V, T> {
         Ok(value)
     }
 
-    /// Writes a page. The store takes it when it leaves the cache. If there is no memory for it, or the store
-    /// does not take the page that is to leave, what is read does not change.
+    /// Writes a page, which is saved in the store when it leaves the cache. If there is no memory for it, or
+    /// the store fails to save the page that has to leave, the content does not change.
     pub fn write(&mut self, number: u64, value: V) -> Result<(), PageError<T::Error>>
         ensures written { OnOk result ((n : ℕ) → content T.page self.new n
             ≡ if nat_eq number n then value else content T.page self.old n) }
@@ -109,7 +109,7 @@ impl<V: Copy, T: Store<V>> PageCache<V, T> {
         self.keep(number, page)
     }
 
-    /// Returns the store once it has every page, or the cache and why the store failed.
+    /// Saves every changed page and returns the store, or the cache and the store's error.
     pub fn close(mut self) -> Result<T, (Self, T::Error)>
         ensures { MatchResult result (λ store. (n : ℕ) → T.page store n ≡ content T.page self n)
             (λ back. (n : ℕ) → content T.page back.0 n ≡ content T.page self n) }
@@ -122,7 +122,7 @@ impl<V: Copy, T: Store<V>> PageCache<V, T> {
         Ok(self.store)
     }
 
-    /// Returns the value of a page that is in the cache, which is then the one used last.
+    /// Returns the value of a page in the cache, which is then the most recently used one.
     fn find(&mut self, number: u64) -> Option<V>
         ensures found { result ≡ option_map (λ p. p.value) (lookup (nat_eq number) self.old.held) }
         ensures same { (n : ℕ) → lookup (nat_eq n) self.new.held ≡ lookup (nat_eq n) self.old.held }
@@ -131,8 +131,8 @@ impl<V: Copy, T: Store<V>> PageCache<V, T> {
         self.pages.get(&number).map(|page| page.value)
     }
 
-    /// Puts a page into the cache. If another has to leave for it, the store takes that one first. A page
-    /// that is not changed has to be as it is stored, and not in the cache.
+    /// Puts a page into the cache. If another page has to leave for it, that page is saved first. A page that
+    /// is not changed must not be in the cache, and has to be as the store has it.
     fn keep(&mut self, number: u64, page: Page<V>) -> Result<(), PageError<T::Error>>
         requires stored { page.is_changed ≡ false → (lookup (nat_eq number) self.old.held ≡ None)
             × (page.value ≡ T.page self.old.store number) }
@@ -149,7 +149,7 @@ impl<V: Copy, T: Store<V>> PageCache<V, T> {
         Ok(())
     }
 
-    /// Lets the store take the page that an insert of this one would evict.
+    /// Saves the page that an insert of this one would evict.
     fn save_leaving(&mut self, number: u64) -> Result<(), T::Error>
         ensures distinct { IsEntries nat_eq self.new.held }
         ensures pages { (self.new.held ≡ self.old.held) × (self.new.capacity ≡ self.old.capacity) }
@@ -166,7 +166,7 @@ impl<V: Copy, T: Store<V>> PageCache<V, T> {
         }
     }
 
-    /// Removes the page used least recently, once the store has it.
+    /// Saves the least recently used page, and then removes it.
     fn save_first(&mut self) -> Result<(), T::Error>
         ensures left { OnOk result (length self.new.held ≡ length self.old.held - 1) }
         ensures same { (n : ℕ) → content T.page self.new n ≡ content T.page self.old n }
@@ -180,7 +180,7 @@ impl<V: Copy, T: Store<V>> PageCache<V, T> {
         Ok(())
     }
 
-    /// Lets the store take a page, if it is in the cache and changed.
+    /// Saves a page, if it is in the cache and changed.
     fn save(&mut self, number: u64) -> Result<(), T::Error>
         ensures distinct { IsEntries nat_eq self.new.held }
         ensures pages { (self.new.held ≡ self.old.held) × (self.new.capacity ≡ self.old.capacity) }

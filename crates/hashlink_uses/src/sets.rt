@@ -1,4 +1,4 @@
-//! Calls of a set, and what is known of it afterwards.
+//! Calls of a set, and what the caller knows about it afterwards.
 ghost use Rattle.std.specs.Prelude.{◌≡◌, [], List, IfErr, IfOk, OnErr, OnOk};
 ghost use Rattle.hashlink.specs.Many.{AcceptsAll, StopsAt};
 ghost use Rattle.hashlink.specs.SetAnswers.{as_value};
@@ -24,7 +24,7 @@ pub fn empty_out<T: Eq + Hash + Drop, S: BuildHasher>(words: &mut LinkedHashSet<
     let _rest = words.drain();
 }
 
-/// Moves another set's words to the back of this one. If an insert fails, those before it stay inserted.
+/// Moves another set's words to the back of this one. If an insert fails, the words before it stay inserted.
 pub fn append<T: Eq + Hash + Drop, S: BuildHasher + Drop>(
     words: &mut LinkedHashSet<T, S>,
     other: LinkedHashSet<T, S>,

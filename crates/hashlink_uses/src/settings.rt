@@ -1,4 +1,4 @@
-//! Settings in the order in which they were made first, and others that are laid over them.
+//! Settings in the order in which they were first set, and other settings that override them.
 ghost use Rattle.std.specs.Prelude.{◌≡◌, ◌++◌, ◌∷◌, Bool, IfErr, IsOk, IsSome, List, OnOk};
 ghost use Rattle.std.specs.Cmp.{IsEquivalence};
 ghost use Rattle.std.specs.Map.{keys_of, lookup};
@@ -11,8 +11,8 @@ ghost use Rattle.hashlink_uses.specs.Merged.{merged};
 use hashlink::LinkedHashMap;
 use std::hash::{BuildHasher, Hash};
 
-/// Sets a setting: one that is there keeps its place and takes the value, a new one goes to the back. Only a
-/// new one may allocate. If that fails, it returns the setting in `Err` and nothing changes.
+/// Sets a setting. A present one keeps its place and takes the value; a new one goes to the back. It
+/// allocates only for a new one. If that fails, it returns the setting in `Err` and nothing changes.
 pub fn set<K: Eq + Hash + Drop, V: Drop, S: BuildHasher>(
     settings: &mut LinkedHashMap<K, V, S>,
     key: K,
@@ -28,8 +28,9 @@ pub fn set<K: Eq + Hash + Drop, V: Drop, S: BuildHasher>(
     Ok(())
 }
 
-/// Sets each of the other settings in turn. If an allocation fails, it returns the setting in `Err`, those
-/// before it stay set, and those after it are dropped. `what_a_merge_leaves` says what stands then.
+/// Sets each of the other settings in order. If an allocation fails, it returns the setting in `Err`; the
+/// settings before it stay set, and the ones after it are dropped. `what_a_merge_leaves` describes the
+/// result.
 pub fn merge<K: Eq + Hash + Drop, V: Drop, S: BuildHasher, R: BuildHasher + Drop>(
     settings: &mut LinkedHashMap<K, V, S>,
     others: LinkedHashMap<K, V, R>,
@@ -46,9 +47,9 @@ pub fn merge<K: Eq + Hash + Drop, V: Drop, S: BuildHasher, R: BuildHasher + Drop
     Ok(())
 }
 
-/// After a merge each key has the other value if there is one, and else its own. The keys stand as they did,
-/// and those that are new follow in the order of the others. The function has an empty body: its contract is
-/// the statement.
+/// After a merge each key has the other value if there is one, and else its own. The present keys keep their
+/// order, and the new keys follow in the order of the others. The function has an empty body: its contract is
+/// the theorem.
 pub fn what_a_merge_leaves<K, V>()
     ensures wins { (eq : K → K → Bool) → IsEquivalence eq → (key : K) (es others : List (K × V))
         → IsEntries eq es → IsEntries eq others

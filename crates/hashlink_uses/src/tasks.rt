@@ -1,4 +1,4 @@
-//! Tasks that have their turns one after another, round and round.
+//! Tasks that take turns, round after round.
 ghost use Rattle.std.specs.Prelude.{◌≡◌, ◌++◌, [], ◌∷◌, false, IsFalse, IsTrue, List, MatchOption};
 ghost use Rattle.std.specs.Prelude.{MatchResult, Ok, length};
 ghost use Rattle.std.specs.List.{IsDistinct, list_any};
@@ -11,7 +11,7 @@ use std::alloc::Global;
 use std::hash::Hash;
 use std::marker::Model;
 
-/// Tasks, each once. A clause sees them in the order of their turns.
+/// Tasks, each once. A contract sees them in the order of their turns.
 #[derive(Drop)]
 pub struct RoundRobin<T: Eq + Hash> {
     tasks: LinkedHashSet<T>,
@@ -24,7 +24,7 @@ impl<T: Eq + Hash> Model for RoundRobin<T> {
 }
 
 impl<T: Copy + Eq + Hash> RoundRobin<T> {
-    /// Creates a round of no tasks.
+    /// Creates a round without tasks.
     pub fn new(alloc: Global) -> Self
         ensures { result ≡ [] }
     {
@@ -33,8 +33,8 @@ impl<T: Copy + Eq + Hash> RoundRobin<T> {
         }
     }
 
-    /// Adds a task, whose turn comes after those of the others, and returns true. A task that is there keeps
-    /// its turn, and the call returns false. If an allocation fails, it returns the task in `Err` and nothing
+    /// Adds a task, whose turn is after all others, and returns true. If the task is present, it keeps its
+    /// turn, and the call returns false. If an allocation fails, it returns the task in `Err` and nothing
     /// changes.
     pub fn add(&mut self, task: T) -> Result<bool, T>
         ensures there { IsTrue (list_any (T.eq task) self.old) → (result ≡ Ok false) × (self.new ≡ self.old) }
@@ -48,7 +48,7 @@ impl<T: Copy + Eq + Hash> RoundRobin<T> {
         self.tasks.insert(task)
     }
 
-    /// Removes a task, and returns whether it was there.
+    /// Removes a task, and returns whether it was present.
     pub fn remove(&mut self, task: &T) -> bool
         ensures found { result ≡ list_any (T.eq task.now) self.old }
         ensures left { self.new ≡ remove_key (T.eq task.now) self.old }
@@ -56,8 +56,8 @@ impl<T: Copy + Eq + Hash> RoundRobin<T> {
         self.tasks.remove(task)
     }
 
-    /// Returns the task whose turn it is. Its next turn comes after those of the others, so each has one turn
-    /// in as many calls as there are tasks (`what_a_round_gives`).
+    /// Returns the task whose turn it is. Its next turn is after all others. So each task has one turn in as
+    /// many calls as there are tasks (`what_a_round_gives`).
     pub fn next(&mut self) -> Option<T>
         ensures { MatchOption result ((self.old ≡ []) × (self.new ≡ []))
             (λ task. (rest : List T) × (self.old ≡ task ∷ rest) × (self.new ≡ rest ++ task ∷ [])) }
@@ -67,7 +67,7 @@ impl<T: Copy + Eq + Hash> RoundRobin<T> {
         Some(task)
     }
 
-    /// Returns how many tasks there are.
+    /// Returns the number of tasks.
     pub fn len(&self) -> usize
         ensures len { result ≡ length self.now }
 
@@ -79,7 +79,7 @@ impl<T: Copy + Eq + Hash> RoundRobin<T> {
 }
 
 /// As many calls of `next` as there are tasks return each task once, in the order of their turns, and leave
-/// that order as it was. The function has an empty body: its contract is the statement.
+/// that order unchanged. The function has an empty body: its contract is the theorem.
 pub fn what_a_round_gives<T>()
     ensures each { (tasks : List T) → turns_given (length tasks) tasks ≡ tasks }
     ensures same { (tasks : List T) → order_left (length tasks) tasks ≡ tasks }

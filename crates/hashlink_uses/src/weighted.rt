@@ -1,4 +1,4 @@
-//! Calls of a cache with a budget, and what is known of it afterwards.
+//! Calls of a cache with a budget, and what the caller knows about it afterwards.
 ghost use Rattle.std.specs.Prelude.{◌≡◌, ◌≤◌, ◌<◌, IfOk, IsOk, OnOk, Err};
 ghost use Rattle.std.specs.Map.{lookup};
 ghost use Rattle.hashlink.specs.Weights.{total_weight, weighted_put};
@@ -8,7 +8,8 @@ ghost use Rattle.hashlink.specs.Weighed.{entries_of, WeightedGets};
 use hashlink::weighted::{WeightError, WeightedCache};
 use std::hash::{BuildHasher, Hash};
 
-/// Uses an entry, and returns its value. The loan of `get` has ended, and the entry is the last.
+/// Uses an entry, and returns its value. Afterwards the loan of `get` has ended, and the entry is the last
+/// one.
 pub fn use_number<K: Eq + Hash, S: BuildHasher>(
     cache: &mut WeightedCache<K, u64, S>,
     key: &K,
@@ -36,7 +37,7 @@ pub fn insert_and_sum<K: Eq + Hash + Drop, V: Drop, S: BuildHasher>(
     Ok(cache.total())
 }
 
-/// Inserts a pair without weight while a node is spare, which cannot fail.
+/// Inserts a pair of weight 0 while a node is free, which cannot fail.
 pub fn insert_weightless<K: Eq + Hash + Drop, V: Drop, S: BuildHasher>(
     cache: &mut WeightedCache<K, V, S>,
     key: K,

@@ -1,4 +1,4 @@
--- Entries that are dropped from the front, one by one, until the weights fit the budget.
+-- Entries are dropped from the front, one by one, until the weights fit the budget.
 use Rattle.std.proofs.Common.{◌≡◌, ℕ, ◌+◌, ◌-◌, ◌<◌, ◌≤◌, List, [], ◌∷◌, ◌++◌, length, drop, None, Some, refl}
 use Rattle.std.proofs.Common.{sym, ap, ◌∙◌, subst, arith, le_refl}
 use Rattle.std.proofs.lemmas.Bool.{lt-leb}
@@ -15,7 +15,7 @@ use Rattle.hashlink_weighted.specs.Weighed.{HasTotal, LastWeighs}
 use Rattle.hashlink_weighted.proofs.Totals.{total-cons, total-append}
 
 module _ {K V S : Type 0} where
-  -- how far the dropping has come
+  -- the state after some entries were dropped
   pub record HasDropped (old new : MapState K (V × ℕ) S) (others weight budget : ℕ) : Type 0 where
     pub keeps : KeepsOnly old new new.entries
     pub last : LastWeighs new.entries others weight
@@ -39,13 +39,14 @@ module _ {K V S : Type 0} where
         same = refl;
       }
 
--- the first of a list that weighs too much is not in its fitting end
+-- if a list weighs too much, its first entry is not in its fitting end
 pub fitting-drops : {K V : Type 0} (e : K × (V × ℕ)) (es : List (K × (V × ℕ))) (budget : ℕ)
     → budget < total_weight (e ∷ es)
     → fitting (e ∷ es) budget ≡ fitting es budget
 fitting-drops e es budget l = rw (lt-leb (total_weight (e ∷ es)) budget l) refl
 
--- where the others weigh something the first is not the last, and what comes after it weighs so much less
+-- if the other entries have a weight, the first entry is not the last one, and without it the others weigh
+-- less by its weight
 first_leaves : {K V : Type 0} (e : K × (V × ℕ)) (rest : List (K × (V × ℕ))) (others weight : ℕ)
     → LastWeighs (e ∷ rest) others weight → 0 < others
     → (e.1.1 ≤ others) × LastWeighs rest (others - e.1.1) weight
@@ -74,7 +75,7 @@ total-last es others weight l =
     omega (arith, ap total_weight l.split, total-append l.before (l.last ∷ []), total-cons l.last [])
 
 module _ {K V S : Type 0} (old between new : MapState K (V × ℕ) S) (others weight budget : ℕ) where
-  -- one more was dropped, which weighs no more than the others
+  -- one more entry was dropped, which weighs at most what the others weigh
   pub drops_one : HasDropped old between others weight budget → weight ≤ budget → budget - weight < others
       → (f : K × (V × ℕ)) → PopsFront between new (Some f)
       → (f.1.1 ≤ others) × HasDropped old new (others - f.1.1) weight budget
@@ -104,7 +105,7 @@ module _ {K V S : Type 0} (old between new : MapState K (V × ℕ) S) (others we
       by [] none long = omega arith
       by (e ∷ es) none long = none-some e none
 
--- what is left once the weights fit
+-- the entries left after the weights fit
 pub drops_enough : {K V S : Type 0} (old new : MapState K (V × ℕ) S) (others weight budget : ℕ)
     → HasDropped old new others weight budget → weight ≤ budget → others ≤ budget - weight
     → KeepsOnly old new (fitting old.entries budget) × HasTotal new.entries (others + weight) budget

@@ -1,4 +1,4 @@
--- The calls on the entries that are evicted.
+-- The calls of a closure on the evicted entries.
 use Rattle.std.proofs.Common.{◌≡◌, ℕ, ◌-◌, ◌<◌, ◌≤◌, List, [], ◌∷◌, Some, refl, sym, ap, ◌∙◌, subst}
 use Rattle.std.proofs.Common.{arith, ◌++◌, true, false, cond}
 use Rattle.std.specs.Prelude.{nat_le}
@@ -13,7 +13,7 @@ use Rattle.hashlink_weighted.specs.Weighed.{LastWeighs}
 use Rattle.hashlink_weighted.proofs.Dropping.{total-last}
 
 module _ {K V : Type 0} where
-  -- the first of a list that weighs too much is evicted, and then those of the others that do not fit
+  -- if a list weighs too much, its first entry is evicted, and then the others that do not fit
   not_fitting-first : (e : K × (V × ℕ)) (es : List (K × (V × ℕ))) (budget : ℕ)
       → budget < total_weight (e ∷ es)
       → not_fitting (e ∷ es) budget ≡ e ∷ not_fitting es budget
@@ -24,7 +24,7 @@ module _ {K V : Type 0} where
   not_fitting-none [] budget l = refl
   not_fitting-none (e ∷ es) budget l = rw (le-leb (total_weight (e ∷ es)) budget l) refl
 
-  -- what is evicted stands before what stays
+  -- the evicted entries are in front of the entries that stay
   pub evicted_before : (es : List (K × (V × ℕ))) (budget : ℕ)
       → not_fitting es budget ++ fitting es budget ≡ es
   evicted_before [] budget = refl
@@ -35,8 +35,8 @@ module _ {K V : Type 0} where
 
 module _ {F K V : Type 0} (calls : Mut F (K × (V × Unit {0})) (Unit {0})) (first : F)
     (all : List (K × (V × ℕ))) (budget : ℕ) where
-  -- how far the calls have come: f may be called on what is still to be evicted of `left`, and where these
-  -- calls end in a state all calls do
+  -- the state after some calls: f may be called on the entries of `left` still to be evicted, and if its
+  -- calls on them end in a state, then all calls together end in it
   pub record Evicting (f : F) (left : List (K × (V × ℕ))) : Type 0 where
     pub takes : TakesEach calls f (not_fitting left budget)
     pub gives : (last : F) → IsGivenEach calls f (not_fitting left budget) last
@@ -63,11 +63,11 @@ module _ {F K V : Type 0} (calls : Mut F (K × (V × Unit {0})) (Unit {0})) (fir
     takes_next : TakesEach calls f (e ∷ not_fitting left budget)
     takes_next = subst (TakesEach calls f) next s.takes
 
-    -- it may be called on the first
+    -- f may be called on the first entry
     pub may_give : Takes calls f (e.0, (e.1.0, tt))
     may_give = takes_next.at [] (not_fitting left budget) e f refl refl
 
-    -- and once it was, there is one less to come
+    -- after that call, one entry fewer is left to evict
     pub given : (g : F) → Called calls f (e.0, (e.1.0, tt)) tt g → Evicting g left
     given g call =
         record {
@@ -80,7 +80,7 @@ module _ {F K V : Type 0} (calls : Mut F (K × (V × Unit {0})) (Unit {0})) (fir
               s.gives end (subst (λ zs. IsGivenEach calls f zs end) (sym next) (g, call, rest));
         }
 
-  -- none is to come where all fit
+  -- if all entries fit, none is left to evict
   pub given_all : (f : F) (es : List (K × (V × ℕ))) (others weight : ℕ) → LastWeighs es others weight
       → weight ≤ budget → others ≤ budget - weight → Evicting f es
       → IsGivenEach calls first (not_fitting all budget) f

@@ -1,4 +1,4 @@
--- An insert of the map with a weight, and the fitting end after it.
+-- An insert into the map with a weight, and the fitting end after it.
 use Rattle.std.proofs.Common.{◌≡◌, ℕ, ◌-◌, ◌≤◌, Bool, List, Option, Some, length, refl, sym, ap, subst, arith}
 use Rattle.std.proofs.Common.{◌∙◌}
 use Rattle.std.specs.Map.{lookup}
@@ -25,7 +25,7 @@ module _ {K V S : Type 0} (eq : K → K → Bool) (old between : MapState K (V �
   pub old_weight : (total : ℕ) → total ≡ total_weight old.entries → weight_or_none w ≤ total
   old_weight total t = let rest = total-without (eq k) old.entries w answer in omega arith
 
-  -- the pair is the last, and the others have the rest of the total
+  -- the pair is the last one, and the other entries have the rest of the total
   pub leaves_last : (total : ℕ) → total ≡ total_weight old.entries
       → LastWeighs between.entries (total - weight_or_none w) weight
   leaves_last total t =

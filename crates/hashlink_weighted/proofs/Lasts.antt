@@ -1,4 +1,4 @@
--- The last of a list.
+-- The last entry of a list.
 use Rattle.std.proofs.Common.{◌≡◌, suc, ◌-◌, ◌≤◌, Some, List, [], ◌∷◌, ◌++◌, length, refl, ap, ◌∙◌, arith}
 use Rattle.std.specs.Prelude.{slice_get}
 use Rattle.std.proofs.lemmas.List.{length-append}
@@ -10,7 +10,7 @@ last_is xs x =
     let n : length (xs ++ x ∷ []) - 1 ≡ length xs = omega (arith, length-append xs (x ∷ [])) in
     rw (n, slice_get_here xs x []) refl
 
--- the last of an end is that of the list
+-- an end of a list has the same last entry
 pub last_of_end : {X : Type 0} (xs ys : List X) → 1 ≤ length ys → last_of (xs ++ ys) ≡ last_of ys
 last_of_end [] ys p = refl
 last_of_end (x ∷ xs) ys p =

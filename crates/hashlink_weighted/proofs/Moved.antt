@@ -1,4 +1,4 @@
--- A key that moved to the end, with the value that stands.
+-- A key that moved to the end with its value unchanged.
 use Rattle.std.specs.Prelude.{◌≡◌, Bool, true, Option, None, Some, length, is_some, refl}
 use Rattle.std.specs.Option.{option_map}
 use Rattle.std.specs.Map.{lookup}
@@ -13,7 +13,7 @@ use Rattle.hashlink_model.proofs.Puts.{put_back}
 use Rattle.hashlink_model.proofs.Splits.{stands_from_lookup}
 use Rattle.hashlink_weighted.proofs.Lasts.{last_is}
 
--- a key that is there is the last one afterwards, with its value
+-- a present key is the last one afterwards, with its value
 pub last_value_match : {K V S : Type 0} (test : K → Bool) (old new : MapState K V S)
     → MovesMatch test old new (length old.entries) (lookup test old.entries)
     → is_some (lookup test old.entries) ≡ true

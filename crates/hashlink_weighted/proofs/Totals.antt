@@ -1,4 +1,4 @@
--- Sums of weights after an entry left, was put last or moved last.
+-- Sums of weights after an entry left, was inserted last or moved last.
 use Rattle.std.proofs.Common.{◌≡◌, ℕ, ◌+◌, ◌-◌, ◌≤◌, Bool, List, [], ◌∷◌, ◌++◌, length, Option, None, Some}
 use Rattle.std.proofs.Common.{refl, sym, ap, subst, ◌∙◌, arith}
 use Rattle.std.specs.Map.{lookup, lookup_entry, remove_entry}
@@ -25,7 +25,7 @@ module _ {K V : Type 0} where
   total-append xs ys = sum_by-append (λ x. x.1.1) xs ys
 
 module _ {K V : Type 0} (test : K → Bool) where
-  -- the entry that leaves takes its weight with it
+  -- the sum without an entry is less by its weight
   pub total-without : (es : List (K × (V × ℕ))) (o : Option (V × ℕ)) → lookup test es ≡ o
       → total_weight (remove_entry test es) + weight_or_none o ≡ total_weight es
   total-without es None l =
@@ -41,7 +41,7 @@ module _ {K V : Type 0} (test : K → Bool) where
       omega (arith, total-append s.0 (s.1 ∷ s.2), total-append s.0 s.2, total-cons s.1 s.2)
 
 module _ {K V : Type 0} (eq : K → K → Bool) where
-  -- put last, with the others before it
+  -- inserted last, after the other entries
   pub last_weighs : (es : List (K × (V × ℕ))) (k : K) (w : V × ℕ) (o : Option (V × ℕ)) (total : ℕ)
       → lookup (eq k) es ≡ o → total ≡ total_weight es
       → LastWeighs (put eq es k w (length es)) (total - weight_or_none o) w.1
@@ -55,7 +55,7 @@ module _ {K V : Type 0} (eq : K → K → Bool) where
         last_weighs = refl;
       }
 
--- a move leaves the sum
+-- a move does not change the sum
 total-moved : {K V : Type 0} (test : K → Bool) (es : List (K × (V × ℕ))) (w : V × ℕ) → lookup test es ≡ Some w
     → total_weight (moved_match test es (length es)) ≡ total_weight es
 total-moved {K} test es w l =
@@ -68,7 +68,7 @@ total-moved {K} test es w l =
     omega (arith, total-cons (stored_key eq es k, w) [], total-without test es (Some w) l)
 
 module _ {K V S : Type 0} (test : K → Bool) (old new : MapState K (V × ℕ) S) (total budget : ℕ) where
-  -- what an entry that left leaves of a total, and where there was none
+  -- a removal lowers the total by the weight of the removed entry, or not at all if none was found
   pub removes_weight : (w : V × ℕ) → Some w ≡ lookup test old.entries
       → RemovesMatch test old new (lookup_entry test old.entries)
       → HasTotal old.entries total budget
@@ -90,7 +90,7 @@ module _ {K V S : Type 0} (test : K → Bool) (old new : MapState K (V × ℕ) S
       let sum = t.sum in
       record { sum = omega arith; within = t.within }
 
-  -- an entry that moved last leaves the total
+  -- a move to the end does not change the total
   pub moves_total : (r : Option (V × ℕ)) → MovesMatch test old new (length old.entries) r
       → HasTotal old.entries total budget
       → HasTotal new.entries total budget

@@ -1,4 +1,4 @@
--- An insert within a budget, by its answer.
+-- An insert within a budget, by its result.
 use Rattle.std.specs.Prelude.{◌≡◌, ℕ, Bool, List, codes, Option, Result, MatchResult}
 use Rattle.std.specs.Map.{lookup}
 use Rattle.std.specs.Option.{option_map}
@@ -11,7 +11,7 @@ abbrev pub without_weight : {V : Type 0} → Option (V × ℕ) → Option V
 without_weight w = option_map (λ x. x.0) w
 
 module _ {K V : Type 0} where
-  -- the pair that a refusal hands back, and what it says
+  -- the pair that a refused insert returns
   abbrev pub refused_pair : WeightError K V → K × V
   refused_pair (TooHeavy pair) = pair
   refused_pair (Memory pair) = pair
@@ -22,12 +22,12 @@ module _ {K V : Type 0} where
 
 module _ {K V S : Type 0} (eq : K → K → Bool) (old new : WeightedState K V S) (k : K)
     (v : V) (weight : ℕ) where
-  -- an insert that was accepted, whose answer is the key's old value
+  -- an insert that succeeded, which returns the key's old value
   pub record Accepts (answer : Option V) : Type 0 where
     pub inserts : WeightedInserts eq old new k v weight (lookup (eq k) old.map.entries)
     pub old_value : answer ≡ without_weight (lookup (eq k) old.map.entries)
 
-  -- one that was refused, which hands the pair back
+  -- an insert that failed, which returns the pair
   abbrev pub Refuses : WeightError K V → Type 0
   Refuses (TooHeavy pair) = (pair ≡ (k, v)) × IsTooHeavy old new weight
   Refuses (Memory pair) = (pair ≡ (k, v)) × WeightedRefuses eq old new k v weight

@@ -1,4 +1,4 @@
--- What an insert within a budget evicts, and the calls of a closure that is given each evicted pair.
+-- The entries that an insert within a budget evicts, and the calls of a closure on each evicted pair.
 use Rattle.std.specs.Prelude.{◌≡◌, ℕ, Bool, List, [], ◌∷◌, ◌++◌, length, if◌then◌else◌, nat_le}
 use Rattle.std.specs.Fn.{Called, Mut, Takes}
 use Rattle.std.specs.List.{FoldsTo}
@@ -19,11 +19,11 @@ module _ {K V : Type 0} where
       not_fitting (put eq c.map.entries k (v, weight) (length c.map.entries)) c.budget
 
 module _ {F K V : Type 0} (calls : Mut F (K × (V × Unit {0})) (Unit {0})) where
-  -- f was called once on the key and the value of each entry, in turn, and left as g
+  -- f was called once on the key and the value of each entry, in order, and became g
   abbrev pub IsGivenEach : F → List (K × (V × ℕ)) → F → Type 0
   IsGivenEach f es g = FoldsTo (λ a e b. Called calls a (e.0, (e.1.0, tt)) tt b) f es g
 
-  -- f may be called on each entry in turn, in the state that the calls before have left it in
+  -- f may be called on each entry in order, in the state that the calls before left it in
   pub record TakesEach (f : F) (es : List (K × (V × ℕ))) : Type 0 where
     pub at : (before after : List (K × (V × ℕ))) (e : K × (V × ℕ)) (g : F) → es ≡ before ++ e ∷ after
         → IsGivenEach f before g → Takes calls g (e.0, (e.1.0, tt))

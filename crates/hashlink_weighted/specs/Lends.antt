@@ -1,4 +1,4 @@
--- What a cache ends as, once a value that was lent out of it has ended.
+-- The state in which a cache ends, after the loan of a value has ended.
 use Rattle.std.specs.Prelude.{Bool, ⊤}
 use Rattle.std.specs.Borrow.{Fml, RattleType, MutBor, follows_so}
 use mathlib.Core.Option.{none}
@@ -14,7 +14,7 @@ module _ (K V S T : RattleType) (g : HashMembers K.Denot) (b : builder.Ghosts S.
   abbrev pub cache_row : RattleType
   cache_row = the_row K V S T (record { eq = g.eq }) (record { hash_input = g.hash_input }) b w
 
-  -- the first entry whose key passes moved last, where one does, with the value and the weight that stand
+  -- the first entry whose key passes, if any, moved last with its value and weight unchanged
   abbrev pub EndsUsed : MutBor (WeightedState K.Denot V.Denot S.Denot) → (K.Denot → Bool) → Fml
   EndsUsed c test =
       follows_so cache_row cache_row c.ghost_name none (λ _ _. ⊤) (λ new. WeightedGetsMatch test c.now new)

@@ -1,4 +1,4 @@
--- What the contracts of the cache with a budget cite, beside `hashlink_model`.
+-- What the contracts of the cache with a budget use, besides `hashlink_model`.
 pub mod Answers
 pub mod Evicted
 pub mod Lends

@@ -1,10 +1,11 @@
-//! The cache: a map whose values carry their weights, a budget, and the sum of the weights. A clause sees the
-//! map's state and the budget. The front of the map is the least recently used entry.
+//! The cache: a map whose values carry their weights, a budget, and the sum of the weights. A contract sees
+//! the map's state and the budget. The front of the map is the least recently used entry.
 ghost use Rattle.std.specs.Prelude.{◌≡◌, ◌^◌, ◌<◌, ◌≤◌, ◌↔◌, length, IsTrue};
 ghost use Rattle.hashlink_model.specs.Entries.{IsEntries};
 ghost use Rattle.hashlink_model.specs.Weights.{total_weight};
 ghost use Rattle.hashlink_weighted.specs.Weighed.{entries_of, empty_weighted};
 
+mod emptied;
 mod eviction;
 mod inserts;
 mod lookups;
@@ -98,8 +99,8 @@ impl<K: Eq + Hash, V, S: BuildHasher> WeightedCache<K, V, S> {
         self.map.is_empty()
     }
 
-    /// Returns an iterator over the entries with their weights, from front to back: the least recently used
-    /// comes first. It is not a use. It does not allocate, and each step takes constant time.
+    /// Returns an iterator over the entries with their weights, from front to back, so the least recently
+    /// used one is first. It is not a use. It does not allocate, and each step takes constant time.
     pub fn iter(&self) -> WeightedIter<'_, K, V>
         ensures rest { result ≡ entries_of self.now }
         ensures runs { ShowsInOrder (deref_weighed {K = K} {V = V}) }

@@ -1,4 +1,4 @@
-//! Debug texts.
+//! Debug output.
 use crate::cache::WeightedCache;
 use std::fmt;
 use std::hash::{BuildHasher, Hash};

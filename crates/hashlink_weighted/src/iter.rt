@@ -12,7 +12,7 @@ use std::iter::FusedIterator;
 use std::marker::Model;
 
 /// An iterator over the keys, the values and the weights, from front to back. Contracts see it as the list of
-/// the entries that are left.
+/// the entries left.
 #[derive(Drop)]
 pub struct WeightedIter<'a, K, V> {
     inner: Iter<'a, K, (V, u64)>,
@@ -27,7 +27,7 @@ impl<'a, K, V> Model for WeightedIter<'a, K, V> {
 }
 
 impl<'a, K, V> WeightedIter<'a, K, V> {
-    /// Returns an iterator over the entries that an iterator of the map has left.
+    /// Returns an iterator over the entries that an iterator of the map has yet to return.
     pub(crate) fn new(inner: Iter<'a, K, (V, u64)>) -> Self
         ensures { result ≡ inner.entry }
     {

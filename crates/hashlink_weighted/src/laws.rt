@@ -1,4 +1,4 @@
-//! What the contract of an insert within a budget implies. Nothing here is for users.
+//! Consequences of the contract of an insert within a budget. Nothing here is for users.
 ghost use Rattle.std.specs.Prelude.{◌≡◌, ℕ, ◌<◌, ◌≤◌, ◌++◌, Bool, Option, Result, None, Some, Ok, Err};
 ghost use Rattle.std.specs.Prelude.{length};
 ghost use Rattle.std.specs.Map.{lookup};
@@ -10,9 +10,9 @@ ghost use Rattle.hashlink_weighted.specs.Evicted.{evicted_by};
 ghost use Rattle.hashlink_weighted.specs.declared.error.WeightError.{WeightError};
 ghost use Rattle.hashlink_weighted.specs.declared.error.WeightError.TheVariants.{TooHeavy, Memory};
 
-/// A successful insert returns the old value. It leaves the longest end that fits of what the map's insert
-/// leaves, and evicts what stands before that. Its last entry is the pair with its weight. The weights sum to
-/// at most the budget, which does not change.
+/// A successful insert returns the old value. It keeps the longest fitting end of the entries that the map's
+/// insert leaves, and evicts the entries before it. The last entry is the pair with its weight. The weights
+/// sum to at most the budget, which does not change.
 pub fn what_an_accepted_insert_leaves<K, V, S>()
     ensures entries { (eq : K → K → Bool) (old new : WeightedState K V S) (k : K) (v : V) (weight : ℕ)
         (answer : Option V) → InsertsWithin eq old new k v weight (Ok answer)
@@ -33,7 +33,7 @@ pub fn what_an_accepted_insert_leaves<K, V, S>()
 {}
 
 /// An insert that fails returns its pair. One that is too heavy changes nothing. An allocation can fail only
-/// if the key is absent and no node is spare, and then no entry and no spare node changes.
+/// if the key is absent and no node is free, and then no entry and no free node changes.
 pub fn what_a_refused_insert_leaves<K, V, S>()
     ensures too_heavy { (eq : K → K → Bool) (old new : WeightedState K V S) (k : K) (v : V) (weight : ℕ)
         (pair : K × V) → InsertsWithin eq old new k v weight (Err (TooHeavy pair))

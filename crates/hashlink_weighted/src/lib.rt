@@ -1,5 +1,5 @@
-//! `WeightedCache`: a map whose entries carry weights, and which evicts the least recently used ones so that
-//! the weights sum to at most a budget.
+//! `WeightedCache`: a map whose entries carry weights. It evicts the least recently used ones so that the
+//! weights sum to at most a budget.
 #![tactic(auto)]
 
 mod cache;

@@ -1,4 +1,4 @@
-//! Reads a text of lines from standard input and writes the answer to it to standard output.
+//! Reads a text of commands from standard input and writes the answer to standard output.
 #![tactic(auto)]
 
 use hashlink_text::serve;

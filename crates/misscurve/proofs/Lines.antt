@@ -15,7 +15,7 @@ use Rattle.misscurve.specs.Trace.{CountsLine, CountsTrace, is_picked, lines_of, 
 
 -- ---- the first line
 
--- the last byte is the one at m
+-- the last byte is the one at index m
 strip_last-at : (bytes : List ℕ) (m : ℕ) → length bytes ≡ suc m
     → strip_last 10 bytes ≡ cond (eqb (get_or bytes m 0) 10) (take m bytes) bytes
 strip_last-at bytes m e =
@@ -23,7 +23,7 @@ strip_last-at bytes m e =
     let at : length bytes - 1 ≡ m = omega arith in
     ap₂ (λ t k. cond (t && eqb (get_or bytes k 0) 10) (take k bytes) bytes) some at
 
--- a byte before what has one more is not the last
+-- a byte before one more byte is not the last
 strip_last-later : (b c : ℕ) (bytes : List ℕ)
     → strip_last 10 (b ∷ c ∷ bytes) ≡ b ∷ strip_last 10 (c ∷ bytes)
 strip_last-later b c bytes =
@@ -33,7 +33,7 @@ strip_last-later b c bytes =
       strip_last-at (c ∷ bytes) (length bytes) refl,
     )
 
--- what goes through a byte, or to the end, has one byte at least
+-- a part that goes through a byte, or to the end, has at least one byte
 through : (bytes : List ℕ) → 0 < length bytes → (b : ℕ) × (bs : List ℕ) × (take_through 10 bytes ≡ b ∷ bs)
 through [] some = absurd (omega arith)
 through (b ∷ bytes) some = by (eqb b 10)
@@ -56,10 +56,10 @@ lines_first (b ∷ c ∷ bytes) some =
       strip_last-later b t.0 t.1,
     )
 
--- ---- what was counted
+-- ---- the lines counted so far
 
 module _ {A : Type 0} (parts : ℕ) (trace : List ℕ) where
-  -- what was read of the trace are these lines, and those that are in the part were counted
+  -- the lines read so far are lines of the trace, and the ones in the part were counted
   pub record LinesRead (left : Option (List ℕ)) (s : CurveState (Vec ℕ A)) : Type 0 where
     pub rest : List ℕ
     pub is : left ≡ Some rest
@@ -73,7 +73,7 @@ module _ {A : Type 0} (parts : ℕ) (trace : List ℕ) where
   LinesRead-none s h =
       record { rest = trace; is = refl; lines = []; split = refl; used = []; keys = refl; counted = h }
 
-  -- one line more
+  -- one more line
   pub LinesRead-line : (left right : Option (List ℕ)) (old new : CurveState (Vec ℕ A)) (read line : List ℕ)
       → IfSome left (λ bytes. read ≡ take_through 10 bytes) → DropsThrough left right 10
       → 0 < length read → line ≡ strip_last 10 read
@@ -114,10 +114,10 @@ module _ {A : Type 0} (parts : ℕ) (trace : List ℕ) where
       (h.keys ∙ ap (filter (is_picked parts)) (sym all))
       (Counted-map (λ (k : Vec ℕ A). k.items) same_bytes (pointwise nat_eq) (λ a b. refl) h.used s h.counted)
 
--- ---- the same, where the bytes may be known
+-- ---- the same, if the bytes may be known
 
 module _ {A : Type 0} (parts : ℕ) where
-  -- what was read of the trace, if its bytes are known
+  -- what was read from the trace, if its bytes are known
   abbrev pub Reads : Option (List ℕ) → Option (List ℕ) → CurveState (Vec ℕ A) → Type 0
   Reads trace left s = IfSome trace (λ bytes. LinesRead parts bytes left s)
 

@@ -1,4 +1,4 @@
-//! What is read and written for the options given.
+//! The output for the given options.
 ghost use Rattle.std.specs.Prelude.{◌≡◌};
 ghost use Rattle.misscurve.specs.declared.options.Form.TheVariants.{Help};
 
@@ -11,7 +11,7 @@ use std::alloc::Global;
 use std::hash::BuildHasher;
 use std::io::{BufRead, Eprint, Write};
 
-/// Writes what the options ask for, of the trace that the reader has. For help nothing is read.
+/// Writes what the options ask for, about the reader's trace. For help it reads nothing.
 pub fn answer<B: BufRead, W: Write, S: BuildHasher + Drop>(
     rt: &impl Eprint,
     alloc: Global,

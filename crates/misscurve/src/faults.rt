@@ -1,16 +1,16 @@
-//! Why there is no curve.
+//! Why there is no output.
 ghost use Rattle.std.specs.Prelude.{◌≡◌};
 ghost use Rattle.misscurve.specs.declared.faults.Fault.TheVariants.{Memory};
 
 use std::alloc::AllocError;
 use std::fmt;
 
-/// Why a trace has no answer.
+/// Why a trace was not answered.
 #[derive(Clone, Copy)]
 pub enum Fault {
-    /// An option is none of those that `--help` names, or lacks its value.
+    /// An option is unknown, or lacks its value.
     Options,
-    /// There is no random number for the hasher to begin with. Nothing was written.
+    /// There is no random number to seed the hasher. Nothing was written.
     Random,
     /// The trace could not be read to its end. Nothing was written.
     Reading,
@@ -21,7 +21,7 @@ pub enum Fault {
 }
 
 impl Fault {
-    /// Returns the exit status of the program: 2 where it was called wrongly, and else 1.
+    /// Returns the exit status of the program: 2 if it was called wrongly, else 1.
     pub fn status(self) -> u8 {
         match self {
             Fault::Options => 2,

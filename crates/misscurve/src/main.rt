@@ -1,4 +1,4 @@
-//! Reads a trace, a key a line, and writes how often caches of every capacity miss that are given its keys.
+//! Reads a trace, which has a key on each line, and writes how often caches of every capacity miss its keys.
 #![tactic(auto)]
 
 mod answers;
@@ -41,7 +41,7 @@ fn run(rt: &HostRuntime) -> Result<(), Fault> {
     answer(rt, alloc, options, hash_builder, &mut reader, &mut writer)
 }
 
-/// Why there are no arguments: they are to be UTF-8.
+/// Returns the fault if the arguments cannot be read. They have to be UTF-8.
 fn fault_of(error: io::Error) -> Fault {
     match error.kind() {
         ErrorKind::OutOfMemory => Fault::Memory,

@@ -1,31 +1,31 @@
-//! What the program is asked for.
+//! The options of the program.
 
 use crate::faults::Fault;
 
-/// What is written.
+/// The form of the output.
 #[derive(Clone, Copy, PartialEq, Eq)]
 pub enum Form {
-    /// A line at each power of two and at each percent of misses.
+    /// A table with a line for each power of two and for each percent of misses.
     Table,
-    /// A line at each capacity at which the misses fall.
+    /// A table with a line for each capacity at which the misses fall.
     WholeTable,
     /// A picture of the curve.
     Picture,
-    /// What the program does.
+    /// The help text.
     Help,
 }
 
-/// What the program is asked for.
+/// The options of the program.
 #[derive(Clone, Copy)]
 pub struct Options {
-    /// What is written.
+    /// The form of the output.
     pub form: Form,
-    /// Of how many parts of the keys one is read: of all with 1.
+    /// The number of parts into which the keys are divided; one of them is read. With 1 all keys are read.
     pub parts: u64,
 }
 
 impl Options {
-    /// Reads the arguments. Help is what is asked for wherever it stands among them, whatever the others are.
+    /// Parses the arguments. If `--help` is among them, help is asked for, whatever the others are.
     pub fn parse(arguments: &[&str]) -> Result<Options, Fault> {
         let mut options = Options {
             form: Form::Table,
@@ -61,7 +61,7 @@ impl Options {
     }
 }
 
-/// The N of `1/N`, at least 1.
+/// Returns the N of `1/N`, which is at least 1.
 fn parts_of(word: &str) -> Option<u64> {
     let number = word.strip_prefix("1/")?;
     match number.parse::<u64>() {

@@ -4,16 +4,16 @@ use hashlink_curve::MissCurve;
 use std::hash::{BuildHasher, Hash};
 use std::io::{self, Write};
 
-/// How many steps to the right a doubled capacity is.
+/// How many units to the right a doubled capacity is.
 const OCTAVE: u64 = 64;
 
-/// How many steps the sixteenths of an octave are from its start.
+/// How many units each sixteenth of an octave is from the start of the octave.
 const STEPS: [u64; 16] = [0, 6, 11, 16, 21, 25, 29, 34, 37, 41, 45, 48, 52, 55, 58, 61];
 
-/// How high the picture is.
+/// The height of the picture.
 const HEIGHT: u64 = 400;
 
-/// How far to the right a capacity stands.
+/// Returns the horizontal position of a capacity.
 fn across(capacity: u64) -> u64 {
     let mut power = 1u64;
     let mut start = 0u64;
@@ -32,14 +32,14 @@ fn across(capacity: u64) -> u64 {
     start.saturating_add(step.unwrap_or(0))
 }
 
-/// How far down a ratio stands.
+/// Returns the vertical position of a ratio.
 fn down(ratio: u64) -> u64 {
     HEIGHT.saturating_sub(ratio.saturating_mul(HEIGHT) / WHOLE)
 }
 
-/// Writes the picture: to the right the capacity, doubled at each line, and upwards the ratio of misses. The
-/// dashed line is that of the first uses of the keys, which every cache misses. Where one part of the keys
-/// was read, each number but the ratios is times the parts.
+/// Writes the picture: the capacity to the right, doubled at each line, and the ratio of misses upwards. The
+/// dashed line is at the ratio of the first uses of keys, which every cache misses. If only a part of the
+/// keys was read, each number except the ratios is multiplied by the number of parts.
 pub fn write_picture<W: Write, K: Eq + Hash, S: BuildHasher>(
     writer: &mut W,
     curve: &MissCurve<K, S>,
@@ -71,12 +71,12 @@ pub fn write_picture<W: Write, K: Eq + Hash, S: BuildHasher>(
     writer.flush()
 }
 
-/// What is said of a picture of some of the keys.
+/// Returns the note of a picture that shows only some of the keys.
 fn note(parts: u64) -> &'static str {
     if parts > 1 { ", an estimate" } else { "" }
 }
 
-/// Writes how large the picture is, what it shows, and its ground.
+/// Writes the size of the picture, its title and its background.
 fn write_head<W: Write>(
     writer: &mut W,
     width: u64,

@@ -4,10 +4,10 @@ use hashlink_curve::MissCurve;
 use std::hash::{BuildHasher, Hash};
 use std::io::{self, Write};
 
-/// Of so many parts of all accesses the ratio of misses is told.
+/// A ratio of misses is given as a number out of this many accesses.
 pub const WHOLE: u64 = 10000;
 
-/// How many of `WHOLE` accesses are misses.
+/// Returns how many of `WHOLE` accesses are misses.
 pub fn ratio_of(misses: u64, accesses: u64) -> u64 {
     match misses.checked_mul(WHOLE) {
         Some(product) => product.checked_div(accesses).unwrap_or(0).min(WHOLE),
@@ -15,7 +15,7 @@ pub fn ratio_of(misses: u64, accesses: u64) -> u64 {
     }
 }
 
-/// Writes what the program does.
+/// Writes the help text.
 pub fn write_help<W: Write>(writer: &mut W) -> io::Result<()> {
     writeln!(
         writer,
@@ -29,7 +29,8 @@ pub fn write_help<W: Write>(writer: &mut W) -> io::Result<()> {
     writer.flush()
 }
 
-/// Writes the table. Where one part of the keys was read, each number but the ratios is times the parts.
+/// Writes the table. If only a part of the keys was read, each number except the ratios is multiplied by the
+/// number of parts.
 pub fn write_table<W: Write, K: Eq + Hash, S: BuildHasher>(
     writer: &mut W,
     curve: &MissCurve<K, S>,
@@ -78,7 +79,7 @@ pub fn write_table<W: Write, K: Eq + Hash, S: BuildHasher>(
     row.writer.flush()
 }
 
-/// What writes a line of the table.
+/// The writer of the table's lines, and what they are computed from.
 #[derive(Drop)]
 struct Row<'a, W: Write> {
     writer: &'a mut W,
@@ -87,7 +88,7 @@ struct Row<'a, W: Write> {
 }
 
 impl<'a, W: Write> Row<'a, W> {
-    /// Writes the misses at a capacity, each times the parts.
+    /// Writes the misses at a capacity, each multiplied by the number of parts.
     fn write(&mut self, capacity: usize, misses: u64) -> io::Result<()> {
         let ratio = ratio_of(misses, self.accesses);
         let places = (capacity as u64).saturating_mul(self.parts);

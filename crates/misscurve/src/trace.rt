@@ -1,4 +1,4 @@
-//! How a trace is read.
+//! Reads a trace.
 ghost use Rattle.std.specs.Prelude.{◌≡◌, ◌<◌, length, IfOk, OnOk, IfSome};
 ghost use Rattle.std.specs.Bool.{OnTrue, OnFalse};
 ghost use Rattle.std.specs.Io.BufRead.{take_through, strip_last, DropsThrough};
@@ -11,13 +11,13 @@ use std::alloc::{AllocError, Global};
 use std::hash::BuildHasher;
 use std::io::{self, BufRead, Eprint, ErrorKind};
 
-/// After so many lines it is said how far the reading is.
+/// The progress is printed each time after this many lines.
 const PROGRESS: u64 = 1 << 22;
 
-/// Returns the curve of the keys that the reader has, a line each, or of those in one of so many parts. A
-/// trace is not kept, only its distinct keys: each is allocated once, and no line is.
+/// Returns the curve of the reader's keys, one on each line, or of the keys in one of `parts` parts. Only the
+/// distinct keys are kept, each allocated once; lines are not kept.
 ///
-/// Whether a read or an allocation fails is up to the reader and the memory, and no clause says it.
+/// Whether a read or an allocation fails depends on the reader and the memory, and no clause states it.
 pub fn curve_of<B: BufRead, S: BuildHasher + Drop>(
     rt: &impl Eprint,
     alloc: Global,
@@ -25,7 +25,7 @@ pub fn curve_of<B: BufRead, S: BuildHasher + Drop>(
     reader: &mut B,
     parts: u64,
 ) -> Result<MissCurve<Vec<u8>, S>, Fault>
-    // If the bytes of the reader are known, the lines that they have are counted, and nothing else.
+    // If the bytes of the reader are known, their lines are counted, and nothing else.
     ensures counted { IfOk result (λ curve. IfSome (B.remaining reader.old)
         (λ bytes. CountsTrace parts bytes curve)) }
     ensures end { OnOk result (IfSome (B.remaining reader.old) (λ _. IsAtEnd (B.remaining reader.new))) }
@@ -41,7 +41,7 @@ pub fn curve_of<B: BufRead, S: BuildHasher + Drop>(
             tell(rt, count, curve.distinct());
         }
     }
-    Err(Fault::Reading) // more lines than are counted
+    Err(Fault::Reading) // more lines than can be counted
 }
 
 /// Reads the next line, with the byte that ends it, and returns whether there was one.
@@ -69,7 +69,7 @@ fn without_end(line: &[u8]) -> &[u8]
     }
 }
 
-/// Records the line, if it falls in the part that is read. Only a new key is allocated.
+/// Records the line, if it is in the part that is read. It allocates only for a new key.
 fn record<S: BuildHasher>(
     curve: &mut MissCurve<Vec<u8>, S>,
     alloc: Global,
@@ -91,7 +91,7 @@ fn key_of(alloc: Global, line: &[u8]) -> Result<Vec<u8>, AllocError>
     line.to_vec(alloc)
 }
 
-/// Why a line could not be read.
+/// Returns why a line could not be read.
 fn fault_of(error: io::Error) -> Fault {
     match error.kind() {
         ErrorKind::OutOfMemory => Fault::Memory,
@@ -99,19 +99,20 @@ fn fault_of(error: io::Error) -> Fault {
     }
 }
 
-/// Says how far the reading is.
+/// Prints the progress.
 fn tell(rt: &impl Eprint, lines: u64, keys: usize) {
     let _ = eprintln!(rt; "misscurve: {lines} lines, {keys} keys");
 }
 
-/// Whether the key falls in the part that is read, which its bytes alone say.
+/// Returns whether the key is in the part that is read. This depends only on its bytes.
 fn is_picked(key: &[u8], parts: u64) -> bool
     ensures { result ≡ is_picked parts key.now }
 {
     parts <= 1 || mixed(key) % parts == 0
 }
 
-/// A number that spreads over the keys: the bytes multiplied in, and then the high bits brought down.
+/// Returns a number that spreads over the keys: the bytes are multiplied in, and then the high bits are mixed
+/// into the low ones.
 fn mixed(key: &[u8]) -> u64
     ensures { result ≡ mixed key.now }
 {

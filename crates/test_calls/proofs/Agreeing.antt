@@ -1,4 +1,4 @@
--- How many nodes agree with a hash, as nodes are put in.
+-- How many nodes agree with a hash, after each insert of a node.
 use Rattle.std.proofs.Common.{◌≡◌, ℕ, ◌+◌, ◌%◌, ◌∷◌, cond, eqb, ◌∙◌, arith}
 use Rattle.std.specs.Prelude.{IsPermutation}
 use Rattle.std.proofs.lemmas.List.Sorted.{sum_by-IsPermutation}
@@ -6,7 +6,7 @@ use Rattle.std.proofs.lemmas.List.Sums.{sum_by-cons}
 use Rattle.hashlink_table.specs.declared.hashed.Hashed.{Hashed}
 use Rattle.hashlink_table.specs.Contents.{Contents, agreeing}
 
--- one node more agrees, or none
+-- one more node agrees, or none
 pub agreeing_inserted : {N : Type 0} (old new : Contents N) (hash : ℕ) (node : N)
     → IsPermutation (record { hash = hash; node = node } ∷ old.nodes) new.nodes → (h m : ℕ)
     → agreeing new h m ≡ agreeing old h m + cond (eqb (hash % m) (h % m)) 1 0

@@ -1,4 +1,4 @@
--- How many of the numbers put into a table agree with a hash, and what the nodes tell.
+-- How many of the numbers in a table agree with a hash, and that the nodes determine their hashes.
 pub mod Agreeing
 pub mod Numbered
 pub mod Telling

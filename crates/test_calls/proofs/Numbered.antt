@@ -1,4 +1,4 @@
--- A table of the numbers from 1 on, each under itself as its hash, for the tests.
+-- A table of the numbers from 1 on, each with itself as its hash, for the tests.
 use Rattle.std.proofs.Common.{◌≡◌, ℕ, ◌+◌, ◌%◌, ◌<◌, ◌≤◌, [], ◌∷◌, cond, eqb, ◌⊎◌, inl, inr, refl, sym, ap}
 use Rattle.std.proofs.Common.{◌∙◌, arith}
 use Rattle.std.specs.Prelude.{IsPermutation}
@@ -9,7 +9,7 @@ use Rattle.hashlink_table.specs.declared.hashed.Hashed.{Hashed}
 use Rattle.hashlink_table.specs.Contents.{Contents, agreeing, len_of}
 use Rattle.test_calls.proofs.Agreeing.{agreeing_inserted}
 
--- the numbers from 1 up to below n were put in, each under itself as hash, where n is at most 501: no two of
+-- the numbers from 1 to n - 1 were inserted, each with itself as its hash, and n is at most 501: no two of
 -- them agree
 pub record IsNumbered {N : Type 0} (t : Contents N) (n : ℕ) : Type 0 where
   pub count : len_of t + 1 ≡ n
@@ -71,7 +71,7 @@ numbered_more {N} t same new n node numbered most moved inserted = record {
       ];
 }
 
--- so that no more than one agrees
+-- so at most one agrees
 pub numbered_few : {N : Type 0} (t : Contents N) (n h m : ℕ) → IsNumbered t n → 500 ≤ m → agreeing t h m ≤ 2
 numbered_few t n h m numbered low =
     elim (numbered.few h m low) as (λ _. agreeing t h m ≤ 2)

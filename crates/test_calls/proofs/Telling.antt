@@ -1,4 +1,4 @@
--- Nodes that tell their hashes, as a table changes.
+-- Nodes that determine their hashes, as a table changes.
 use Rattle.std.proofs.Common.{◌≡◌, ℕ, suc, zero, [], ◌∷◌, sym, ap, ◌∙◌, arith}
 use Rattle.std.specs.Prelude.{IsPermutation, Contains}
 use Rattle.std.proofs.lemmas.List.Sorted.{Contains-permutation, IsPermutation-sym}

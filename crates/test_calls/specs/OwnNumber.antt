@@ -1,4 +1,4 @@
--- What the hasher computes that gives a number itself.
+-- The hasher whose hash of a number is the number itself.
 use Rattle.std.specs.Prelude.{ℕ, ◌+◌, ◌*◌, List, ◌∷◌}
 
 -- the number of the first two bytes

@@ -1,4 +1,4 @@
-//! std's adapters.
+//! Iterators of std that wrap iterators of a map.
 use crate::few::{Map, is_pair, is_value, map_of, passes};
 use hashlink::linked_hash_map::Keys;
 use std::process::ExitCode;
@@ -10,7 +10,7 @@ fn digits_backwards(keys: Keys<'_, u64, u64>) -> u64 {
     })
 }
 
-/// Whether a map of four goes through them.
+/// Whether a map of four entries passes through them.
 fn goes_through(map: &Map) -> bool {
     (digits_backwards(map.keys()) == 4213)
         & is_value(map.values().rev().last(), 30)

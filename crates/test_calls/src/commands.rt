@@ -1,4 +1,4 @@
-//! A list of commands with keys that are equal and yet differ, and how often a run asks its closure.
+//! A list of commands with different keys that are equal, and how often a run calls its closure.
 use crate::few::passes;
 use crate::keys::{Numbered, key};
 use hashlink::LinkedHashMap;
@@ -11,13 +11,13 @@ type Commands = Vec<Command<Numbered, u32>>;
 
 type Replies = Vec<Reply<Numbered, u32>>;
 
-/// The commands and one more.
+/// The commands with one more.
 fn and(mut commands: Commands, command: Command<Numbered, u32>) -> Commands {
     let _pushed = commands.push(command);
     commands
 }
 
-/// Two inserts, with a cursor without steps between.
+/// Two inserts, with a cursor without steps between them.
 fn inserts(alloc: Global) -> Commands {
     let commands = and(Vec::new(alloc), Command::Insert(key(1, 1), 10));
     let commands = and(commands, Command::Cursor(Vec::new(alloc)));
@@ -31,7 +31,7 @@ fn all_commands(alloc: Global) -> Commands {
     and(commands, Command::Entry(key(1, 5), EntryStep::RemoveEntry))
 }
 
-/// What a read is told of its pair: whether the stored key has the number 1.
+/// Whether the stored key of a pair that is read has the number 1.
 fn is_first(key: &Numbered, _value: &u32) -> bool {
     key.number == 1
 }
@@ -54,7 +54,7 @@ fn is_first_kept(replies: &[Reply<Numbered, u32>]) -> bool {
     )
 }
 
-/// Whether the first key is replaced, and the one in its place is handed out.
+/// Whether the first key is replaced, and the key in its place is returned.
 fn is_replaced(replies: &[Reply<Numbered, u32>]) -> bool {
     matches!(
         replies,
@@ -65,7 +65,7 @@ fn is_replaced(replies: &[Reply<Numbered, u32>]) -> bool {
     )
 }
 
-/// Whether three replies and those after them are right.
+/// Whether three replies and the replies after them are right.
 fn are_right(replies: &[Reply<Numbered, u32>]) -> bool {
     match replies.split_at_checked(3) {
         Some((first, rest)) => is_first_kept(first) & is_replaced(rest),
@@ -81,7 +81,7 @@ fn a_run_keeps_the_stored_key_and_hands_it_out(rt: HostRuntime) -> ExitCode {
     })
 }
 
-/// A value that counts how often a closure is asked about its pair.
+/// A value that counts how often a closure is called on its pair.
 #[derive(Drop)]
 struct Asked {
     times: Cell<u32>,
@@ -89,25 +89,26 @@ struct Asked {
 
 type AskedCommands = Vec<Command<u32, Asked>>;
 
-/// Keeps every pair, and counts that it was asked about this one.
+/// Keeps every pair, and counts the call on this one.
 fn is_asked(_key: &u32, value: &Asked) -> bool {
     value.times.set(value.times.get().wrapping_add(1));
     true
 }
 
-/// An insert of a value that no closure was asked about.
+/// An insert of a value on which no closure was called.
 fn insert_unasked(key: u32) -> Command<u32, Asked> {
     let times = Cell::new(0u32);
     Command::Insert(key, Asked { times })
 }
 
-/// The commands and one more.
+/// The commands with one more.
 fn then(mut commands: AskedCommands, command: Command<u32, Asked>) -> AskedCommands {
     let _pushed = commands.push(command);
     commands
 }
 
-/// Inserts of two pairs, and commands that ask about the first five times and about the second four times.
+/// Inserts of two pairs, and commands that call the closure on the first pair five times and on the second
+/// four times.
 fn asking(alloc: Global) -> AskedCommands {
     let commands = then(Vec::new(alloc), insert_unasked(1));
     let commands = then(commands, insert_unasked(2));
@@ -121,7 +122,7 @@ fn asking(alloc: Global) -> AskedCommands {
     then(commands, Command::Back)
 }
 
-/// Whether the closure was asked so often about the value of the key.
+/// Whether the closure was called this many times on the value of the key.
 fn is_asked_so_often(map: &LinkedHashMap<u32, Asked>, key: u32, times: u32) -> bool {
     match map.get(&key) {
         Some(value) => value.times.get() == times,
@@ -129,7 +130,7 @@ fn is_asked_so_often(map: &LinkedHashMap<u32, Asked>, key: u32, times: u32) -> b
     }
 }
 
-/// Whether a run asks once about each pair that a command shows to the closure.
+/// Whether a run calls its closure once on each pair that a command shows to it.
 fn asks_once(alloc: Global, map: &mut LinkedHashMap<u32, Asked>) -> bool {
     let is_run = run(map, asking(alloc), &is_asked).is_ok();
     is_run & is_asked_so_often(map, 1, 5) & is_asked_so_often(map, 2, 4)

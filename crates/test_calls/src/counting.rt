@@ -78,7 +78,7 @@ impl Hash for Counted {
     }
 }
 
-/// A number whose comparisons are counted there.
+/// A number whose comparisons `comparisons` counts.
 fn number_with_count(number: u64, comparisons: &Rc<Cell<u64>>) -> Result<Counted, AllocError> {
     Ok(Counted {
         number,
@@ -97,7 +97,7 @@ fn inserts(map: &mut Numbers, number: u64, comparisons: &Rc<Cell<u64>>) -> bool 
     }
 }
 
-/// Whether it is found.
+/// Whether the number is found.
 fn gets(map: &Numbers, number: u64, comparisons: &Rc<Cell<u64>>) -> bool {
     match number_with_count(number, comparisons) {
         Ok(key) => is_value(map.get(&key), number),
@@ -105,7 +105,7 @@ fn gets(map: &Numbers, number: u64, comparisons: &Rc<Cell<u64>>) -> bool {
     }
 }
 
-/// Whether a map takes the numbers from 1 to 500, and then finds each of them.
+/// Whether a map accepts the numbers from 1 to 500, and then finds each of them.
 fn takes_and_finds(map: &mut Numbers, comparisons: &Rc<Cell<u64>>) -> bool {
     let mut all = true;
     for number in 1..501u64 {
@@ -117,7 +117,7 @@ fn takes_and_finds(map: &mut Numbers, comparisons: &Rc<Cell<u64>>) -> bool {
     all
 }
 
-/// Whether an empty map does with at most 4,000 comparisons.
+/// Whether an empty map needs at most 4,000 comparisons for this.
 fn compares_few(alloc: Global, comparisons: &Rc<Cell<u64>>) -> bool {
     let map = &mut LinkedHashMap::with_hasher(alloc, OwnNumber::default());
     takes_and_finds(map, comparisons) & (comparisons.get() <= 4_000)

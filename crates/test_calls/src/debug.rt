@@ -1,4 +1,4 @@
-//! The texts of `{:?}`, and of errors.
+//! The output of `{:?}`, and the messages of errors.
 use crate::few::{Map, cache_of, is_cloned, map_of, passes, says, set_of, shows};
 use crate::keys::{Numbered, key};
 use hashlink::linked_hash_map::{Entry, ExtendError, RawEntryMut};
@@ -10,17 +10,17 @@ use std::process::ExitCode;
 
 const PAIRS: &str = "[(1, 10), (2, 20)]";
 
-/// The keys 1 and 2 with ten times their numbers.
+/// A map of the keys 1 and 2, each with ten times its number.
 fn one_and_two(alloc: Global) -> Map {
     map_of(alloc, &[(1, 10), (2, 20)])
 }
 
-/// The same and 3.
+/// The same map with the key 3.
 fn three(alloc: Global) -> Map {
     map_of(alloc, &[(1, 10), (2, 20), (3, 30)])
 }
 
-/// Whether a cache with a budget and its iterator show two pairs that are put in.
+/// Whether a cache with a budget and its iterator show two inserted pairs.
 fn weighted_pairs_are_shown(alloc: Global, cache: &mut WeightedCache<u64, u64>) -> bool {
     let _first = cache.insert(1, 10, 1);
     let _second = cache.insert(2, 20, 1);
@@ -54,7 +54,7 @@ fn readers_show_two(alloc: Global, map: &Map) -> bool {
         & shows(alloc, map.values(), "[10, 20]")
 }
 
-/// Whether those that write do, and then a drain.
+/// Whether the iterators that write show both, and then a drain does.
 fn writers_show_two(alloc: Global, map: &mut Map) -> bool {
     let are_pairs_shown = shows(alloc, map.iter_mut(), PAIRS);
     let values = map.values_mut();
@@ -71,7 +71,7 @@ fn iterators_over_a_map_show_its_entries(rt: HostRuntime) -> ExitCode {
     )
 }
 
-/// Whether the iterators over a map of three show what is left after a step.
+/// Whether the iterators over a map of three entries show the entries left after a step.
 fn what_is_left_is_shown(alloc: Global, map: &mut Map) -> bool {
     let mut pairs = map.iter();
     pairs.next_back();
@@ -89,7 +89,13 @@ fn iterators_over_a_map_show_what_is_left(rt: HostRuntime) -> ExitCode {
     passes(what_is_left_is_shown(rt.alloc(), &mut three(rt.alloc())))
 }
 
-/// Whether the iterators over 1 and 2, and beside an empty set, show both.
+#[test]
+fn a_drain_of_a_cache_shows_its_entries(rt: HostRuntime) -> ExitCode {
+    let cache = &mut cache_of(rt.alloc(), 2, &[(1, 10), (2, 20)]);
+    passes(shows(rt.alloc(), cache.drain(), PAIRS))
+}
+
+/// Whether the iterators over 1 and 2, and over an empty set, show both.
 fn lazy_ones_show_two(
     alloc: Global,
     left: &LinkedHashSet<u64>,
@@ -109,7 +115,7 @@ fn iterators_over_sets_show_two_elements(rt: HostRuntime) -> ExitCode {
     passes(lazy_ones_show_two(rt.alloc(), &left, &right))
 }
 
-/// Whether the iterators over 1 to 4 and 3 to 5 show what comes of both.
+/// Whether the iterators over 1 to 4 and 3 to 5 show their results.
 fn lazy_ones_show(alloc: Global, left: &LinkedHashSet<u64>, right: &LinkedHashSet<u64>) -> bool {
     shows(alloc, left.difference(right), "[1, 2]")
         & shows(alloc, left.intersection(right), "[3, 4]")
@@ -132,7 +138,7 @@ fn occupied_is_shown(alloc: Global, map: &mut Map) -> bool {
     }
 }
 
-/// Whether a vacant one does.
+/// Whether a vacant entry shows itself.
 fn vacant_is_shown(alloc: Global, map: &mut Map) -> bool {
     match map.entry(3) {
         Entry::Vacant(entry) => shows(alloc, entry, "VacantEntry(3)"),
@@ -140,7 +146,7 @@ fn vacant_is_shown(alloc: Global, map: &mut Map) -> bool {
     }
 }
 
-/// Whether an occupied raw entry does.
+/// Whether an occupied raw entry shows itself.
 fn raw_occupied_is_shown(alloc: Global, map: &mut Map) -> bool {
     match map.raw_entry_of(&1) {
         RawEntryMut::Occupied(entry) => {
@@ -150,7 +156,7 @@ fn raw_occupied_is_shown(alloc: Global, map: &mut Map) -> bool {
     }
 }
 
-/// Whether a vacant raw entry does.
+/// Whether a vacant raw entry shows itself.
 fn raw_vacant_is_shown(alloc: Global, map: &mut Map) -> bool {
     match map.raw_entry_of(&3) {
         RawEntryMut::Vacant(entry) => shows(alloc, entry, "RawVacantEntryMut"),
@@ -158,7 +164,7 @@ fn raw_vacant_is_shown(alloc: Global, map: &mut Map) -> bool {
     }
 }
 
-/// Whether each of the four does.
+/// Whether each of the four shows itself.
 fn each_is_shown(alloc: Global, map: &mut Map) -> bool {
     occupied_is_shown(alloc, map)
         & vacant_is_shown(alloc, map)
@@ -173,7 +179,7 @@ fn an_entry_that_was_matched_shows_itself(rt: HostRuntime) -> ExitCode {
 
 type NumberedMap = LinkedHashMap<Numbered, u64>;
 
-/// Whether the entries of a key that is there, with the number 5, and of one that is absent show themselves.
+/// Whether the entries of a present key, which has the number 5, and of an absent key show themselves.
 fn entries_are_shown(alloc: Global, map: &mut NumberedMap) -> bool {
     let text = "Entry(OccupiedEntry { key: Numbered { group: 1, number: 5 }, value: 10 })";
     let occupied = shows(alloc, map.entry(key(1, 6)), text);
@@ -181,7 +187,7 @@ fn entries_are_shown(alloc: Global, map: &mut NumberedMap) -> bool {
     occupied & shows(alloc, map.entry(key(2, 6)), text)
 }
 
-/// The same of raw entries.
+/// The same for raw entries.
 fn raw_entries_are_shown(alloc: Global, map: &mut NumberedMap) -> bool {
     let text = "RawEntry(RawOccupiedEntryMut { key: Numbered { group: 1, number: 5 }, value: 10 })";
     let occupied = shows(alloc, map.raw_entry_of(&key(1, 6)), text);
@@ -196,7 +202,7 @@ fn builders_are_shown(alloc: Global, map: &mut NumberedMap) -> bool {
         & shows(alloc, map.hasher(), "DefaultHashBuilder")
 }
 
-/// Whether the entries of a map of one and its builders show themselves.
+/// Whether the entries of a map of one entry, and its builders, show themselves.
 fn all_is_shown(alloc: Global, map: &mut NumberedMap) -> bool {
     let _old = map.insert(key(1, 5), 10);
     entries_are_shown(alloc, map)
@@ -209,16 +215,17 @@ fn an_entry_shows_the_stored_key_and_a_builder_its_name(rt: HostRuntime) -> Exit
     passes(all_is_shown(rt.alloc(), &mut LinkedHashMap::new(rt.alloc())))
 }
 
-/// Whether an extend that ran out of memory says after how many.
+/// Whether the error of an extend that ran out of memory has the number of items inserted before.
 fn extend_says_why(alloc: Global, error: ExtendError<u64, u64>) -> bool {
-    says(alloc, &error, "no memory for an item, after 2 items")
+    says(alloc, &error, "memory ran out after 2 items")
         & is_cloned(&error)
         & shows(alloc, error, "ExtendError { taken: 2, pair: (3, 30) }")
 }
 
 type Refused = WeightError<u64, u64>;
 
-/// Whether an insert that a budget or memory does not allow says so, and hands its pair back.
+/// Whether the errors of an insert that exceeds a budget, or for which there is no memory, give the reason
+/// and return the pair.
 fn weight_says_why(alloc: Global, heavy: Refused, refused: Refused) -> bool {
     says(alloc, &heavy, "the weight is above the budget")
         & says(alloc, &refused, "memory allocation failed")
@@ -229,9 +236,9 @@ fn weight_says_why(alloc: Global, heavy: Refused, refused: Refused) -> bool {
 
 type NotMade = TryInsertError<u64, u64, u8>;
 
-/// Whether a value that was not made or not kept says why.
+/// Whether the errors for a value that was not made, or not kept, give the reason.
 fn value_says_why(alloc: Global, failed: NotMade, refused: NotMade) -> bool {
-    says(alloc, &failed, "no value was made: 7")
+    says(alloc, &failed, "the value could not be made: 7")
         & says(alloc, &refused, "memory allocation failed")
         & is_cloned(&failed)
 }
@@ -246,7 +253,7 @@ fn an_error_says_why(rt: HostRuntime) -> ExitCode {
         says(
             rt.alloc(),
             &TryReserveError::CapacityOverflow,
-            "no table has that much room",
+            "no table can have so much room",
         ) & extend_says_why(rt.alloc(), error)
             & weight_says_why(
                 rt.alloc(),

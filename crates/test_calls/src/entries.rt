@@ -13,7 +13,7 @@ fn entry_makes(map: &mut Map, key: u64) -> bool {
     is_made
 }
 
-/// The same of a raw entry, whose closure makes a pair.
+/// The same for a raw entry, whose closure makes a pair.
 fn raw_entry_makes(map: &mut Map, key: u64) -> bool {
     let mut is_made = false;
     let _pair = map.raw_entry_of(&key).or_insert_with(|| {
@@ -23,7 +23,7 @@ fn raw_entry_makes(map: &mut Map, key: u64) -> bool {
     is_made
 }
 
-/// Whether nothing is made for 1, which is there, and what is absent is made.
+/// Whether no value is made for 1, which is present, and values are made for absent keys.
 fn what_is_absent_is_made(map: &mut Map) -> bool {
     !entry_makes(map, 1) & !raw_entry_makes(map, 1) & entry_makes(map, 2) & raw_entry_makes(map, 3)
 }
@@ -33,7 +33,7 @@ fn an_entry_makes_what_is_absent_alone(rt: HostRuntime) -> ExitCode {
     passes(what_is_absent_is_made(&mut map_of(rt.alloc(), &[(1, 10)])))
 }
 
-/// Whether the raw entry of a vacant entry takes a pair.
+/// Whether the raw entry of a vacant entry inserts a pair.
 fn is_put_raw(map: &mut Map, key: u64, value: u64) -> bool {
     match map.entry(key) {
         Entry::Vacant(entry) => entry.raw_entry_mut().insert(key, value).is_ok(),
@@ -41,12 +41,12 @@ fn is_put_raw(map: &mut Map, key: u64, value: u64) -> bool {
     }
 }
 
-/// Whether a vacant entry takes a default value.
+/// Whether a vacant entry inserts a default value.
 fn takes_default(map: &mut Map, key: u64) -> bool {
     map.entry(key).or_default().is_ok()
 }
 
-/// Whether one entry does each.
+/// Whether one vacant entry does each.
 fn vacant_ones_take(map: &mut Map) -> bool {
     is_put_raw(map, 2, 20) & takes_default(map, 1)
 }

@@ -1,4 +1,4 @@
-//! Small containers of numbers, and what tests ask of values.
+//! Small containers of numbers, and checks of values.
 ghost use Rattle.std.specs.Prelude.{◌≡◌, if◌then◌else◌};
 
 use hashlink::{LinkedHashMap, LinkedHashSet, LruCache, TryReserveError};
@@ -7,7 +7,8 @@ use std::error::Error;
 use std::fmt;
 use std::process::ExitCode;
 
-/// How a test ends. It costs its proof less than an assertion, which would be one more way out.
+/// The exit code of a test. It makes the test's proof cheaper than an assertion, which would be one more exit
+/// path.
 pub(crate) fn passes(holds: bool) -> ExitCode
     ensures { result ≡ (if holds then ExitCode.SUCCESS else ExitCode.FAILURE) }
 {
@@ -18,7 +19,7 @@ pub(crate) fn passes(holds: bool) -> ExitCode
     }
 }
 
-/// Whether the error has this text.
+/// Whether the error has this message.
 pub(crate) fn says<E: Error>(alloc: Global, error: &E, text: &str) -> bool {
     match error.to_string(alloc) {
         Ok(said) => said.as_str() == text,
@@ -26,7 +27,7 @@ pub(crate) fn says<E: Error>(alloc: Global, error: &E, text: &str) -> bool {
     }
 }
 
-/// Whether the value shows itself so. It takes the value, so that a test has none to drop.
+/// Whether `{:?}` formats the value as this text. It takes the value, so that a test has none to drop.
 pub(crate) fn shows<T: fmt::Debug + Drop>(alloc: Global, value: T, text: &str) -> bool {
     match format!(in alloc; "{value:?}") {
         Ok(shown) => shown.as_str() == text,
@@ -74,7 +75,7 @@ pub(crate) fn set_of(alloc: Global, elements: &[u64]) -> LinkedHashSet<u64> {
     set
 }
 
-/// A cache into which the pairs went.
+/// A cache into which the pairs were inserted.
 pub(crate) fn cache_of(alloc: Global, capacity: usize, pairs: &[(u64, u64)]) -> LruCache<u64, u64> {
     let mut cache = LruCache::new(alloc, capacity);
     for (key, value) in pairs {

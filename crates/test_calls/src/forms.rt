@@ -1,5 +1,5 @@
-//! The forms in which std's maps are called: what stands for a key in a lookup, `?` and std's traits. That
-//! each compiles, is proved and runs is what is tested.
+//! The forms in which std's maps are called: what a lookup accepts as a key, `?`, and std's traits. The tests
+//! check that each form compiles, is proved and runs.
 
 mod collect;
 mod errors;

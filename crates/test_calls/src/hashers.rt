@@ -1,4 +1,4 @@
-//! The default hasher hashes as std's does, and what containers feed a hasher.
+//! The default hasher hashes as std's does; and what containers feed a hasher.
 use crate::few::{map_of, passes, set_of};
 use hashlink::{DefaultHashBuilder, DefaultHasher};
 use std::hash::{BuildHasher, FoldHasher, Hash, Hasher};
@@ -46,7 +46,7 @@ fn hashers_and_their_builders_are_cloned(rt: HostRuntime) -> ExitCode {
     })
 }
 
-/// The hash of what a hasher is fed. It takes the value, so that a test has none to drop.
+/// The hash of the values that a type feeds a hasher. It takes the value, so that a test has none to drop.
 fn fed<T: Hash + Drop>(value: T) -> u64 {
     let mut state = FoldHasher::default();
     value.hash(&mut state);

@@ -1,6 +1,6 @@
-//! Keys of two numbers, that are equal by one of them.
+//! Keys of two numbers, of which only one is compared.
 
-/// Two numbers, compared and hashed by the group alone.
+/// Two numbers. Only the group is compared and hashed.
 #[derive(Clone, Copy, Debug)]
 #[derive_where(PartialEq, Eq, Hash)]
 pub(crate) struct Numbered {
@@ -9,7 +9,7 @@ pub(crate) struct Numbered {
     pub(crate) number: u32,
 }
 
-/// The key of a group, of which a map keeps the first that it is given.
+/// A key of this group. A map keeps the first of several equal keys.
 pub(crate) fn key(group: u32, number: u32) -> Numbered {
     Numbered { group, number }
 }

@@ -1,4 +1,4 @@
-//! One large run of a map, which a set is too, of each cache, and of a text.
+//! One large run of a map, which is also one of a set, of each cache, and of a text.
 use crate::few::{Map, is_cloned, is_value, map_of, passes};
 use hashlink::LruCache;
 use hashlink::run::run_text;
@@ -6,17 +6,17 @@ use hashlink::weighted::WeightedCache;
 use std::alloc::Global;
 use std::process::ExitCode;
 
-/// More than a million, so that no bound of a million is met by it.
+/// More than a million, so that a bound of a million would be exceeded.
 const MANY: u64 = 1_100_000;
 
-/// Puts the numbers below a bound into a map.
+/// Inserts the numbers below a bound into a map.
 fn fill(map: &mut Map, bound: u64) {
     for key in 0..bound {
         let _old = map.insert(key, key);
     }
 }
 
-/// Whether a map takes each pair, and has the first key and none past the last.
+/// Whether a map accepts each pair, and has the first key and no key above the last.
 fn takes_each_pair(map: &mut Map) -> bool {
     fill(map, MANY);
     (map.len() == 1_100_000) & is_value(map.get(&0), 0) & !map.contains_key(&MANY)
@@ -38,7 +38,7 @@ fn a_map_of_thousands_is_cloned(rt: HostRuntime) -> ExitCode {
     passes(thousands_are_cloned(&mut map_of(rt.alloc(), &[])))
 }
 
-/// Whether a cache keeps as many as it may, and the last key that had to leave is gone.
+/// Whether a cache keeps as many entries as its capacity, and the last key that had to leave is gone.
 fn keeps_the_last_pairs(cache: &mut LruCache<u64, ()>) -> bool {
     for key in 0..MANY {
         let _old = cache.insert(key, ());
@@ -51,7 +51,7 @@ fn a_large_cache_keeps_the_last_pairs(rt: HostRuntime) -> ExitCode {
     passes(keeps_the_last_pairs(&mut LruCache::new(rt.alloc(), 1_000_001)))
 }
 
-/// Whether a cache with a budget keeps as many as weigh no more.
+/// Whether a cache with a budget keeps as many entries as fit its budget.
 fn keeps_what_fits(cache: &mut WeightedCache<u64, ()>) -> bool {
     for key in 0..MANY {
         let _old = cache.insert(key, (), 2);
@@ -64,7 +64,7 @@ fn a_large_cache_with_a_budget_keeps_what_fits(rt: HostRuntime) -> ExitCode {
     passes(keeps_what_fits(&mut WeightedCache::new(rt.alloc(), 2_000_002)))
 }
 
-/// A text of more than a megabyte, which inserts one pair again and again.
+/// A text of more than a megabyte, which inserts the same pair many times.
 fn long_text(alloc: Global) -> Vec<u8> {
     let mut text = Vec::new(alloc);
     let _mode = text.extend_from_slice(b"map\n");
@@ -74,7 +74,7 @@ fn long_text(alloc: Global) -> Vec<u8> {
     text
 }
 
-/// Whether the answer to it has a line of two bytes, and 99,999 lines of three.
+/// Whether the answer to the text has a line of two bytes, and 99,999 lines of three.
 fn is_answered(alloc: Global, text: &[u8]) -> bool {
     match run_text(alloc, text) {
         Ok(answer) => (text.len() == 1_200_004) & (answer.len() == 299_999),

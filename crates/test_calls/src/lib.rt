@@ -1,7 +1,7 @@
-//! What no row of calls says: of the containers whether an entry calls its closure, and how often a run asks
-//! its own, the texts of `{:?}` and of errors, loops and std's adapters, the forms in which std's maps are
-//! called, what becomes of items without size, and what a program does whose input or output fails; then of
-//! the table below the map.
+//! Tests of what no row of calls covers. For the containers: whether an entry calls its closure, how often a
+//! run calls its own, the output of `{:?}` and the messages of errors, loops and iterators of std, the forms
+//! in which std's maps are called, items without size, and a program whose input or output fails. Then the
+//! table below the map.
 #![tactic(auto)]
 
 #[cfg(test)]

@@ -1,4 +1,4 @@
-//! The table, by its crate's public names alone: how many steps it takes to find what is there.
+//! The table, by the public names of its crate only: how many steps it takes to find each node.
 ghost use Rattle.std.specs.Prelude.{◌≡◌, ℕ, ◌+◌, ◌<◌, ◌≤◌, IfOk};
 ghost use Rattle.hashlink_table.specs.Contents.{agreeing};
 ghost use Rattle.test_calls.specs.Telling.{Tells};
@@ -9,7 +9,7 @@ use std::marker::Brand;
 use std::sync::ledger::{Blank, Ledger};
 use std::test::Fail;
 
-// A table of the numbers from 1 to 500, each under itself as its hash.
+// A table of the numbers from 1 to 500, each with itself as its hash.
 #[tactic(auto, using(std::proofs::lemmas::List::Sorted::length_permutation))]
 fn numbered(alloc: Global) -> Result<Table<u32>, Fail>
     ensures few { IfOk result (λ t. (hash m : ℕ) → t.room ≤ m → agreeing t hash m ≤ 2) }
@@ -23,7 +23,7 @@ fn numbered(alloc: Global) -> Result<Table<u32>, Fail>
     Ok(table)
 }
 
-// Finds those numbers. A thousand steps are enough for all.
+// Finds each of the numbers. A thousand steps are enough for all.
 fn find_each<L: Ledger>(table: &Table<u32>, steps: &mut Steps<L>) -> bool
     requires few { (hash m : ℕ) → table.now.room ≤ m → agreeing table.now hash m ≤ 2 }
     requires telling { Tells (λ n. n) table.now }
@@ -38,7 +38,7 @@ fn find_each<L: Ledger>(table: &Table<u32>, steps: &mut Steps<L>) -> bool
     all
 }
 
-// The same from the making of the table on.
+// The same, after making the table.
 fn count_steps<L: Ledger>(alloc: Global, blank: Blank) -> Result<bool, Fail>
     requires name { blank.name ≡ L.name }
     requires parts { blank.parts ≡ L.parts }

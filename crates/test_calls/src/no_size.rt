@@ -1,4 +1,4 @@
-//! Keys and values without size. `large.rt` has caches whose values alone have none.
+//! Keys and values without size. `large.rt` has caches of which only the values have none.
 use crate::few::{is_value, passes};
 use hashlink::weighted::WeightedCache;
 use hashlink::{LinkedHashMap, LinkedHashSet, LruCache};
@@ -11,7 +11,7 @@ fn is_inserted_twice(map: &mut Unit) -> bool {
     (map.insert((), ()) == Ok(None)) & (map.insert((), ()) == Ok(Some(())))
 }
 
-/// Whether the one entry is found, and comes alone.
+/// Whether the one entry is found, and iterated over once.
 fn has_one(map: &Unit) -> bool {
     (map.len() == 1) & (map.iter().count() == 1) & map.get(&()).is_some()
 }
@@ -21,7 +21,7 @@ fn is_removed_once(map: &mut Unit) -> bool {
     map.remove(&()).is_some() & map.remove(&()).is_none() & map.is_empty()
 }
 
-/// Whether a map takes an entry and gives it out, and so once more.
+/// Whether a map accepts an entry and returns it, and then once more.
 fn comes_and_goes(map: &mut Unit) -> bool {
     is_inserted_twice(map)
         & has_one(map)
@@ -45,7 +45,8 @@ fn a_set_of_elements_without_size_has_one(rt: HostRuntime) -> ExitCode {
     passes(is_element_inserted_once(&mut LinkedHashSet::new(rt.alloc())))
 }
 
-/// Whether two inserts into a cache find nothing, and a read and a removal find none of them.
+/// Whether neither of two inserts into a cache finds a value, and neither a read nor a removal does
+/// afterwards.
 fn keeps_nothing(cache: &mut LruCache<(), u32>) -> bool {
     (cache.insert((), 1) == Ok(None))
         & (cache.insert((), 2) == Ok(None))
@@ -71,7 +72,7 @@ fn a_cache_without_a_bound_has_one_key_without_size(rt: HostRuntime) -> ExitCode
     passes(keeps_the_last_value(&mut LruCache::new_unbounded(rt.alloc())))
 }
 
-/// Whether a key that is inserted twice weighs what it weighed last.
+/// Whether a key that is inserted twice has the weight of the second insert.
 fn weighs_once(cache: &mut WeightedCache<(), ()>) -> bool {
     matches!(cache.insert((), (), 2), Ok(None))
         & matches!(cache.insert((), (), 3), Ok(Some(())))

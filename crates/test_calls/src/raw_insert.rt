@@ -1,4 +1,4 @@
-//! A caller of a vacant raw entry, outside the tests, so that an edit can make it wrong.
+//! A caller of a vacant raw entry, outside the tests, so that a must-fail edit can make it wrong.
 ghost use Rattle.std.specs.Prelude.{◌≡◌, IfErr, Ok, false};
 
 use hashlink::LinkedHashMap;

@@ -12,7 +12,7 @@ fn is_map_made(alloc: Global) -> bool {
     }
 }
 
-/// The same of a set.
+/// The same for a set.
 fn is_set_made(alloc: Global) -> bool {
     match LinkedHashSet::<u64>::with_capacity(alloc, 10) {
         Ok(set) => set.capacity() >= 10,

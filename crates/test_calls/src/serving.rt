@@ -1,11 +1,11 @@
-//! What a program reads and writes, with readers and writers that fail.
+//! What a program reads and writes if readers and writers fail.
 use crate::few::{passes, says};
 use hashlink::run::{Fault, serve};
 use std::alloc::Global;
 use std::io::{self, ErrorKind, Read, Write};
 use std::process::ExitCode;
 
-/// Whether the answer to a text follows what was written before.
+/// Whether the answer to a text follows the bytes that were written before.
 fn is_appended(alloc: Global, output: &mut Vec<u8>) -> bool {
     let is_served = serve(alloc, &mut b"map\ninsert 1 10\niter\n".as_slice(), output).is_ok();
     is_served & (output.as_slice() == b"before\n-\n1:10\n".as_slice())
@@ -19,7 +19,7 @@ fn the_answer_follows_what_was_written_before(rt: HostRuntime) -> ExitCode {
     })
 }
 
-// A file that can be neither read nor written, and why.
+// A file that can be neither read nor written, and the reason.
 #[derive(Clone, Copy)]
 struct Broken {
     kind: ErrorKind,
@@ -41,7 +41,7 @@ impl Write for Broken {
     }
 }
 
-/// Whether a text whose reading ends so is that fault, and writes nothing.
+/// Whether a read that ends with this error is this fault, and nothing is written.
 fn fails_to_read(alloc: Global, kind: ErrorKind, fault: Fault) -> bool {
     let mut output = Vec::new(alloc);
     let mut input = b"map\niter\n".as_slice().chain(Broken { kind });

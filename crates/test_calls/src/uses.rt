@@ -1,7 +1,11 @@
-//! Calls of `hashlink_uses`, and a map that hashes from a random start.
+//! Calls of `hashlink_uses`, and a map whose hasher has a random seed.
 
 mod curves;
 mod forms;
 mod maps;
 mod pages;
+mod recent;
+mod segments;
+mod symbols;
+mod topics;
 mod whole_uses;

@@ -1,5 +1,6 @@
-//! Containers as values of others: made empty, taken out and compared.
+//! Containers as values of other containers: made empty, replaced by empty ones, and compared.
 use crate::few::{Map, cache_of, map_of, passes, set_of};
+use hashlink::weighted::WeightedCache;
 use hashlink::{LinkedHashMap, LinkedHashSet, LruCache};
 use std::alloc::{AllocError, Global};
 use std::mem;
@@ -7,7 +8,8 @@ use std::process::ExitCode;
 
 type Topics = LinkedHashMap<u64, LinkedHashSet<u64>>;
 
-/// Adds a number to the set of a key, and makes the set if there is none. It returns whether it is new there.
+/// Adds a number to the set of a key, and makes the set if there is none. Returns whether the number is new
+/// there.
 fn add(topics: &mut Topics, topic: u64, number: u64) -> Result<bool, AllocError> {
     let set = topics.entry(topic).or_default().map_err(|_| AllocError)?;
     set.insert(number).map_err(|_| AllocError)
@@ -49,6 +51,15 @@ fn a_cache_is_taken_out_and_its_capacity_stays(rt: HostRuntime) -> ExitCode {
         cache.eq(&cache_of(rt.alloc(), 2, &[]))
             & taken.eq(&Ok(cache_of(rt.alloc(), 2, &[(1, 10)]))),
     )
+}
+
+#[test]
+fn a_cache_is_taken_out_and_its_budget_stays(rt: HostRuntime) -> ExitCode {
+    let mut cache: WeightedCache<u64, u64> = WeightedCache::new(rt.alloc(), 9);
+    let put = cache.insert(1, 10, 4).is_ok();
+    let taken: Result<WeightedCache<u64, u64>, AllocError> = mem::try_take(&mut cache);
+    let weight = taken.map_or(0, |taken| taken.total());
+    passes(put & cache.is_empty() & (cache.budget() == 9) & (weight == 4))
 }
 
 #[test]

@@ -1,4 +1,4 @@
--- What the hashers of the rows make of the default hash.
+-- What the hashers of the rows compute from the default hash.
 use Rattle.std.specs.Prelude.{ℕ, ◌%◌}
 use Rattle.test_rows.specs.declared.hashers.Hashing.{Hashing}
 use Rattle.test_rows.specs.declared.hashers.Hashing.TheVariants as hashing

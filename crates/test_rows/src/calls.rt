@@ -1,10 +1,9 @@
-//! The calls that the lines of rows make: of a map with its entries and cursors, of a set, of two of either,
-//! of a cache, and of a cache with a budget.
+//! The calls that the lines of rows make: of a map with its entries and cursors, of a set, of two maps or two
+//! sets, of a cache, and of a cache with a budget.
 
 mod alike;
 mod cache_calls;
 mod cache_many;
-mod called;
 mod compared;
 mod entries;
 mod extended;

@@ -1,4 +1,4 @@
-//! Maps and sets of what can be copied, which take items by reference.
+//! Maps and sets of items that can be copied, which accept items by reference.
 use crate::calls::say_kept;
 use crate::hashers::Hashing;
 use crate::items::{Answer, Line, Name, Pair, Read, Stop, Word, done, rest_of};
@@ -36,19 +36,20 @@ impl Spoken for LinkedHashSet<Name, Hashing> {
 
 /// A container into which items are copied.
 trait Copies<T> {
-    /// How an extension goes, by std's `Extend` or not, and how many items it has not read.
+    /// The result of an extension, by std's `Extend` or not, and the number of items that it has not read.
     fn extend_by(&mut self, is_by_trait: bool, items: &[T]) -> (Answer, usize);
 }
-
-/// The calls by their names, and whether they go by std's `Extend`.
-const CALLS: [(&str, bool); 2] = [("extend_ref", false), ("extend_by_trait", true)];
 
 /// Makes the call that the next word names, with what the rest of the line names.
 fn extend<T: Read + Drop, C: Copies<T>>(
     container: &mut C,
     line: &mut Line<'_>,
 ) -> Result<(), Stop> {
-    let is_by_trait = line.words.named(&CALLS)?;
+    let is_by_trait = match line.words.word() {
+        "extend_ref" => false,
+        "extend_by_trait" => true,
+        _ => return Err(Stop::Unread),
+    };
     let items = rest_of(line)?;
     let (answer, left) = container.extend_by(is_by_trait, &items);
     say_kept(answer, left, line)

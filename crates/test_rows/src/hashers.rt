@@ -5,8 +5,8 @@ ghost use Rattle.test_rows.specs.OwnHashers.{hash_of};
 use hashlink_map::{DefaultHashBuilder, DefaultHasher};
 use std::hash::{BuildHasher, Hasher};
 
-/// How a key is hashed: as by default, or so that many keys meet. A container that is made without a hasher
-/// has the one by which all meet.
+/// How a key is hashed: as by default, or so that many keys collide. A container that is made without a
+/// hasher has the one by which all collide.
 #[derive(Clone, Copy, Default, Drop)]
 pub enum Hashing {
     /// As the default hasher does.
@@ -18,7 +18,7 @@ pub enum Hashing {
     Two,
 }
 
-/// The hasher of one of these.
+/// A hasher of one of the kinds.
 #[derive(Clone, Copy, Drop)]
 pub struct RowHasher {
     hashing: Hashing,

@@ -1,4 +1,4 @@
-//! What rows of calls are made of: items that are counted, the words of a line, and those of an answer.
+//! The parts of rows of calls: items that are counted, the words of a line, and the words of an answer.
 
 mod answers;
 mod counts;
@@ -16,7 +16,7 @@ pub use answers::{Answer, Answers, Name, Named, Pair, Stop, Tally, Word, are_wri
 pub use counts::Counts;
 pub use entry_call::{Ask, EndedCall, EntryCall, Give, Make, Put, PutVacant, There, Vacant};
 pub use items::{Home, Item};
-pub use keep::{Asked, KEEPS, Keep, Retain, has_room, is_even, is_other, is_raised, read_keep};
+pub use keep::{Keep, has_room, is_even, is_other, is_raised, read_keep};
 pub use line::{Line, Read, push, rest_of};
 pub use raw_call::{RawAsk, RawCall, RawGive, RawPut, RawThere};
 pub use said::{

@@ -14,7 +14,7 @@ use std::alloc::{AllocError, Global};
 
 /// A container that runs a list of commands.
 pub trait Listed: Sized {
-    /// Runs these lines as one list, and says the replies. It returns whether it had the memory for them.
+    /// Runs the lines as one list, and records the replies. Returns whether there was memory for them.
     fn run(
         &mut self,
         alloc: Global,
@@ -54,12 +54,13 @@ fn word_of((key, value): (&u64, &u64)) -> Word {
     Word::pair((Name::of(*key), Name::of(*value)))
 }
 
-/// What the closure of a run says of a pair: whether it is kept, and what is replied where it is read.
+/// What the closure of a run returns for a pair, which is the reply to a read and whether a keep keeps the
+/// pair.
 #[derive(Clone, Copy)]
 pub enum Seen {
     /// Whether the value is even.
     Even,
-    /// That it is so, of every pair.
+    /// True, for every pair.
     Always,
 }
 
@@ -95,12 +96,12 @@ fn replies_of_cache(
     }
 }
 
-/// A command that a line says.
+/// A command that a line spells.
 trait Parsed: Sized {
     fn parsed(alloc: Global, line: &str) -> Result<Self, Stop>;
 }
 
-/// The commands that the lines say.
+/// The commands that the lines spell.
 fn commands_of<C: Parsed + Drop>(alloc: Global, lines: &[&str]) -> Result<Vec<C>, Stop> {
     let mut commands = Vec::with_capacity(alloc, lines.len())?;
     for line in lines {
@@ -140,7 +141,7 @@ impl Parsed for CacheCommand<u64, u64> {
     }
 }
 
-/// Says the replies, and returns whether there are any.
+/// Records the replies, and returns whether there are any.
 fn say_all(
     replies: Result<Vec<Reply<u64, u64>>, AllocError>,
     answers: &mut Answers,
@@ -171,8 +172,8 @@ fn said(reply: Reply<u64, u64>) -> Answer {
     }
 }
 
-/// Runs the lines in two halves, each as one list, or as one list with a closure that is true of every pair,
-/// and returns whether each reply is the one that is written.
+/// Runs the lines in two halves, each as one list, or as one list with a closure that returns true for every
+/// pair. Returns whether each reply is the one that is written.
 pub fn are_runs_right<C: Listed + Stands + Drop>(
     capacity: usize,
     is_one: bool,
@@ -225,7 +226,7 @@ fn is_run_right<C: Listed + Stands>(
     Ok(answers.tally.refused > 0 || are_replies_written(lines, answers.words.as_slice()))
 }
 
-/// Says the replies of a run, or that there was no memory for it.
+/// Prints the replies of a run, or that there was no memory for it.
 fn say_run(is_run: bool, answers: &mut Answers, voice: Voice<'_>) {
     if is_run {
         let _ = answers.count_refused();
@@ -242,7 +243,7 @@ fn say_stand<C: Stands>(container: &C, voice: Voice<'_>) {
     }
 }
 
-/// Whether the replies to the lines are those that are written.
+/// Whether the replies to the lines are the written ones.
 fn are_replies_written(lines: &[&str], replies: &[Word]) -> bool {
     let mut place = 0usize;
     for line in lines {
@@ -259,7 +260,7 @@ fn are_replies_written(lines: &[&str], replies: &[Word]) -> bool {
     true
 }
 
-/// How many replies a line has: each step of a cursor has its own.
+/// The number of replies to a line, which is one for each step of a cursor.
 fn count_replies(call: &str) -> usize {
     match call.strip_prefix("cursor ") {
         Some(steps) => count_names(steps),
@@ -267,7 +268,7 @@ fn count_replies(call: &str) -> usize {
     }
 }
 
-/// How many of the words are no numbers.
+/// The number of words that are no numbers.
 fn count_names(words: &str) -> usize {
     let mut count = 0usize;
     for word in words.split(' ') {
@@ -278,8 +279,8 @@ fn count_names(words: &str) -> usize {
     count
 }
 
-/// Runs the lines on two caches. What they find is judged beside the plain list alone. The number of a key is
-/// that of its line, so that what stands shows which of equal keys it is.
+/// Runs the lines on two caches. What they find is compared only with the reference model. The number of a
+/// key is that of its line, so the stored entries show which of several equal keys was stored.
 pub fn run_lines_of_pair(
     alloc: Global,
     capacities: (usize, usize),
@@ -301,7 +302,7 @@ fn say_found_by_both(pair: &Pair<Name, u64>, voice: Voice<'_>) {
     say_found(&pair.large, &pair.large_replies, voice);
 }
 
-/// What the lines say to two caches.
+/// The commands of the lines, for two caches.
 fn commands_of_pair(alloc: Global, lines: &str) -> Result<Vec<PairCommand<Name, u64>>, Stop> {
     let mut commands = Vec::new(alloc);
     let mut number = 0u64;
@@ -357,7 +358,7 @@ fn uses_of(alloc: Global, lines: &str) -> Result<Vec<(Name, u64)>, Stop> {
     Ok(pairs)
 }
 
-/// Says what a cache found, and what then stands in it.
+/// Prints what a cache found, and its entries afterwards.
 fn say_found(cache: &LruCache<Name, u64>, found: &[Option<u64>], voice: Voice<'_>) {
     if let Some(rt) = voice {
         let _ = print!(rt; "=");

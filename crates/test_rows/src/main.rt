@@ -1,11 +1,10 @@
-//! Runs rows of calls on the containers, and checks each answer that a row says, and that no item is
-//! forgotten.
-//! `docs/dev/rows.md` says how a row is written.
+//! Runs rows of calls on the containers, and checks each answer that a row has, and that no item is leaked.
+//! `docs/dev/rows.md` describes how a row is written.
 //!
-//! Its arguments name the files, and one of a file's rows alone by its number, as in `map.rows#3`. It ends
-//! with status 1 where an answer was wrong, and says of each row where that is, and what came. After a first
-//! argument `--say` it says each answer that comes and what then stands, which `tools/judge` compares with a
-//! plain list.
+//! Its arguments name the files, or a single row of a file by its number, such as `map.rows#3`. It ends with
+//! status 1 if an answer was wrong, and prints for each wrong row the place and the answer. If the first
+//! argument is `--say`, it prints each answer and the contents of the containers afterwards, which
+//! `tools/judge` compares with the reference model.
 #![tactic(auto)]
 
 mod calls;
@@ -51,7 +50,8 @@ fn main(rt: HostRuntime) -> ExitCode {
     ExitCode::SUCCESS
 }
 
-/// Says that each answer is right, and counts rows and refusals where it says each answer or there are some.
+/// Prints that each answer is right, and the counts of rows and refusals if each answer is printed or if
+/// there are any.
 fn end(rt: &HostRuntime, is_said: bool, tally: Tally) {
     let Tally {
         rows,
@@ -68,12 +68,12 @@ fn end(rt: &HostRuntime, is_said: bool, tally: Tally) {
     }
 }
 
-/// Where it is said what comes and what stands.
+/// The output for answers and contents, if they are printed.
 fn voice_of(rt: &HostRuntime, is_said: bool) -> Voice<'_> {
     if is_said { Some(rt) } else { None }
 }
 
-/// Runs the rows of a file, or one of them, and says what is wrong.
+/// Runs the rows of a file, or one of them, and prints what is wrong.
 fn is_file_right(rt: &HostRuntime, name: &str, is_said: bool, tally: &mut Tally) -> bool {
     let (name, only) = match name.split_once('#') {
         Some((name, place)) => (name, number(place)),
@@ -89,7 +89,7 @@ fn is_file_right(rt: &HostRuntime, name: &str, is_said: bool, tally: &mut Tally)
     }
 }
 
-/// Leaves out a file for which there is no memory, which is not wrong.
+/// Skips a file for which there is no memory, which is not wrong.
 fn leave_out(tally: &mut Tally) -> bool {
     tally.left_out = tally.left_out.saturating_add(1);
     true
@@ -140,7 +140,7 @@ fn is_counted_right(
     }
 }
 
-/// Runs the rows of a text, or the one of this number, and says what is wrong.
+/// Runs the rows of a text, or the one of this number, and prints what is wrong.
 fn are_rows_right<'f>(
     rt: &HostRuntime,
     (name, only): (&str, Option<u64>),

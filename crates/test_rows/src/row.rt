@@ -7,7 +7,7 @@ pub struct Row<'f> {
     pub name: &'f str,
     pub mode: &'f str,
     pub lines: &'f str,
-    /// The number of the first of the lines.
+    /// The number of the row's first line.
     pub first: usize,
 }
 
@@ -16,24 +16,24 @@ pub struct Row<'f> {
 pub enum Wrong<'f> {
     /// The line of this number and text.
     Line(usize, &'f str, Why),
-    /// A row of commands or a text, which says no more.
+    /// A row of commands or a text, for which no line is given.
     Row,
 }
 
 /// What is wrong with a line.
 #[derive(Clone, Copy)]
 pub enum Why {
-    /// Its answer is not the one that is written: what came stands in the answers.
+    /// Its answer is not the one that is written; the answer is in `Answers`.
     Answer,
-    /// It is no line of such a row.
+    /// It is not a line of such a row.
     Unread,
-    /// After it other items live than those that the containers hold.
+    /// After it the number of live items is not the number that the containers hold.
     Living,
 }
 
 impl<'f> Row<'f> {
-    /// The row that is next in the text, which begins with the line of this number, and the text after it.
-    /// Lines that begin with `#` are no part of it.
+    /// The next row in the text, which begins with the line of this number, and the text after the row. Lines
+    /// that begin with `#` are not part of it.
     pub fn next(text: &'f str, number: usize) -> Option<(Row<'f>, &'f str, usize)> {
         let mut text = text;
         let mut number = number;
@@ -65,7 +65,7 @@ impl<'f> Row<'f> {
     }
 }
 
-/// The call of a line, and the answer that is written behind it, if one is.
+/// The call of a line, and the answer that is written after it, if there is one.
 pub fn cut(line: &str) -> (&str, Option<&str>) {
     match line.split_once(" -> ") {
         Some((call, wanted)) => (call, Some(wanted)),
@@ -73,7 +73,7 @@ pub fn cut(line: &str) -> (&str, Option<&str>) {
     }
 }
 
-/// The words of a call, and after `each FIRST LAST` also the last of the numbers for which it is made.
+/// The words of a call and, after `each FIRST LAST`, also the last number for which it is made.
 pub fn words_of(call: &str) -> (Words<'_>, u64) {
     let mut words = Words::new(call);
     if !words.has("each") {

@@ -1,4 +1,4 @@
-//! A row, and what is done with it.
+//! Runs a row.
 use crate::calls::{Cache, Map, Set, Weighted};
 use crate::hashers::Hashing;
 use crate::items::{Answers, Home, Line, Name, Stop, Word, Words, are_written};
@@ -8,7 +8,8 @@ use crate::spoken::{Spoken, Stands, Voice, say_words};
 use crate::texts::is_text_right;
 use hashlink::{LinkedHashMap, LinkedHashSet, LruCache};
 
-/// Returns what is wrong with the row, if anything is. A row for which an allocation failed says so.
+/// Returns what is wrong with the row, if anything is. A row for which an allocation fails is counted as left
+/// out, and is not wrong.
 pub fn wrong<'f>(row: Row<'f>, line: &mut Line<'f>, voice: Voice<'_>) -> Option<Wrong<'f>> {
     match run(row, line, voice) {
         Err(Stop::Memory) => leave_out(&mut line.answers, voice),
@@ -29,7 +30,7 @@ fn leave_out(answers: &mut Answers, voice: Voice<'_>) {
     }
 }
 
-/// Says which row and which hasher what follows is of.
+/// Prints the row and the hasher to which the following output belongs.
 fn head(row: Row<'_>, hashing: Hashing, voice: Voice<'_>) {
     if let Some(rt) = voice {
         let first = row.first;
@@ -53,7 +54,7 @@ fn name_of(hashing: Hashing) -> &'static str {
     }
 }
 
-/// What is run under the default hasher alone.
+/// The kinds of rows that are run only under the default hasher.
 #[derive(Clone, Copy)]
 enum Alone {
     PairCommands,
@@ -65,30 +66,6 @@ const ALONE: [(&str, Alone); 3] = [
     ("pair_commands", Alone::PairCommands),
     ("uses", Alone::Uses),
     ("text", Alone::Text),
-];
-
-/// What the lines of a row call.
-#[derive(Clone, Copy)]
-enum Called {
-    Map,
-    Set,
-    Cache,
-    Weighted,
-    Commands,
-    CacheCommands,
-    CopiedMap,
-    CopiedSet,
-}
-
-const CALLED: [(&str, Called); 8] = [
-    ("map", Called::Map),
-    ("set", Called::Set),
-    ("cache", Called::Cache),
-    ("weighted", Called::Weighted),
-    ("commands", Called::Commands),
-    ("cache_commands", Called::CacheCommands),
-    ("copied_map", Called::CopiedMap),
-    ("copied_set", Called::CopiedSet),
 ];
 
 fn run<'f>(row: Row<'f>, line: &mut Line<'f>, voice: Voice<'_>) -> Result<Option<Wrong<'f>>, Stop> {
@@ -121,7 +98,7 @@ fn is_right_alone(
     }
 }
 
-/// Under each hasher in turn.
+/// Runs the row under each hasher.
 fn each<'f>(
     row: Row<'f>,
     line: &mut Line<'f>,
@@ -137,7 +114,7 @@ fn each<'f>(
     Ok(None)
 }
 
-/// Under one hasher, of which the words say the container.
+/// Runs the row under one hasher. The words name the container.
 fn under<'f>(
     row: Row<'f>,
     hashing: Hashing,
@@ -146,20 +123,21 @@ fn under<'f>(
 ) -> Result<Option<Wrong<'f>>, Stop> {
     head(row, hashing, voice);
     line.home.hashing = hashing;
-    match line.words.named(&CALLED)? {
-        Called::Map => speak::<Map>(row, line, voice),
-        Called::Set => speak::<Set>(row, line, voice),
-        Called::Cache => speak::<Cache>(row, line, voice),
-        Called::Weighted => speak::<Weighted>(row, line, voice),
-        Called::CopiedMap => speak::<LinkedHashMap<Name, Name, Hashing>>(row, line, voice),
-        Called::CopiedSet => speak::<LinkedHashSet<Name, Hashing>>(row, line, voice),
-        Called::Commands => list::<LinkedHashMap<u64, u64, Hashing>>(row, line, voice),
-        Called::CacheCommands => list::<LruCache<u64, u64, Hashing>>(row, line, voice),
+    match line.words.word() {
+        "map" => speak::<Map>(row, line, voice),
+        "set" => speak::<Set>(row, line, voice),
+        "cache" => speak::<Cache>(row, line, voice),
+        "weighted" => speak::<Weighted>(row, line, voice),
+        "copied_map" => speak::<LinkedHashMap<Name, Name, Hashing>>(row, line, voice),
+        "copied_set" => speak::<LinkedHashSet<Name, Hashing>>(row, line, voice),
+        "commands" => list::<LinkedHashMap<u64, u64, Hashing>>(row, line, voice),
+        "cache_commands" => list::<LruCache<u64, u64, Hashing>>(row, line, voice),
+        _ => Err(Stop::Unread),
     }
 }
 
-/// Runs a list of commands to an empty container, of the capacity that comes next if it has one, at once
-/// where the words say so.
+/// Runs a list of commands on an empty container, of the capacity that is the next word if it has one. After
+/// the word `whole` it is a single run.
 fn list<'f, C: Listed + Stands + Drop>(
     row: Row<'f>,
     line: &mut Line<'f>,
@@ -181,7 +159,7 @@ fn whole<'f>(is_right: Result<bool, Stop>) -> Result<Option<Wrong<'f>>, Stop> {
     Ok(if is_right? { None } else { Some(Wrong::Row) })
 }
 
-/// Speaks to two empty containers, of the capacity that comes next if they have one.
+/// Makes the calls on two empty containers, of the capacity that is the next word if they have one.
 fn speak<'f, C: Spoken + Stands + Drop>(
     row: Row<'f>,
     line: &mut Line<'f>,
@@ -197,14 +175,14 @@ fn speak<'f, C: Spoken + Stands + Drop>(
     speech.wrong(row, line, voice)
 }
 
-/// What a line asks of what was counted.
+/// The counts for which a line asks.
 #[derive(Clone, Copy)]
 enum Counted {
-    /// How many hashes and how many comparisons there were since this was last asked.
+    /// How many hashes and how many comparisons there were since this was last asked for.
     Cost,
-    /// How many clones there were since then.
+    /// How many clones there were since this was last asked for.
     Clones,
-    /// Nothing: it is counted anew.
+    /// None: the counts restart.
     Anew,
 }
 
@@ -214,7 +192,7 @@ const COUNTED: [(&str, Counted); 3] = [
     ("count_anew", Counted::Anew),
 ];
 
-/// Says what was counted. A line that asks has to have its answer behind it, since no plain list knows it.
+/// Records the counts. The line has to have its answer, because the reference model does not know the counts.
 fn say_counted(counted: Counted, is_answered: bool, line: &mut Line<'_>) -> Result<(), Stop> {
     match counted {
         Counted::Anew => {
@@ -243,7 +221,8 @@ fn count_anew(home: Home<'_>) {
 struct Speech<C> {
     first: C,
     second: C,
-    /// Whether no call whose answer is written failed to allocate, so that the next one has to come.
+    /// Whether no call with a written answer has failed to allocate, so that the next answer has to be the
+    /// written one.
     is_sure: bool,
 }
 
@@ -265,7 +244,7 @@ impl<C: Spoken + Stands> Speech<C> {
         Ok(None)
     }
 
-    /// What is wrong with the line of this number, if anything is. One that begins with `#` calls nothing.
+    /// What is wrong with the line of this number, if anything is. A line that begins with `#` is a comment.
     fn wrong_line<'f>(
         &mut self,
         number: usize,
@@ -294,7 +273,7 @@ impl<C: Spoken + Stands> Speech<C> {
         Ok(None)
     }
 
-    /// What is wrong with what came and what lives then.
+    /// What is wrong with the answer, or with the number of live items.
     fn judge<'f>(
         &mut self,
         (number, text): (usize, &'f str),
@@ -316,8 +295,8 @@ impl<C: Spoken + Stands> Speech<C> {
             .saturating_add(self.second.count_items())
     }
 
-    /// Makes the call that the words say, of the first container, and after `other` of the second. Whether
-    /// its answer stands behind it.
+    /// Makes the call that the words name, of the first container or, after `other`, of the second.
+    /// `is_answered` is whether the line has its answer.
     fn call(&mut self, is_answered: bool, line: &mut Line<'_>) -> Result<(), Stop> {
         if line.words.has("other") {
             return self.second.call(&self.first, line);
@@ -328,7 +307,7 @@ impl<C: Spoken + Stands> Speech<C> {
         }
     }
 
-    /// Says what came, and what then stands in each container.
+    /// Prints the answer, and the contents of each container afterwards.
     fn say(&self, answers: &Answers, voice: Voice<'_>) {
         say_words(voice, answers.words.as_slice());
         if let Some(rt) = voice {
@@ -339,7 +318,7 @@ impl<C: Spoken + Stands> Speech<C> {
         }
     }
 
-    /// Whether what came is what is written, where it has to be.
+    /// Whether the answer is the written one, if it has to be.
     fn is_written(&mut self, wanted: Option<&str>, answers: &mut Answers) -> bool {
         let is_refused = answers.count_refused();
         let Some(wanted) = wanted else {

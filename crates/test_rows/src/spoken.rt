@@ -1,4 +1,4 @@
-//! Containers that are called by the lines of a row, and what is said of them.
+//! Containers that the lines of a row call, and how they are printed.
 use crate::calls::{Map, Set, Weighted, call_map, call_set, call_sets, compare, weighed};
 use crate::hashers::Hashing;
 use crate::items::{Home, Line, Named, Stop, Word};
@@ -6,10 +6,10 @@ use hashlink::weighted::WeightedCache;
 use hashlink::{LinkedHashMap, LinkedHashSet, LruCache, linked_hash_map};
 use std::hash::Hash;
 
-/// Where it is said what comes and what stands: nowhere, unless the program is asked to.
+/// Where answers and contents are printed: nowhere, unless the program is asked to print them.
 pub type Voice<'v> = Option<&'v HostRuntime>;
 
-/// Says the words that came.
+/// Prints the words of an answer.
 pub fn say_words(voice: Voice<'_>, words: &[Word]) {
     if let Some(rt) = voice {
         let _ = print!(rt; "=");
@@ -36,10 +36,10 @@ pub fn say_pairs<K: Named, V: Named>(rt: &HostRuntime, pairs: linked_hash_map::I
 
 /// A container of a row.
 pub trait Stands: Sized {
-    /// An empty one, of this capacity or budget if it has one.
+    /// An empty container, of this capacity or budget if it has one.
     fn make(home: Home<'_>, capacity: usize) -> Self;
 
-    /// Says its length, its capacity or what it has of one, and its pairs.
+    /// Prints its length, its capacity or budget, and its pairs.
     fn stand(&self, rt: &HostRuntime);
 }
 
@@ -92,12 +92,12 @@ impl Stands for Weighted {
     }
 }
 
-/// A container that is called by the lines of a row.
+/// A container that the lines of a row call.
 pub trait Spoken: Sized {
     /// How many items it holds.
     fn count_items(&self) -> usize;
 
-    /// Makes the call that the words say, after `both` one of the two, if there are such calls.
+    /// Makes the call that the words name, after `both` of the two containers, if there are such calls.
     fn call(&mut self, other: &Self, line: &mut Line<'_>) -> Result<(), Stop>;
 }
 

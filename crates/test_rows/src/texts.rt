@@ -5,8 +5,8 @@ use hashlink::run::run_text;
 use std::alloc::{AllocError, Global};
 use std::str::from_utf8;
 
-/// Returns whether the answer of `run_text`, if no allocation for it failed, is the one that is written after
-/// the text and a line `=`, if one is. Each line of the answer is said.
+/// Returns whether the answer of `run_text` is the one that is written after the text and a line `=`, if
+/// there is one and no allocation failed. Each line of the answer is printed.
 pub fn is_text_right(
     alloc: Global,
     lines: &str,
@@ -24,7 +24,7 @@ pub fn is_text_right(
     }
 }
 
-/// The text of the lines, and the answer that is written after it, if one is.
+/// The text of the lines, and the answer that is written after it, if there is one.
 fn cut_text(lines: &str) -> (&str, Option<&str>) {
     match lines.split_once("\n=\n") {
         Some((text, written)) => (text, Some(written)),
@@ -35,7 +35,8 @@ fn cut_text(lines: &str) -> (&str, Option<&str>) {
     }
 }
 
-/// Says the lines of an answer, and returns whether it is the one that is written, if one is.
+/// Prints the lines of an answer, and returns whether it is the written one, if there is one. An answer that
+/// reports a failed allocation is accepted too.
 fn is_answer_right(answer: &[u8], written: Option<&str>, voice: Voice<'_>) -> bool {
     let Ok(answer) = from_utf8(answer) else {
         return false;
@@ -51,7 +52,7 @@ fn is_answer_right(answer: &[u8], written: Option<&str>, voice: Voice<'_>) -> bo
     }
 }
 
-/// Counts and says that an allocation for the whole of a run failed.
+/// Counts and prints that an allocation for a whole run failed.
 pub fn refuse(answers: &mut Answers, voice: Voice<'_>) {
     answers.add_refused(1);
     if let Some(rt) = voice {
@@ -67,8 +68,8 @@ fn say_lines(answer: &str, voice: Voice<'_>) {
     }
 }
 
-/// The bytes of a text, in which `\r` stands for byte 13, `\x` for byte 255, and another `\` for nothing, so
-/// that a line of it alone is empty.
+/// The bytes of a text, in which `\r` is byte 13, `\x` byte 255, and another `\` nothing, so a line of a
+/// single `\` is empty.
 pub fn bytes_of(alloc: Global, text: &str) -> Result<Vec<u8>, Stop> {
     let mut bytes = Vec::with_capacity(alloc, text.len())?;
     let mut is_escaped = false;

@@ -10,10 +10,10 @@ use std::fmt;
 use std::iter::FusedIterator;
 use std::marker::{Model, PhantomData};
 
-/// An iterator over the keys, from front to back. Contracts see it as the list of the keys that are left.
+/// An iterator over the keys, from front to back. Contracts see it as the list of the keys left.
 pub type Keys<'a, K, V> = Parts<'a, K, V, K, OfKeys>;
 
-/// An iterator over the values, from front to back. Contracts see it as the list of the values that are left.
+/// An iterator over the values, from front to back. Contracts see it as the list of the values left.
 pub type Values<'a, K, V> = Parts<'a, K, V, V, OfValues>;
 
 /// A part of an entry.
@@ -62,7 +62,7 @@ impl<'a, K, V, X, P: Part<K, V, X>> Model for Parts<'a, K, V, X, P> {
 }
 
 impl<'a, K, V, X, P: Part<K, V, X>> Parts<'a, K, V, X, P> {
-    /// Returns an iterator over the parts of the entries that an iterator over these has left.
+    /// Returns an iterator over a part of each entry that `inner` has left.
     pub(crate) fn new(inner: Iter<'a, K, V>) -> Self
         ensures { result ≡ map P.part inner.entry }
     {

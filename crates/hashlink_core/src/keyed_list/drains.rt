@@ -1,4 +1,4 @@
-//! How the nodes of a keyed list are taken out, to be drained, and put back.
+//! Calls that take the nodes of a keyed list out, to drain them, and that put them back.
 ghost use Rattle.std.specs.Prelude.{◌≡◌};
 ghost use Rattle.hashlink_model.specs.Steps.{Drains};
 ghost use Rattle.hashlink_core.specs.Keyed.{state_of, IsKeyed};
@@ -25,8 +25,8 @@ impl<K: Eq + Hash, V, S: BuildHasher> KeyedList<K, V, S> {
         }
     }
 
-    /// Puts nodes back that were taken out, and drops the entries that they still have. Every node is then
-    /// spare. It stores three links for each of these entries.
+    /// Puts back nodes that `take_nodes` took out, and drops the entries that they still have. Every node is
+    /// then free. It stores three links for each entry that it drops.
     pub fn put_back(&mut self, drained: DrainedNodes<K, V>)
     where
         K: Drop,

@@ -1,4 +1,4 @@
-//! Many pairs in a row: each goes in by `insert`, in turn.
+//! Inserts of many pairs in turn, each by `insert`.
 ghost use Rattle.std.specs.Prelude.{List, [], None, OnOk, IfErr};
 ghost use Rattle.std.specs.Iterator.{IsFinite, Yields, YieldsThen};
 ghost use Rattle.hashlink_model.specs.Many.{AcceptsAll, StopsAt, InsertsPair};
@@ -9,11 +9,11 @@ use crate::extend_error::ExtendError;
 use std::hash::{BuildHasher, Hash};
 
 impl<K: Eq + Hash + Drop, V: Drop, S: BuildHasher> KeyedList<K, V, S> {
-    /// Inserts each item in turn, as `insert` does. The iterator has to end. It is left with the items after
-    /// the one whose insert fails, or with none.
+    /// Inserts each item in turn, as `insert` does. The iterator has to end. Afterwards it has the items
+    /// after the one whose insert failed left, or none.
     ///
-    /// If the allocation for an item fails, those before it are in, its pair is returned in `Err`, and no
-    /// further item is read.
+    /// If an allocation for an item fails, the items before it stay inserted, and no further item is read.
+    /// The error contains this item and how many were inserted.
     pub fn extend_from<I: Iterator<Item = (K, V)>>(
         &mut self,
         iter: &mut I,

@@ -1,4 +1,4 @@
-//! The room of a keyed list, and its spare nodes.
+//! The room and the free nodes of a keyed list.
 ghost use Rattle.std.specs.Prelude.{◌≡◌, ◌+◌, ◌<◌, ◌≤◌, ◌↔◌, [], length, Ok, Err, IsOk, OnOk, OnErr};
 ghost use Rattle.hashlink_core.specs.Keyed.{entries_of, IsKeyed};
 ghost use Rattle.hashlink_core.specs.Steps.{GrowsRoom};
@@ -11,8 +11,8 @@ use std::alloc::AllocError;
 use std::hash::{BuildHasher, Hash};
 
 impl<K: Eq + Hash, V, S: BuildHasher> KeyedList<K, V, S> {
-    /// Makes room for so many more entries. If there is enough room, it does not allocate. If it fails, it
-    /// changes nothing.
+    /// Makes room for `additional` more entries. If there is enough room, it does not allocate. If it fails,
+    /// it changes nothing.
     pub fn reserve(&mut self, additional: usize) -> Result<(), TryReserveError>
         ensures ok { OnOk result (length self.old.nodes + additional ≤ self.new.room) }
         ensures grown { GrowsRoom additional self.old self.new }
@@ -25,14 +25,14 @@ impl<K: Eq + Hash, V, S: BuildHasher> KeyedList<K, V, S> {
         self.table.reserve(additional)
     }
 
-    /// Frees the spare nodes. The room stays.
+    /// Releases the free nodes. The room stays.
     pub fn release_spare(&mut self)
         ensures { self.new ≡ record self.old { spare = 0 } }
     {
         self.nodes.release_free();
     }
 
-    /// Frees the spare nodes, and then the room beyond the entries. If it fails, the room stays as it was.
+    /// Releases the free nodes, and then the room beyond the entries. If it fails, the room stays as it was.
     /// Without entries it cannot fail, and no room is left.
     pub fn shrink(&mut self) -> Result<(), AllocError>
         ensures ok { OnOk result (self.new ≡ record self.old { spare = 0; room = length self.old.nodes }) }
@@ -44,7 +44,7 @@ impl<K: Eq + Hash, V, S: BuildHasher> KeyedList<K, V, S> {
         self.shrink_table()
     }
 
-    /// Frees the room beyond the entries, where no node is spare.
+    /// Releases the room beyond the entries. No node may be free.
     fn shrink_table(&mut self) -> Result<(), AllocError>
         requires { self.old.spare ≡ 0 }
         ensures ok { OnOk result (self.new ≡ record self.old { room = length self.old.nodes }) }

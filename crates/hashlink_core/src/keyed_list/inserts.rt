@@ -11,8 +11,8 @@ use hashlink_nodes::Node;
 use std::hash::{BuildHasher, Hash};
 
 impl<K: Eq + Hash, V, S: BuildHasher> KeyedList<K, V, S> {
-    // Returns whether the two nodes are the same. Nodes have no equality, and no key is compared: if both
-    // have one number, one is marked for a moment and the other is read.
+    // Returns whether the two nodes are the same. Nodes cannot be compared, and no key is compared. If both
+    // nodes have the same number, one is marked for a moment and the other's number is read.
     #[inline]
     fn is_same(&mut self, a: Node, b: Node) -> bool
         requires a { Holds self.old.nodes a }
@@ -30,7 +30,7 @@ impl<K: Eq + Hash, V, S: BuildHasher> KeyedList<K, V, S> {
         is_same
     }
 
-    // Returns whether the node stands at the place.
+    // Returns whether the place is the node's.
     #[inline]
     fn is_at(&mut self, node: Node, place: Option<Node>) -> bool
         requires node { Holds self.old.nodes node }
@@ -45,11 +45,13 @@ impl<K: Eq + Hash, V, S: BuildHasher> KeyedList<K, V, S> {
     }
 
     /// Inserts the pair directly before the place, and returns the old value of its key. If the key is
-    /// present, the stored key stays, takes the new value and moves there, unless it stands there. Each place
-    /// stays on its entry. It stores at most six links if the key is present and four if it is absent.
+    /// present, its entry keeps the stored key, takes the new value and moves directly before the place,
+    /// unless the place is its own. Each place stays on its entry. It stores at most six links if the key is
+    /// present and four if it is absent.
     ///
-    /// It allocates only if the key is absent and no node is spare. If that allocation fails, it returns the
-    /// pair in `Err` and changes no entry.
+    /// It allocates only if the key is absent and no node is free. If an allocation fails, it returns the
+    /// pair in `Err` and changes no entry; the room may have grown.
+    #[inline(always)]
     pub fn insert_at(&mut self, place: Option<Node>, key: K, value: V) -> Result<Option<V>, (K, V)>
     where
         K: Drop,
@@ -57,6 +59,7 @@ impl<K: Eq + Hash, V, S: BuildHasher> KeyedList<K, V, S> {
         ensures inserts { Inserts K.eq (state_of self.old) (state_of self.new) key value
             (place_number self.old.nodes place) result }
         ensures keeps { (p : Option Node) → IsPlace self.old.nodes p → KeepsPlace K.eq self.old self.new p }
+        ensures was_sound { IsKeyed K.eq self.old }
         ensures sound { IsKeyed K.eq self.new }
     {
         let hash = self.hash_of(&key);
@@ -73,13 +76,14 @@ impl<K: Eq + Hash, V, S: BuildHasher> KeyedList<K, V, S> {
     }
 
     /// Inserts the pair at the back, as `insert_at` does.
-    // It is inlined as a look-up is. What only an absent key takes is a call.
+    // It is inlined, as a lookup is. Only the work for an absent key is a call.
     #[inline(always)]
     pub fn insert(&mut self, key: K, value: V) -> Result<Option<V>, (K, V)>
     where
         K: Drop,
         ensures inserts { Inserts K.eq (state_of self.old) (state_of self.new) key value
             (length (entries_of self.old)) result }
+        ensures was_sound { IsKeyed K.eq self.old }
         ensures sound { IsKeyed K.eq self.new }
     {
         let hash = self.hash_of(&key);
@@ -97,26 +101,30 @@ impl<K: Eq + Hash, V, S: BuildHasher> KeyedList<K, V, S> {
     }
 
     /// Inserts the pair at the front, as `insert_at` does.
+    #[inline(always)]
     pub fn insert_front(&mut self, key: K, value: V) -> Result<Option<V>, (K, V)>
     where
         K: Drop,
         ensures inserts { Inserts K.eq (state_of self.old) (state_of self.new) key value 0 result }
+        ensures was_sound { IsKeyed K.eq self.old }
         ensures sound { IsKeyed K.eq self.new }
     {
         let first = self.front();
         self.insert_at(first, key, value)
     }
 
-    /// Sets the value of the key, and returns the old one. If the key is present, the stored key and its
-    /// place stay. An absent key is inserted at the back. It stores no link if the key is present and at most
-    /// four if it is absent.
+    /// Sets the value of the key, and returns the old one. If the key is present, its entry keeps the stored
+    /// key and its place. If it is absent, the pair is inserted at the back. It stores no link if the key is
+    /// present and at most four if it is absent.
     ///
-    /// It allocates only if the key is absent and no node is spare. If that allocation fails, it returns the
-    /// pair in `Err` and changes no entry.
+    /// It allocates only if the key is absent and no node is free. If an allocation fails, it returns the
+    /// pair in `Err` and changes no entry; the room may have grown.
+    #[inline(always)]
     pub fn replace(&mut self, key: K, value: V) -> Result<Option<V>, (K, V)>
     where
         K: Drop,
         ensures replaces { Replaces K.eq (state_of self.old) (state_of self.new) key value result }
+        ensures was_sound { IsKeyed K.eq self.old }
         ensures sound { IsKeyed K.eq self.new }
     {
         let hash = self.hash_of(&key);

@@ -17,12 +17,12 @@ use hashlink_nodes::Node;
 use std::hash::{BuildHasher, Hash};
 
 impl<K: Eq + Hash, V, S: BuildHasher> KeyedList<K, V, S> {
-    /// Inserts a pair with an absent key, which has this hash, directly before the place. It stores four
-    /// links.
+    /// Inserts a pair directly before the place. Its key has to be absent, and `hash` has to be the key's
+    /// hash. It stores four links.
     ///
-    /// It allocates only if no node is spare, and changes the list only after that. If an allocation fails,
-    /// it returns the pair in `Err`.
-    // It is a call, so that what is inlined of an insert is what a present key takes.
+    /// It allocates only if no node is free. If an allocation fails, it returns the pair in `Err` and changes
+    /// no entry; the room may have grown.
+    // It is not inlined, so that an insert inlines only the work for a present key.
     #[inline(never)]
     pub fn insert_before(
         &mut self,
@@ -40,6 +40,7 @@ impl<K: Eq + Hash, V, S: BuildHasher> KeyedList<K, V, S> {
         ensures handed_back { IfErr result (λ pair. pair ≡ (key, value)) }
         ensures refused { OnErr result (GrowsRoom 1 self.old self.new) }
         ensures no_spare { OnErr result (self.old.spare ≡ 0) }
+        ensures was_sound { IsKeyed K.eq self.old }
         ensures sound { IsKeyed K.eq self.new }
     {
         let Ok(()) = self.reserve(1) else {
@@ -58,6 +59,7 @@ impl<K: Eq + Hash, V, S: BuildHasher> KeyedList<K, V, S> {
         requires place { IsPlace (remove_entry (same_node node) self.old.nodes) place }
         ensures moved { MovesNode self.old self.new (place_number self.old.nodes (Some node))
             (place_number self.old.nodes place) }
+        ensures was_sound { IsKeyed K.eq self.old }
         ensures sound { IsKeyed K.eq self.new }
     {
         self.nodes.move_before(node, place);
@@ -75,16 +77,17 @@ impl<K: Eq + Hash, V, S: BuildHasher> KeyedList<K, V, S> {
         self.nodes.move_after(node, place);
     }
 
-    /// Removes the node's entry and returns it. The node is then spare. It does not allocate, and stores
-    /// three links.
+    /// Removes the node's entry and returns it. The node is then free. It does not allocate, and stores three
+    /// links.
     pub fn remove(&mut self, node: Node) -> (K, V)
         requires { Holds self.old.nodes node }
         ensures pair { slice_get (entries_of self.old) (place_number self.old.nodes (Some node))
             ≡ Some result }
         ensures removed { RemovesNode self.old self.new (place_number self.old.nodes (Some node)) }
+        ensures was_sound { IsKeyed K.eq self.old }
         ensures sound { IsKeyed K.eq self.new }
     {
-        // The table finds it by its mark: no key is hashed or compared.
+        // The table finds the node by its mark, so no key is hashed or compared.
         let number = self.nodes.number(node);
         self.nodes.set_number(node, MARKED);
         let nodes = &self.nodes;
@@ -97,7 +100,7 @@ impl<K: Eq + Hash, V, S: BuildHasher> KeyedList<K, V, S> {
         self.nodes.detach_into_free(node)
     }
 
-    /// Drops every entry and frees its node. The spare nodes and the room stay.
+    /// Drops every entry and releases its node. The nodes that were free before and the room stay.
     pub fn clear(&mut self)
     where
         K: Drop,

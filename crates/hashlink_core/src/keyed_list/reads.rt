@@ -1,5 +1,6 @@
 //! Reads of a keyed list.
-ghost use Rattle.std.specs.Prelude.{◌≡◌, ◌-◌, ◌<◌, ◌^◌, length, slice_get, None, Some, IfSome, MatchOption};
+ghost use Rattle.std.specs.Prelude.{◌≡◌, ◌+◌, ◌-◌, ◌<◌, ◌^◌, length, slice_get, None, Some, IfSome};
+ghost use Rattle.std.specs.Prelude.{MatchOption};
 ghost use Rattle.std.specs.Borrow.{Bor};
 ghost use Rattle.std.specs.Fn.{FnReturnsAt};
 ghost use Rattle.std.specs.Map.{lookup, keys_of, values_of};
@@ -20,8 +21,8 @@ use crate::iter::{Iter, Keys, Values};
 use hashlink_nodes::Node;
 use std::hash::{BuildHasher, Hash};
 
-// A look-up is inlined wherever it is called, down to the table's loop: as a call it would hand back its
-// result through memory, and take half as long again.
+// A lookup is inlined wherever it is called, down to the table's loop. As a call it would return its result
+// through memory, and take half as long again.
 impl<K: Eq + Hash, V, S: BuildHasher> KeyedList<K, V, S> {
     /// Returns the hash of a key, or of a query for one.
     #[inline(always)]
@@ -32,8 +33,8 @@ impl<K: Eq + Hash, V, S: BuildHasher> KeyedList<K, V, S> {
         self.hash_builder.hash_one(key)
     }
 
-    /// Returns the node whose key the query matches, which has this hash. The table's search asks about nodes
-    /// of one bucket only.
+    /// Returns the node whose key the query matches. `hash` has to be the query's hash. The table compares
+    /// only nodes of one bucket.
     #[inline(always)]
     pub fn find<Q: Equivalent<K>>(&self, hash: u64, key: Q) -> Option<Node>
         requires { hash ≡ hash_with S.build_hasher S.Hasher.write S.Hasher.finish Q.hash_input
@@ -51,9 +52,9 @@ impl<K: Eq + Hash, V, S: BuildHasher> KeyedList<K, V, S> {
         self.table.look_up(short_hash(hash), holds_match)
     }
 
-    /// Returns the node whose key is equal to the one that the hash and the test stand for. The hash has to
-    /// be that key's, and the test has to return of each key in the list whether it is equal to it. The
-    /// table's search asks about nodes of one bucket only.
+    /// Returns the node whose key is equal to a certain key, which need not be given. `hash` has to be this
+    /// key's hash. `is_match` has to return, for each key in the list, whether it is equal to it. The table
+    /// asks about nodes of one bucket only.
     #[inline(always)]
     pub fn find_with<F: Fn(&K) -> bool>(&self, hash: u64, is_match: F) -> Option<Node>
         requires { (k : K) × Tells F.Fn K.eq
@@ -77,7 +78,7 @@ impl<K: Eq + Hash, V, S: BuildHasher> KeyedList<K, V, S> {
         self.table.look_up(short_hash(hash), holds_match)
     }
 
-    /// Returns the first place: the guard if there is no entry.
+    /// Returns the place of the first entry, or the guard if there is none.
     #[inline]
     pub fn front(&self) -> Option<Node>
         ensures place { IsPlaceAt self.now.nodes result 0 }
@@ -86,7 +87,7 @@ impl<K: Eq + Hash, V, S: BuildHasher> KeyedList<K, V, S> {
         self.nodes.next(None)
     }
 
-    /// Returns the place of the last entry: the guard if there is none.
+    /// Returns the place of the last entry, or the guard if there is none.
     #[inline]
     pub fn back(&self) -> Option<Node>
         ensures place { IsPlaceAt self.now.nodes result (length self.now.nodes - 1) }
@@ -95,7 +96,7 @@ impl<K: Eq + Hash, V, S: BuildHasher> KeyedList<K, V, S> {
         self.nodes.prev(None)
     }
 
-    /// Returns the place after a place: after the guard comes the first.
+    /// Returns the next place. After the guard, this is the first.
     #[inline]
     pub fn next(&self, place: Option<Node>) -> Option<Node>
         requires { IsPlace self.now.nodes place }
@@ -105,7 +106,7 @@ impl<K: Eq + Hash, V, S: BuildHasher> KeyedList<K, V, S> {
         self.nodes.next(place)
     }
 
-    /// Returns the place before a place: before the first comes the guard.
+    /// Returns the previous place. Before the first, this is the guard.
     #[inline]
     pub fn prev(&self, place: Option<Node>) -> Option<Node>
         requires { IsPlace self.now.nodes place }
@@ -113,6 +114,28 @@ impl<K: Eq + Hash, V, S: BuildHasher> KeyedList<K, V, S> {
             (preceding_place (length self.now.nodes) (place_number self.now.nodes place)) }
     {
         self.nodes.prev(place)
+    }
+
+    /// Returns the node after this one. After the last node it returns one that the list does not have. The
+    /// returned node is not read.
+    #[inline]
+    pub fn after(&self, node: Node) -> Node
+        requires { Holds self.now.nodes node }
+        ensures { place_number self.now.nodes (Some result)
+            ≡ place_number self.now.nodes (Some node) + 1 }
+    {
+        self.nodes.after(node)
+    }
+
+    /// Returns the node before this one. Before the first node it returns any node. The returned node is not
+    /// read.
+    #[inline]
+    pub fn before(&self, node: Node) -> Node
+        requires { Holds self.now.nodes node }
+        ensures { 0 < place_number self.now.nodes (Some node)
+            → place_number self.now.nodes (Some result) + 1 ≡ place_number self.now.nodes (Some node) }
+    {
+        self.nodes.before(node)
     }
 
     /// Returns the node's pair.

@@ -1,5 +1,5 @@
-//! Removals by key, at the ends, and of all. The other entries keep their order, and each removal leaves a
-//! spare node, which the next insert of an absent key uses. No removal allocates.
+//! Removals by key and at the ends, and the owning iterator. The other entries keep their order. Each removal
+//! leaves a free node, which the next insert of an absent key uses. No call allocates.
 ghost use Rattle.std.specs.Prelude.{◌≡◌, IfSome};
 ghost use Rattle.std.specs.Map.{lookup};
 ghost use Rattle.hashlink_nodes.specs.Node.{same_node};
@@ -16,8 +16,10 @@ use std::hash::{BuildHasher, Hash};
 impl<K: Eq + Hash, V, S: BuildHasher> KeyedList<K, V, S> {
     /// Removes the key's entry and returns the stored pair. It looks the key up as `find` does, and stores at
     /// most three links.
+    #[inline(always)]
     pub fn remove_key<Q: Equivalent<K>>(&mut self, key: Q) -> Option<(K, V)>
         ensures removes { RemovesMatch (Q.matches key) (state_of self.old) (state_of self.new) result }
+        ensures was_sound { IsKeyed K.eq self.old }
         ensures sound { IsKeyed K.eq self.new }
     {
         let hash = short_hash(self.hash_of(key));
@@ -35,6 +37,7 @@ impl<K: Eq + Hash, V, S: BuildHasher> KeyedList<K, V, S> {
     /// three links.
     pub fn pop_front(&mut self) -> Option<(K, V)>
         ensures pops { PopsFront (state_of self.old) (state_of self.new) result }
+        ensures was_sound { IsKeyed K.eq self.old }
         ensures sound { IsKeyed K.eq self.new }
     {
         let node = self.front()?;
@@ -45,6 +48,7 @@ impl<K: Eq + Hash, V, S: BuildHasher> KeyedList<K, V, S> {
     /// three links.
     pub fn pop_back(&mut self) -> Option<(K, V)>
         ensures pops { PopsBack (state_of self.old) (state_of self.new) result }
+        ensures was_sound { IsKeyed K.eq self.old }
         ensures sound { IsKeyed K.eq self.new }
     {
         let node = self.back()?;

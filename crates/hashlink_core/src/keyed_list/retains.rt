@@ -8,7 +8,7 @@ use std::hash::{BuildHasher, Hash};
 
 impl<K: Eq + Hash, V, S: BuildHasher> KeyedList<K, V, S> {
     /// Calls `keep` once on each entry, from the front, and removes those for which it returns false. Their
-    /// nodes are then spare. It does not allocate, hashes nothing, and stores at most three links for each
+    /// nodes are then free. It does not allocate, hashes nothing, and stores at most three links for each
     /// removal.
     pub fn retain_in_order<F: FnMut(&K, &mut V) -> bool>(&mut self, keep: &mut F)
     where
@@ -18,6 +18,7 @@ impl<K: Eq + Hash, V, S: BuildHasher> KeyedList<K, V, S> {
             (entries_of self.old) }
         ensures retained { RetainsInOrder (CalledAtPair F.FnMut) keep.old (state_of self.old)
             (state_of self.new) keep.new }
+        ensures was_sound { IsKeyed K.eq self.old }
         ensures sound { IsKeyed K.eq self.new }
     {
         let mut place = self.front();

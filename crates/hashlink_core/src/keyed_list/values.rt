@@ -47,6 +47,7 @@ impl<K: Eq + Hash, V, S: BuildHasher> KeyedList<K, V, S> {
         ensures value { option_map (λ e. e.1)
             (slice_get (entries_of self.old) (place_number self.old.nodes (Some node))) ≡ Some result }
         ensures written { WritesNode self.old self.new (place_number self.old.nodes (Some node)) value }
+        ensures was_sound { IsKeyed K.eq self.old }
         ensures sound { IsKeyed K.eq self.new }
     {
         self.nodes.replace_value(node, value)
@@ -72,6 +73,7 @@ impl<K: Eq + Hash, V, S: BuildHasher> KeyedList<K, V, S> {
             (place_number self.old.nodes (Some node)) key value result }
         ensures nodes { self.new.nodes
             ≡ renewed_at (λ _. (key, value)) self.old.nodes (place_number self.old.nodes (Some node)) }
+        ensures was_sound { IsKeyed K.eq self.old }
         ensures sound { IsKeyed K.eq self.new }
     {
         let old_value = self.replace_value(node, value);

@@ -1,13 +1,14 @@
-//! Comparisons and hashing of caches: by their entries in order and their capacities, whatever the hashers are.
+//! Comparisons of caches by their entries in order and their capacities, and hashes of caches by their
+//! entries, whatever their hashers are.
 ghost use Rattle.hashlink_lru.specs.Compared.{caches_eq, caches_equiv, caches_per};
 ghost use Rattle.hashlink_lru.specs.Compared.{cache_hash_input, caches_alike};
 
 use super::LruCache;
 use std::hash::{BuildHasher, Hash, Hasher};
 
-/// Two caches are equal if they have the same capacity, the same number of entries, and at each place equal
-/// keys and equal values. The capacity counts, since two caches of different capacities evict different
-/// entries later. A comparison takes linear time, up to the first entry that differs.
+/// Two caches are equal if they have the same capacity, the same number of entries, and equal keys and values
+/// at each index. The capacity counts because two caches of different capacities evict different entries
+/// later. A comparison takes linear time, up to the first entry that differs.
 impl<K: Eq + Hash, V: PartialEq, S: BuildHasher> PartialEq for LruCache<K, V, S> {
     ghost eq = { caches_eq K.eq V.eq };
 

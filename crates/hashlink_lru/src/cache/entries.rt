@@ -2,10 +2,11 @@
 //! by one.
 //!
 //! What `entry` and `raw_entry_mut` return borrows the map inside the cache. Afterwards the cache has what
-//! the map then has, at the same capacity. For `entry` the proof of this is written by hand. If the cache of
-//! a caller is borrowed, its generated proof knows nothing of the cache once the entry is gone, unless a
-//! method takes the entry by value at once. `make_room` and then an entry of `map_mut` do the same, and leave
-//! all known. `hashlink_uses` has a proved caller for each form.
+//! the map then has, at the same capacity. For `entry` the proof of this is written by hand. If the cache
+//! that a caller uses is itself borrowed, the caller's generated proof knows nothing about the cache after
+//! the entry is gone, unless a method takes the entry by value at once. `make_room` followed by an entry of
+//! `map_mut` does the same, and the proof then knows everything. `hashlink_uses` has a proved caller for each
+//! form.
 ghost use Rattle.std.specs.Prelude.{◌≡◌};
 ghost use Rattle.std.specs.Borrow.{sem};
 ghost use Rattle.hashlink_model.specs.Cache.{EntersCache, EvictsFront};
@@ -24,8 +25,8 @@ impl<K: Eq + Hash, V, S: BuildHasher> LruCache<K, V, S> {
 
     /// Returns a mutable reference to the map of the cache, for any of its methods. It takes constant time.
     ///
-    /// None of them evicts what is above the capacity. So through this reference alone, and through a cursor,
-    /// the cache can exceed its capacity by any number, until one of its own inserts succeeds.
+    /// No method of the map evicts the entries beyond the capacity. So through this reference, or through a
+    /// cursor, the cache can exceed its capacity by any number, until one of its own inserts succeeds.
     pub fn map_mut(&mut self) -> &mut LinkedHashMap<K, V, S>
         ensures* lends { sem 𝓛 (LendsMap K.row V.row S.row S.Hasher.row K.Hash S.BuildHasher S.Hasher.Hasher
             self.entry result) }
@@ -39,7 +40,7 @@ impl<K: Eq + Hash, V, S: BuildHasher> LruCache<K, V, S> {
     /// at most three links and does not allocate.
     ///
     /// So an insert through the entry can exceed the capacity by one. If an entry was evicted, its node is
-    /// spare, and that insert cannot fail.
+    /// free, and that insert cannot fail.
     pub fn entry(&mut self, key: K) -> Entry<'_, K, V, S>
     where
         K: Drop,
@@ -66,7 +67,7 @@ impl<K: Eq + Hash, V, S: BuildHasher> LruCache<K, V, S> {
     /// hashes nothing, stores at most three links and does not allocate.
     ///
     /// So an insert through the entry can exceed the capacity by one. If an entry was evicted, its node is
-    /// spare, and that insert cannot fail.
+    /// free, and that insert cannot fail.
     pub fn raw_entry_mut(&mut self) -> RawEntryBuilderMut<'_, K, V, S>
     where
         K: Drop,

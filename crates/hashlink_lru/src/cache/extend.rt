@@ -18,7 +18,7 @@ impl<K: Eq + Hash + Drop, V: Drop, S: BuildHasher> LruCache<K, V, S> {
     ghost use Rattle.hashlink_lru.specs.Cached.{state_of, InsertsPairIn, StaysWithin};
 
     /// Inserts each item in turn, as `insert` does, at the cost of an insert for each. The iterator has to
-    /// end, and its `next` to be callable.
+    /// end, and its `next` has to be callable.
     ///
     /// If an allocation for an item fails, the items before it stay inserted. The error contains that item
     /// and their number. No further item is read.
@@ -38,8 +38,8 @@ impl<K: Eq + Hash + Drop, V: Drop, S: BuildHasher> LruCache<K, V, S> {
         self.extend_from(&mut rest)
     }
 
-    /// Does the same as `extend` with an iterator that the caller keeps. It has to end, and its `next` to be
-    /// callable. If an allocation fails, the items after the one in the error are left in the iterator.
+    /// Does the same as `extend` with an iterator that the caller keeps. It has to end, and its `next` has to
+    /// be callable. If an allocation fails, the items after the one in the error are left in the iterator.
     /// Otherwise none is left.
     pub fn extend_from<I: Iterator<Item = (K, V)>>(
         &mut self,
@@ -64,8 +64,8 @@ impl<K: Eq + Hash + Drop, V: Drop, S: BuildHasher> LruCache<K, V, S> {
     }
 }
 
-/// Inserts the items as the function `extend` does. If memory runs out, it returns `AllocError`, and what was
-/// inserted stays. The item that was not inserted is dropped.
+/// Inserts the items as the function `extend` does. If memory runs out, it returns `AllocError`, and the
+/// items inserted before stay. The item that was not inserted is dropped.
 impl<K: Eq + Hash + Drop, V: Drop, S: BuildHasher> Extend<(K, V)> for LruCache<K, V, S> {
     ghost use Rattle.hashlink_lru.specs.Cached.{state_of, InsertsPairIn, StaysWithin};
 
@@ -93,7 +93,7 @@ impl<K: Eq + Hash + Clone, V: Clone, S: BuildHasher + Clone> LruCache<K, V, S> {
     ghost use Rattle.hashlink_lru.specs.Cached.{entries_of, state_of};
 
     /// Returns a clone: a cache of the same capacity, with a clone of the hasher and a clone of each pair in
-    /// the same order. It uses the same allocator, and has no spare node. It costs a clone and an insert for
+    /// the same order. It uses the same allocator, and has no free node. It costs a clone and an insert for
     /// each pair.
     ///
     /// If an allocation for a clone or for a node fails, it returns `AllocError`, and nothing is left of the
@@ -121,7 +121,7 @@ impl<K: Eq + Hash + Clone, V: Clone, S: BuildHasher + Clone> LruCache<K, V, S> {
     }
 }
 
-/// A type that holds a cache can be cloned with it: a clone is made by the function `clone`.
+/// A type that contains a cache can be cloned with it: the function `clone` makes the clone.
 impl<K: Eq + Hash + Clone, V: Clone, S: BuildHasher + Clone> Clone for LruCache<K, V, S> {
     ghost use Rattle.hashlink_lru.specs.Cached.{entries_of, state_of};
 

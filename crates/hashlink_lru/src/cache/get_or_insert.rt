@@ -1,4 +1,4 @@
-//! Uses of a key that may be absent: a hit returns a reference to the value as `get_mut` does, a miss makes
+//! Uses of a key that may be absent. A hit returns a reference to the value, as `get_mut` does; a miss makes
 //! the value and inserts it.
 ghost use Rattle.std.specs.Prelude.{◌≡◌, None, Ok, OnOk, IfOk, IfErr};
 ghost use Rattle.std.specs.Borrow.{sem};
@@ -18,20 +18,22 @@ impl<K: Eq + Hash, V, S: BuildHasher> LruCache<K, V, S> {
     ghost use Rattle.hashlink_lru.specs.Cached.{entries_of, state_of};
     ghost use Rattle.hashlink_lru.specs.Lends.{LendsLast, LendsUsedOrNew, LendsUsedOrTryNew};
 
-    /// Returns a mutable reference to the value of the key. If the key is present, its entry moves to the
-    /// back and `make` is not called: it is a hit of `get_mut`, and evicts nothing. If the key is absent,
-    /// `make` has to be callable and is called once, and the key is inserted at the back with what it
-    /// returns. Then entries are evicted from the front until there are no more than the capacity.
+    /// Returns a mutable reference to the value of the key. If the key is present, this is a hit of
+    /// `get_mut`: its entry moves to the back, `make` is not called, and nothing is evicted. If the key is
+    /// absent, `make` has to be callable and is called once, and the key is inserted at the back with the
+    /// value that it returns. Then entries are evicted from the front until there are no more than the
+    /// capacity.
     ///
-    /// The value has to be in the cache while it is borrowed. So at capacity 0 the new pair stays, alone and
-    /// one beyond the capacity, as after an entry. The next insert evicts it.
+    /// The value has to be in the cache while it is borrowed. So at capacity 0 the new pair stays as the only
+    /// entry, one beyond the capacity, as after an insert through an entry. The next insert evicts it.
     ///
-    /// It allocates only if the key is absent and no node is spare. If the table is full then, it grows
-    /// first, in linear time in the number of entries. If an allocation fails, it returns the key and the
-    /// value that was made in `Err`, changes no entry and evicts nothing; the room may have grown.
+    /// It allocates only if the key is absent and no node is free. If the table is also full, it grows first,
+    /// in linear time in the number of entries. If an allocation fails, it returns the key and the value that
+    /// was made in `Err`, changes no entry and evicts nothing; the room may have grown.
     ///
     /// It hashes the key once. It stores at most six links if the key is present, four if it is absent, and
     /// three for each entry that it evicts.
+    #[inline(always)]
     pub fn get_or_insert_with<F: FnOnce() -> V>(
         &mut self,
         key: K,
@@ -54,7 +56,7 @@ impl<K: Eq + Hash, V, S: BuildHasher> LruCache<K, V, S> {
         self.map.get_or_insert_with(key, make)?;
         match self.lend_last(before) {
             Some(value) => Ok(value),
-            None => unreachable!(), // the entry that was just used stands last
+            None => unreachable!(), // the entry that was just used is the last one
         }
     }
 
@@ -62,8 +64,8 @@ impl<K: Eq + Hash, V, S: BuildHasher> LruCache<K, V, S> {
     /// key is absent. If it fails, its error is returned with the key, in `TryInsertError::Make`, and nothing
     /// changes.
     ///
-    /// It allocates only if the key is absent and no node is spare. If an allocation fails, it returns the
-    /// key and the value that was made, in `TryInsertError::Memory`, changes no entry and evicts nothing; the
+    /// It allocates only if the key is absent and no node is free. If an allocation fails, it returns the key
+    /// and the value that was made, in `TryInsertError::Memory`, changes no entry and evicts nothing; the
     /// room may have grown.
     pub fn get_or_try_insert_with<E, F: FnOnce() -> Result<V, E>>(
         &mut self,
@@ -86,12 +88,13 @@ impl<K: Eq + Hash, V, S: BuildHasher> LruCache<K, V, S> {
         move_or_try_make(&mut self.map, key, make)?;
         match self.lend_last(before) {
             Some(value) => Ok(value),
-            None => unreachable!(), // the entry that was just used stands last
+            None => unreachable!(), // the entry that was just used is the last one
         }
     }
 
-    /// If there are not `before` entries, entries are evicted as by `insert`, but at least one stays. Returns
-    /// a mutable reference to the value of the entry at the back, or `None` if the cache is empty.
+    /// If there are not `before` entries, evicts entries as `insert` does, but keeps at least one. Returns a
+    /// mutable reference to the value of the entry at the back, or `None` if the cache is empty.
+    #[inline]
     fn lend_last(&mut self, before: usize) -> Option<&mut V>
     where
         K: Drop,
@@ -107,8 +110,8 @@ impl<K: Eq + Hash, V, S: BuildHasher> LruCache<K, V, S> {
     }
 }
 
-/// Moves the entry of the key to the back. If the key is absent, it is inserted there with what `make`
-/// returns, unless that fails. The key is hashed once.
+/// Moves the entry of the key to the back. If the key is absent, inserts it there with the value that `make`
+/// returns, unless `make` fails. Hashes the key once.
 fn move_or_try_make<
     K: Eq + Hash + Drop,
     V: Drop,

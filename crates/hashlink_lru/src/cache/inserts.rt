@@ -1,4 +1,4 @@
-//! Inserts, and how the least recently used entries make room for them.
+//! Inserts, and the evictions of the least recently used entries that make room for them.
 ghost use Rattle.std.specs.Prelude.{◌≡◌, OnOk};
 ghost use Rattle.hashlink_model.specs.Cache.{CacheInserts, EvictsFront, IsWithin, OnMap};
 ghost use Rattle.hashlink_model.specs.Entries.{IsEntries};
@@ -15,13 +15,14 @@ impl<K: Eq + Hash, V, S: BuildHasher> LruCache<K, V, S> {
     /// evicted from the front until there are no more than the capacity. So a cache of capacity 0 is empty
     /// afterwards.
     ///
-    /// It hashes the key once. It allocates only if the key is absent and no node is spare. If the table is
-    /// full then, it grows first, in linear time in the number of entries. If an allocation fails, it returns
+    /// It hashes the key once. It allocates only if the key is absent and no node is free. If the table is
+    /// also full, it grows first, in linear time in the number of entries. If an allocation fails, it returns
     /// the pair in `Err`, changes no entry and evicts nothing; the room may have grown.
     ///
-    /// It takes a step for each entry that it evicts: one at most, unless entries, cursors, `map_mut` or, at
-    /// capacity 0, `get_or_insert_with` or `get_or_try_insert_with` have exceeded the capacity. It stores at
-    /// most six links if the key is present, four if it is absent, and three for each entry that it evicts.
+    /// It takes a step for each entry that it evicts. This is at most one, unless entries, cursors, `map_mut`
+    /// or, at capacity 0, `get_or_insert_with` or `get_or_try_insert_with` have exceeded the capacity. It
+    /// stores at most six links if the key is present, four if it is absent, and three for each entry that it
+    /// evicts.
     #[inline]
     pub fn insert(&mut self, key: K, value: V) -> Result<Option<V>, (K, V)>
     where

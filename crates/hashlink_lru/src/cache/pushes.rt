@@ -18,12 +18,12 @@ impl<K: Eq + Hash, V, S: BuildHasher> LruCache<K, V, S> {
     ghost use Rattle.hashlink_lru.specs.Cached.{entries_of, state_of, StaysWithin};
 
     /// Inserts the pair as `insert` does, and returns the pair that leaves. If the key is present, its entry
-    /// keeps the stored key, and what leaves is the given key with the old value. Otherwise it is the entry
-    /// that is evicted, or `None` if there is room.
+    /// keeps the stored key, and the given key leaves with the old value. Otherwise the evicted entry leaves,
+    /// or `None` is returned if there is room.
     ///
     /// At capacity 0 an empty cache evicts the new pair, which is returned. If entries, cursors or `map_mut`
-    /// have exceeded the capacity, an insert may evict several entries, even if the key is present: all but
-    /// the one that is returned are dropped, and of an absent key the first is returned.
+    /// have exceeded the capacity, an insert may evict several entries, even if the key is present. All but
+    /// the returned one are dropped; if the key is absent, the first one is returned.
     ///
     /// It costs what `insert` costs. If an allocation fails, it returns the given pair in `Err`, changes no
     /// entry and evicts nothing; the room may have grown.
@@ -68,8 +68,8 @@ impl<K: Eq + Hash, V, S: BuildHasher> LruCache<K, V, S> {
     }
 }
 
-/// Inserts the pair at the back as the map's `insert` does. If the key is present, it returns the given key
-/// with the old value. The key is hashed once.
+/// Inserts the pair at the back as the map's `insert` does. If the key is present, returns the given key with
+/// the old value. Hashes the key once.
 fn put_last<K: Eq + Hash + Drop, V: Drop, S: BuildHasher>(
     map: &mut LinkedHashMap<K, V, S>,
     key: K,

@@ -52,8 +52,8 @@ impl<K: Eq + Hash, V, S: BuildHasher> LruCache<K, V, S> {
         self.map.get_mut(key)
     }
 
-    /// Returns the front, which is the least recently used entry and is evicted next, or `None` if the cache
-    /// is empty. The order does not change. It takes constant time and hashes nothing.
+    /// Returns the front, which is the least recently used entry and the next one to be evicted, or `None` if
+    /// the cache is empty. The order does not change. It takes constant time and hashes nothing.
     pub fn peek_lru(&self) -> Option<(&K, &V)>
         ensures found { option_map deref_pair result ≡ first_of (entries_of self.now) }
         ensures none { IfNone result (entries_of self.now ≡ []) }
@@ -72,13 +72,14 @@ impl<K: Eq + Hash, V, S: BuildHasher> LruCache<K, V, S> {
         self.map.back()
     }
 
-    /// Returns the entry that an insert of this key would evict first, or `None` if it would evict none
-    /// besides the key's own: the key is present, or there is room. The order does not change. It hashes the
-    /// key once.
+    /// Returns the entry that an insert of this key would evict first, or `None` if the insert would evict no
+    /// entry but the key's own. That is so if the key is absent and there is room, or present and the
+    /// capacity is not exceeded. The order does not change. It hashes the key once.
     ///
-    /// At capacity 0 an insert evicts every entry and at last its own pair, which this never returns. If
-    /// entries, cursors or `map_mut` have exceeded the capacity, an insert evicts even if the key is present:
-    /// then this returns the first entry that is not the key's own.
+    /// At capacity 0 an insert evicts every entry and at last its own pair, which this call never returns. If
+    /// entries, cursors or `map_mut` have exceeded the capacity, an insert evicts even if the key is present.
+    /// Then this call returns the first entry that is not the key's own.
+    #[inline(always)]
     pub fn evicted_by<Q: Equivalent<K>>(&self, key: Q) -> Option<(&K, &V)>
         ensures found { option_map deref_pair result
             ≡ evicted_by (Q.matches key) (entries_of self.now) (state_of self.now).cap }
@@ -99,6 +100,7 @@ impl<K: Eq + Hash, V, S: BuildHasher> LruCache<K, V, S> {
     }
 
     /// Returns the first entry that is not the key's.
+    #[inline(always)]
     fn first_other<Q: Equivalent<K>>(&self, key: Q) -> Option<(&K, &V)>
         ensures { option_map deref_pair result
             ≡ first_of (remove_entry (Q.matches key) (entries_of self.now)) }

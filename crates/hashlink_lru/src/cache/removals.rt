@@ -1,4 +1,4 @@
-//! Removals. The other entries keep their order. Except for `clear`, each removal leaves a spare node, which
+//! Removals. The other entries keep their order. Except for `clear`, each removal leaves a free node, which
 //! the next insert of an absent key uses. No removal allocates.
 ghost use Rattle.std.specs.Prelude.{◌≡◌, IfSome, None, Contains};
 ghost use Rattle.std.specs.Map.{lookup, lookup_entry, remove_entry};
@@ -19,6 +19,7 @@ impl<K: Eq + Hash, V, S: BuildHasher> LruCache<K, V, S> {
 
     /// Removes the entry of the key, and returns its value, or `None` if the key is absent. It looks the key
     /// up as `peek` does, and stores at most three links.
+    #[inline(always)]
     pub fn remove<Q: Equivalent<K>>(&mut self, key: Q) -> Option<V>
     where
         K: Drop,
@@ -35,6 +36,7 @@ impl<K: Eq + Hash, V, S: BuildHasher> LruCache<K, V, S> {
 
     /// Removes the entry of the key, and returns the stored pair, or `None` if the key is absent. It looks
     /// the key up as `peek` does, and stores at most three links.
+    #[inline(always)]
     pub fn remove_entry<Q: Equivalent<K>>(&mut self, key: Q) -> Option<(K, V)>
         ensures held { IfSome result (Contains (entries_of self.old)) }
         ensures updates { UpdatesBy K.eq (Q.matches key) (entries_of self.old) (entries_of self.new) None }
@@ -48,6 +50,7 @@ impl<K: Eq + Hash, V, S: BuildHasher> LruCache<K, V, S> {
 
     /// Removes the front, which is the least recently used entry, and returns it, or `None` if the cache is
     /// empty. It takes constant time, hashes nothing, and stores at most three links.
+    #[inline]
     pub fn remove_lru(&mut self) -> Option<(K, V)>
         ensures pops { OnMap (λ a b. PopsFront a b result) (state_of self.old) (state_of self.new) }
         ensures entries { TakesFirst (λ e. e) (entries_of self.old) result (entries_of self.new) }
@@ -58,8 +61,8 @@ impl<K: Eq + Hash, V, S: BuildHasher> LruCache<K, V, S> {
         self.map.pop_front()
     }
 
-    /// Drops every entry and frees its node. The spare nodes and the capacity stay. It takes linear time in
-    /// the number of entries and buckets.
+    /// Drops every entry and frees its node. The nodes that were free and the capacity stay. It takes linear
+    /// time in the number of entries and buckets.
     pub fn clear(&mut self)
     where
         K: Drop,
@@ -97,9 +100,9 @@ impl<K: Eq + Hash, V, S: BuildHasher> LruCache<K, V, S> {
         }
     }
 
-    /// Calls `keep` once on each entry, from the front, and removes those for which it returns false. It
-    /// takes linear time in the number of entries, hashes nothing, and stores at most three links for each
-    /// removal. `keep` has to be callable on each entry, in the state that its earlier calls have left it in.
+    /// Calls `keep` once on each entry, from the front, and removes the entries for which it returns false.
+    /// It takes linear time in the number of entries, hashes nothing, and stores at most three links for each
+    /// removal. `keep` has to be callable on each entry, in the state that its earlier calls left it in.
     pub fn retain<F: FnMut(&K, &mut V) -> bool>(&mut self, keep: F)
     where
         K: Drop,
@@ -115,10 +118,10 @@ impl<K: Eq + Hash, V, S: BuildHasher> LruCache<K, V, S> {
         self.map.retain(keep);
     }
 
-    /// Does the same as `retain`, with a closure that the caller keeps: after the last call of `keep`, the
-    /// caller can read from it what its calls left in it. It takes linear time in the number of entries,
-    /// hashes nothing, and stores at most three links for each removal. `keep` has to be callable on each
-    /// entry, in the state that its earlier calls have left it in.
+    /// Does the same as `retain`, with a closure that the caller keeps: afterwards the caller can read from
+    /// `keep` the state that its calls left. It takes linear time in the number of entries, hashes nothing,
+    /// and stores at most three links for each removal. `keep` has to be callable on each entry, in the state
+    /// that its earlier calls left it in.
     pub fn retain_from<F: FnMut(&K, &mut V) -> bool>(&mut self, keep: &mut F)
     where
         K: Drop,

@@ -1,4 +1,4 @@
-//! Iterators over a cache, from both ends. They do not count as uses. None of them allocates, and each step
+//! Iterators over a cache, from both ends. They do not count as uses. No iterator allocates, and each step
 //! takes constant time.
 ghost use Rattle.std.specs.Prelude.{◌≡◌, ◌^◌, ◌<◌, length};
 ghost use Rattle.std.specs.Borrow.{sem};
@@ -8,19 +8,18 @@ ghost use Rattle.std.specs.Map.Iter.{GivesInOrder, GivesInReverse};
 ghost use Rattle.hashlink_model.specs.Entries.{IsEntries};
 
 use super::LruCache;
-use hashlink_map::{Drain, IntoIter, Iter, IterMut, Keys, Values};
+use hashlink_map::{IntoIter, Iter, IterMut, Keys, Values};
 use std::hash::{BuildHasher, Hash};
 
 impl<K: Eq + Hash, V, S: BuildHasher> LruCache<K, V, S> {
     ghost use Rattle.hashlink_core.specs.Keyed.{state_of};
-    ghost use Rattle.hashlink_map.specs.Drain.{drained_map};
     ghost use Rattle.hashlink_map.specs.IterMut.{walk_map, walk_state};
     ghost use Rattle.hashlink_map.specs.WritingWalk.{writing_walk};
     ghost use Rattle.hashlink_lru.specs.Cached.{entries_of, map_of};
     ghost use Rattle.hashlink_lru.specs.Lends.{HandsOnMap};
 
-    /// Returns an iterator over the entries, from front to back: the least recently used comes first. It is
-    /// not a use. It does not allocate, and each step takes constant time.
+    /// Returns an iterator over the entries, from front to back, so the least recently used one is first. It
+    /// is not a use. It does not allocate, and each step takes constant time.
     pub fn iter(&self) -> Iter<'_, K, V>
         ensures rest { result ≡ entries_of self.now }
         ensures distinct { IsEntries K.eq (entries_of self.now) }
@@ -65,22 +64,6 @@ impl<K: Eq + Hash, V, S: BuildHasher> LruCache<K, V, S> {
     {
         self.map.iter_mut()
     }
-
-    /// Returns an iterator that removes the entries and returns them, from front to back. When it is dropped,
-    /// exhausted or not, the cache is empty. The call takes linear time in the number of buckets, the drop in
-    /// the number of entries that are left, for each of which it stores at most three links. Neither hashes
-    /// or allocates.
-    pub fn drain(&mut self) -> Drain<'_, K, V, S>
-    where
-        K: Drop,
-        V: Drop,
-        ensures* hands_on { sem 𝓛
-            (HandsOnMap K.row V.row S.row S.Hasher.row K.Hash S.BuildHasher S.Hasher.Hasher
-            self.entry (drained_map result).ghost_name) }
-        ensures unchanged { (drained_map result).now ≡ map_of self.old }
-    {
-        self.map.drain()
-    }
 }
 
 /// Turns the cache into an owning iterator over its entries, from front to back. It frees the table, takes
@@ -106,8 +89,7 @@ impl<K: Eq + Hash + Drop, V: Drop, S: BuildHasher + Drop> IntoIterator for LruCa
     }
 }
 
-/// Returns the iterator that `iter` returns: over the entries, from front to back. It takes constant time and
-/// does not allocate.
+/// Returns the iterator that `iter` returns. It takes constant time and does not allocate.
 impl<'a, K: Eq + Hash, V, S: BuildHasher> IntoIterator for &'a LruCache<K, V, S> {
     ghost use Rattle.hashlink_lru.specs.Cached.{entries_of};
 

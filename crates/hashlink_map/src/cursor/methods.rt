@@ -1,10 +1,11 @@
 //! The methods of `CursorMut`.
-ghost use Rattle.std.specs.Prelude.{◌≡◌, IfOk, IfErr, IfSome, IfNone, Some, length, slice_get};
+ghost use Rattle.std.specs.Prelude.{◌≡◌, IfOk, IfErr, IfSome, IfNone, OnOk, Some, length, slice_get};
 ghost use Rattle.std.specs.Borrow.{sem};
 ghost use Rattle.std.specs.Option.{option_map, option_copied_mut};
 ghost use Rattle.std.specs.Map.Iter.{deref_pair};
 ghost use Rattle.hashlink_model.specs.Cursor.{at_place, entry_in, place_next, place_previous};
 ghost use Rattle.hashlink_model.specs.Cursor.{InsertsBefore, InsertsAfter};
+ghost use Rattle.hashlink_model.specs.Lookups.{Updates};
 ghost use Rattle.hashlink_core.specs.Keyed.{entries_of};
 ghost use Rattle.hashlink_core.specs.Places.{Holds, IsPlace, place_number};
 
@@ -124,8 +125,7 @@ impl<'a, K: Eq + Hash, V, S: BuildHasher> CursorMut<'a, K, V, S> {
     }
 
     /// Returns a mutable reference to the value at the cursor, or `None` at the guard. It takes constant time
-    /// and hashes nothing. It is `current` without the key: a caller can prove exactly what the map is
-    /// afterwards.
+    /// and hashes nothing. Unlike with `current`, a caller can prove exactly what the map is afterwards.
     pub fn current_value(&mut self) -> Option<&mut V>
         ensures* lends { sem 𝓛 (LendsFromCursor K.row V.row S.row S.Hasher.row self.entry
             (cursor_state self.old).place result) }
@@ -202,19 +202,21 @@ impl<'a, K: Eq + Hash, V, S: BuildHasher> CursorMut<'a, K, V, S> {
 
     /// Inserts the pair directly before the cursor, and returns the old value of the key if there was one. At
     /// the guard, the pair goes to the back. If the key is present, its entry keeps the stored key, takes the
-    /// new value and moves there, unless it is there already. The cursor stays on its entry, wherever that is
-    /// afterwards, or on the guard. The call looks the key up as `get` does. It stores at most six links if
-    /// the key is present, and four if it is absent.
+    /// new value and moves directly before the cursor. If the cursor is on this entry, the entry does not
+    /// move. The cursor stays on its entry, even if the index changes, or on the guard. The call looks the
+    /// key up as `get` does. It stores at most six links if the key is present, and four if it is absent.
     ///
-    /// It allocates only if the key is absent and no node is spare. If the table is full then, it grows
-    /// first, in linear time in the new capacity. If an allocation fails, it returns the pair in `Err` and
-    /// changes no entry; the room may have grown.
+    /// It allocates only if the key is absent and no node is free. A full table then grows first, in linear
+    /// time in the new capacity. If an allocation fails, it returns the pair in `Err` and changes no entry;
+    /// the room may have grown.
     pub fn insert_before(&mut self, key: K, value: V) -> Result<Option<V>, (K, V)>
     where
         K: Drop,
         ensures same_map { (cursor_map self.new).ghost_name ≡ (cursor_map self.old).ghost_name }
         ensures inserts { InsertsBefore K.eq (cursor_state self.old)
             (cursor_state self.new) key value result }
+        ensures updates { OnOk result (Updates K.eq (cursor_state self.old).map.entries
+            (cursor_state self.new).map.entries key (Some value)) }
     {
         let place = self.place;
         self.map.insert_at(place, key, value)
@@ -228,6 +230,8 @@ impl<'a, K: Eq + Hash, V, S: BuildHasher> CursorMut<'a, K, V, S> {
         K: Drop,
         ensures same_map { (cursor_map self.new).ghost_name ≡ (cursor_map self.old).ghost_name }
         ensures inserts { InsertsAfter K.eq (cursor_state self.old) (cursor_state self.new) key value result }
+        ensures updates { OnOk result (Updates K.eq (cursor_state self.old).map.entries
+            (cursor_state self.new).map.entries key (Some value)) }
     {
         let place = self.map.place_after(self.place);
         self.map.insert_at(place, key, value)

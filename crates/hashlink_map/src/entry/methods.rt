@@ -5,6 +5,7 @@ ghost use Rattle.std.specs.Option.{UnwrapsOrElse};
 ghost use Rattle.std.specs.Map.{lookup};
 ghost use Rattle.hashlink_model.specs.Entries.{IsEntries, stored_key};
 ghost use Rattle.hashlink_model.specs.Entry.{entry_of};
+ghost use Rattle.hashlink_model.specs.Lookups.{UpdatesLast};
 ghost use Rattle.hashlink_core.specs.Keyed.{state_of, entries_of};
 ghost use Rattle.hashlink_map.specs.Entry.{entry_map, entry_state, entry_value, Modifies};
 ghost use Rattle.hashlink_map.specs.EntryLends.{LendsOrNew, LendsOrTryNew};
@@ -18,8 +19,9 @@ use std::default::MadeWith;
 use std::hash::{BuildHasher, Hash};
 
 impl<K: Eq + Hash, V, S: BuildHasher> LinkedHashMap<K, V, S> {
-    /// Returns the entry of the key. It looks the key up as `get` does, with one hash. What is done through
-    /// the entry then hashes nothing.
+    /// Returns the entry of the key. It looks the key up as `get` does, and hashes it once. The methods of
+    /// the entry hash nothing.
+    #[inline(always)]
     pub fn entry(&mut self, key: K) -> Entry<'_, K, V, S>
         ensures same_map { (entry_map result).ghost_name ≡ self.entry.ghost_name }
         ensures unchanged { (entry_map result).now ≡ self.old }
@@ -56,19 +58,20 @@ impl<'a, K: Eq + Hash, V, S: BuildHasher> Entry<'a, K, V, S> {
     }
 
     /// Returns a mutable reference to the value. An occupied entry moves to the back. A vacant one inserts
-    /// the given key with `default` at the back. So the map is afterwards as after an insert of the value
-    /// that is written. It hashes nothing, and stores at most six links if the entry is occupied and four if
-    /// it is vacant.
+    /// the given key with `default` at the back. So the map ends as an `insert` of the written value leaves
+    /// it. It hashes nothing, and stores at most six links if the entry is occupied and four if it is vacant.
     ///
-    /// It allocates only if the entry is vacant and no node is spare. If the table is full then, it grows
-    /// first, in linear time in the new capacity. If an allocation fails, it returns the given key and
-    /// `default` in `Err` and changes no entry; the room may have grown.
+    /// It allocates only if the entry is vacant and no node is free. A full table then grows first, in linear
+    /// time in the new capacity. If an allocation fails, it returns the given key and `default` in `Err` and
+    /// changes no entry; the room may have grown.
     pub fn or_insert(self, default: V) -> Result<&'a mut V, (K, V)>
     where
         K: Drop,
         V: Drop,
         ensures* lends { sem 𝓛 (LendsOrNew K.row V.row S.row S.Hasher.row self.entry result) }
         ensures value { IfOk result (λ v. v.now ≡ unwrap_or (entry_value (entry_state self.entry)) default) }
+        ensures updates { IfOk result (λ _. UpdatesLast K.eq (entry_state self.entry).map.entries
+            (entry_state self.entry).key) }
         ensures given { IfErr result (λ pair. pair ≡ ((entry_state self.entry).key, default)) }
     {
         match self {
@@ -77,9 +80,9 @@ impl<'a, K: Eq + Hash, V, S: BuildHasher> Entry<'a, K, V, S> {
         }
     }
 
-    /// Does the same as `or_insert` with the value that `default` returns. `default` is called only if the
-    /// entry is vacant. It then has to be callable. If an allocation fails, it returns the given key and what
-    /// `default` returned in `Err` and changes no entry; the room may have grown.
+    /// Does the same as `or_insert` with the value that `default` returns. It calls `default` only if the
+    /// entry is vacant, and `default` then has to be callable. If an allocation fails, it returns the given
+    /// key and the value that was made in `Err` and changes no entry; the room may have grown.
     pub fn or_insert_with<F: FnOnce() -> V>(self, default: F) -> Result<&'a mut V, (K, V)>
     where
         K: Drop,
@@ -88,6 +91,8 @@ impl<'a, K: Eq + Hash, V, S: BuildHasher> Entry<'a, K, V, S> {
         ensures* lends { sem 𝓛 (LendsOrNew K.row V.row S.row S.Hasher.row self.entry result) }
         ensures value { IfOk result
             (λ v. UnwrapsOrElse (entry_value (entry_state self.entry)) (F.post default) v.now) }
+        ensures updates { IfOk result (λ _. UpdatesLast K.eq (entry_state self.entry).map.entries
+            (entry_state self.entry).key) }
         ensures given { IfErr result (λ pair. pair.0 ≡ (entry_state self.entry).key) }
         ensures made { IfErr result (λ pair. F.post default pair.1) }
     {
@@ -97,9 +102,9 @@ impl<'a, K: Eq + Hash, V, S: BuildHasher> Entry<'a, K, V, S> {
         }
     }
 
-    /// Does the same as `or_insert` with the default value of its type, which is made only if the entry is
-    /// vacant: for a number 0, for a collection an empty one, which uses the map's allocator. If an
-    /// allocation fails, it returns the given key and that value in `Err` and changes no entry; the room may
+    /// Does the same as `or_insert` with the default value of its type, which it makes only if the entry is
+    /// vacant. For a number this is 0, for a collection an empty one with the map's allocator. If an
+    /// allocation fails, it returns the given key and this value in `Err` and changes no entry; the room may
     /// have grown.
     pub fn or_default(self) -> Result<&'a mut V, (K, V)>
     where
@@ -108,6 +113,8 @@ impl<'a, K: Eq + Hash, V, S: BuildHasher> Entry<'a, K, V, S> {
         ensures* lends { sem 𝓛 (LendsOrNew K.row V.row S.row S.Hasher.row self.entry result) }
         ensures value { IfOk result
             (λ v. UnwrapsOrElse (entry_value (entry_state self.entry)) V.is_made_with v.now) }
+        ensures updates { IfOk result (λ _. UpdatesLast K.eq (entry_state self.entry).map.entries
+            (entry_state self.entry).key) }
         ensures given { IfErr result (λ pair. pair.0 ≡ (entry_state self.entry).key) }
         ensures made { IfErr result (λ pair. V.is_made_with pair.1) }
     {
@@ -120,13 +127,13 @@ impl<'a, K: Eq + Hash, V, S: BuildHasher> Entry<'a, K, V, S> {
         }
     }
 
-    /// Does the same as `or_insert` with the value that `default` returns. `default` is called only if the
-    /// entry is vacant, and then has to be callable. If it fails, its error is returned with the given key,
-    /// in `TryInsertError::Make`, and nothing changes.
+    /// Does the same as `or_insert` with the value that `default` returns. It calls `default` only if the
+    /// entry is vacant, and `default` then has to be callable. If `default` fails, the call returns its error
+    /// and the given key in `TryInsertError::Make`, and changes nothing.
     ///
-    /// It allocates only if the entry is vacant and no node is spare. If the table is full then, it grows
-    /// first, in linear time in the new capacity. If an allocation fails, it returns the given key and the
-    /// value that was made, in `TryInsertError::Memory`, and changes no entry; the room may have grown.
+    /// It allocates only if the entry is vacant and no node is free. A full table then grows first, in linear
+    /// time in the new capacity. If an allocation fails, it returns the given key and the value that was made
+    /// in `TryInsertError::Memory`, and changes no entry; the room may have grown.
     pub fn or_try_insert_with<E, F: FnOnce() -> Result<V, E>>(
         self,
         default: F,
@@ -138,6 +145,8 @@ impl<'a, K: Eq + Hash, V, S: BuildHasher> Entry<'a, K, V, S> {
         ensures* lends { sem 𝓛 (LendsOrTryNew K.row V.row S.row S.Hasher.row self.entry result) }
         ensures value { IfOk result
             (λ v. UnwrapsOrElse (entry_value (entry_state self.entry)) (λ x. F.post default (Ok x)) v.now) }
+        ensures updates { IfOk result (λ _. UpdatesLast K.eq (entry_state self.entry).map.entries
+            (entry_state self.entry).key) }
         ensures handed_back { IfErr result (HandsBack (F.post default) (entry_state self.entry).key) }
     {
         match self {

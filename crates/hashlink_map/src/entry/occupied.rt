@@ -1,10 +1,11 @@
 //! Occupied entries. Each of their methods takes constant time, and none hashes or allocates.
-ghost use Rattle.std.specs.Prelude.{◌≡◌, ◌-◌, length, Some, IfOk};
+ghost use Rattle.std.specs.Prelude.{◌≡◌, ◌-◌, length, None, Some, IfOk};
 ghost use Rattle.std.specs.Borrow.{sem};
+ghost use Rattle.hashlink_model.specs.Lookups.{KeepsLookups, Updates, UpdatesLast};
 ghost use Rattle.hashlink_model.specs.MapState.{RemovesAt, MovesAt};
 ghost use Rattle.hashlink_model.specs.Entry.{key_at, value_at, InsertsValue, InsertsEntry, ReplacesEntry};
 ghost use Rattle.hashlink_model.specs.Entry.{ReplacesKey, TakesEntry};
-ghost use Rattle.hashlink_core.specs.Keyed.{state_of, HoldsKey};
+ghost use Rattle.hashlink_core.specs.Keyed.{entries_of, state_of, HoldsKey};
 
 use crate::as_node::AsNode;
 use crate::cursor::CursorMut;
@@ -15,9 +16,8 @@ use std::hash::{BuildHasher, Hash};
 
 /// An occupied entry. It holds the given key, which equals the stored one.
 ///
-/// A caller that is generic in the key, and wants to prove what the map is afterwards, ends the entry by
-/// `into_key` or by another method that takes it by value: a contract says nothing of an occupied entry that
-/// is dropped.
+/// No contract covers an occupied entry that is dropped. So to prove what the map is afterwards, a caller
+/// that is generic in the key ends the entry by `into_key` or by another method that takes it by value.
 #[derive(Drop)]
 pub struct OccupiedEntry<
     'a,
@@ -49,6 +49,7 @@ impl<'a, K: Eq + Hash, V, S: BuildHasher> OccupiedEntry<'a, K, V, S> {
     }
 
     /// Returns a reference to the value. It takes constant time.
+    #[inline]
     pub fn get(&self) -> &V
         ensures { value_at (occupied_state self.now).map.entries (occupied_place self.now) ≡ Some result.now }
     {
@@ -67,6 +68,7 @@ impl<'a, K: Eq + Hash, V, S: BuildHasher> OccupiedEntry<'a, K, V, S> {
     }
 
     /// Returns a mutable reference to the value for as long as the map is borrowed. It takes constant time.
+    #[inline]
     pub fn into_mut(self) -> &'a mut V
     where
         K: Drop,
@@ -80,14 +82,17 @@ impl<'a, K: Eq + Hash, V, S: BuildHasher> OccupiedEntry<'a, K, V, S> {
     }
 
     /// Moves the entry to the back, and returns a mutable reference to its value for as long as the map is
-    /// borrowed. It never returns an `Err`. It returns a `Result` since a clause can then describe the map
-    /// afterwards by a relation. Of a bare reference it could do so only by a function.
+    /// borrowed. It never returns an `Err`. It returns a `Result` so that a clause can describe the map
+    /// afterwards by a relation. For a bare reference, the clause would need a function.
+    #[inline]
     pub(crate) fn into_last_mut<E>(self) -> Result<&'a mut V, E>
     where
         K: Drop,
         ensures* lends { sem 𝓛 (LendsLast K.row V.row S.row S.Hasher.row self.entry result) }
         ensures value { IfOk result
             (λ v. value_at (occupied_state self.entry).map.entries (occupied_place self.entry) ≡ Some v.now) }
+        ensures updates { IfOk result (λ _. UpdatesLast K.eq (occupied_state self.entry).map.entries
+            (occupied_state self.entry).key) }
     {
         let OccupiedEntry { map, node, key: _ } = self;
         map.move_to_back(node);
@@ -95,6 +100,7 @@ impl<'a, K: Eq + Hash, V, S: BuildHasher> OccupiedEntry<'a, K, V, S> {
     }
 
     /// Moves the entry to the back. It stores at most six links.
+    #[inline]
     pub fn to_back(&mut self)
         ensures same_map { (occupied_map self.new).ghost_name ≡ (occupied_map self.old).ghost_name }
         ensures moves { MovesAt (occupied_state self.old).map (occupied_state self.new).map
@@ -118,10 +124,13 @@ impl<'a, K: Eq + Hash, V, S: BuildHasher> OccupiedEntry<'a, K, V, S> {
 
     /// Replaces the value, moves the entry to the back, and returns the old value. The stored key stays. It
     /// stores at most six links.
+    #[inline]
     pub fn insert(&mut self, value: V) -> V
         ensures same_map { (occupied_map self.new).ghost_name ≡ (occupied_map self.old).ghost_name }
         ensures inserts { InsertsValue (occupied_state self.old).map (occupied_state self.new).map
             (occupied_place self.old) value result }
+        ensures updates { Updates K.eq (occupied_state self.old).map.entries
+            (occupied_state self.new).map.entries (occupied_state self.old).key (Some value) }
         ensures stands { StandsAt self.old self.new (length (occupied_state self.old).map.entries - 1) }
     {
         let node = self.node;
@@ -131,8 +140,10 @@ impl<'a, K: Eq + Hash, V, S: BuildHasher> OccupiedEntry<'a, K, V, S> {
     /// Replaces the pair by the given key and the value, moves the entry to the back, and returns the old
     /// pair. It stores at most six links.
     pub fn insert_entry(self, value: V) -> (K, V)
-        ensures { InsertsEntry (occupied_state self.entry).map (state_of self.exit.0.now)
+        ensures inserts { InsertsEntry (occupied_state self.entry).map (state_of self.exit.0.now)
             (occupied_place self.entry) (occupied_state self.entry).key value result }
+        ensures updates { Updates K.eq (occupied_state self.entry).map.entries
+            (entries_of self.exit.0.now) (occupied_state self.entry).key (Some value) }
     {
         let node = self.node;
         let key = self.key;
@@ -142,8 +153,10 @@ impl<'a, K: Eq + Hash, V, S: BuildHasher> OccupiedEntry<'a, K, V, S> {
     /// Replaces the pair by the given key and the value, and returns the old pair. The entry keeps its place.
     /// It stores no link.
     pub fn replace_entry(self, value: V) -> (K, V)
-        ensures { ReplacesEntry (occupied_state self.entry).map (state_of self.exit.0.now)
+        ensures replaces { ReplacesEntry (occupied_state self.entry).map (state_of self.exit.0.now)
             (occupied_place self.entry) (occupied_state self.entry).key value result }
+        ensures updates { Updates K.eq (occupied_state self.entry).map.entries
+            (entries_of self.exit.0.now) (occupied_state self.entry).key (Some value) }
     {
         let node = self.node;
         let key = self.key;
@@ -152,9 +165,12 @@ impl<'a, K: Eq + Hash, V, S: BuildHasher> OccupiedEntry<'a, K, V, S> {
 
     /// Replaces the stored key by the given key, and returns the old key. The entry keeps its place and its
     /// value. It stores no link.
+    #[inline]
     pub fn replace_key(self) -> K
-        ensures { ReplacesKey (occupied_state self.entry).map (state_of self.exit.0.now)
+        ensures replaces { ReplacesKey (occupied_state self.entry).map (state_of self.exit.0.now)
             (occupied_place self.entry) (occupied_state self.entry).key result }
+        ensures keeps { KeepsLookups K.eq (K.eq (occupied_state self.entry).key)
+            (occupied_state self.entry).map.entries (entries_of self.exit.0.now) }
     {
         let node = self.node;
         let key = self.key;
@@ -203,6 +219,7 @@ impl<'a, K: Eq + Hash, V, S: BuildHasher> OccupiedEntry<'a, K, V, S> {
 
     /// Removes the entry and returns its value. The given key and the stored key are dropped. It stores at
     /// most three links.
+    #[inline]
     pub fn remove(self) -> V
     where
         K: Drop,
@@ -210,6 +227,8 @@ impl<'a, K: Eq + Hash, V, S: BuildHasher> OccupiedEntry<'a, K, V, S> {
             ≡ Some result }
         ensures removes { RemovesAt (occupied_state self.entry).map (state_of self.exit.0.now)
             (occupied_place self.entry) }
+        ensures updates { Updates K.eq (occupied_state self.entry).map.entries
+            (entries_of self.exit.0.now) (occupied_state self.entry).key None }
     {
         let node = self.node;
         let (_, value) = self.map.take_at(node);
@@ -218,11 +237,14 @@ impl<'a, K: Eq + Hash, V, S: BuildHasher> OccupiedEntry<'a, K, V, S> {
 
     /// Removes the entry and returns the stored pair. The given key is dropped. It stores at most three
     /// links.
+    #[inline]
     pub fn remove_entry(self) -> (K, V)
     where
         K: Drop,
-        ensures { TakesEntry (occupied_state self.entry).map (state_of self.exit.0.now)
+        ensures takes { TakesEntry (occupied_state self.entry).map (state_of self.exit.0.now)
             (occupied_place self.entry) result }
+        ensures updates { Updates K.eq (occupied_state self.entry).map.entries
+            (entries_of self.exit.0.now) (occupied_state self.entry).key None }
     {
         let node = self.node;
         self.map.take_at(node)

@@ -1,7 +1,8 @@
 //! Vacant entries. None of their methods hashes.
-ghost use Rattle.std.specs.Prelude.{◌≡◌, None, Ok, IfOk, IfErr, length};
+ghost use Rattle.std.specs.Prelude.{◌≡◌, None, Some, Ok, IfOk, IfErr, length};
 ghost use Rattle.std.specs.Borrow.{sem};
 ghost use Rattle.hashlink_model.specs.Entries.{place_of};
+ghost use Rattle.hashlink_model.specs.Lookups.{Updates, UpdatesLast};
 ghost use Rattle.hashlink_model.specs.MapState.{AddsEntry};
 ghost use Rattle.hashlink_core.specs.Keyed.{entries_of, state_of};
 ghost use Rattle.hashlink_core.specs.Tied.{hash_with};
@@ -64,12 +65,14 @@ impl<'a, K: Eq + Hash, V, S: BuildHasher> VacantEntry<'a, K, V, S> {
     /// Inserts the given key with the value at the back, and returns a mutable reference to the value. It
     /// stores at most four links.
     ///
-    /// It allocates only if no node is spare. If the table is full then, it grows first, in linear time in
-    /// the new capacity. If an allocation fails, it returns the given key and the value in `Err` and changes
-    /// no entry; the room may have grown.
+    /// It allocates only if no node is free. A full table then grows first, in linear time in the new
+    /// capacity. If an allocation fails, it returns the given key and the value in `Err` and changes no
+    /// entry; the room may have grown.
     pub fn insert(self, value: V) -> Result<&'a mut V, (K, V)>
         ensures* lends { sem 𝓛 (LendsNew K.row V.row S.row S.Hasher.row self.entry value result) }
         ensures value { IfOk result (λ v. v.now ≡ value) }
+        ensures updates { IfOk result (λ _. UpdatesLast K.eq (vacant_state self.entry).map.entries
+            (vacant_state self.entry).key) }
         ensures handed_back { IfErr result (λ pair. pair ≡ ((vacant_state self.entry).key, value)) }
     {
         let VacantEntry { map, hash, key } = self;
@@ -77,14 +80,15 @@ impl<'a, K: Eq + Hash, V, S: BuildHasher> VacantEntry<'a, K, V, S> {
         Ok(map.value_at_mut(node))
     }
 
-    /// Does the same as `insert` with a value that may not have been made. If it was not, the map does not
-    /// change.
+    /// Does the same as `insert` with the value of `made`. If `made` is an `Err`, the map does not change.
     pub(crate) fn try_insert<E>(
         self,
         made: Result<V, E>,
     ) -> Result<&'a mut V, TryInsertError<K, V, E>>
         ensures* lends { sem 𝓛 (LendsTryNew K.row V.row S.row S.Hasher.row self.entry result) }
         ensures value { IfOk result (λ v. made ≡ Ok v.now) }
+        ensures updates { IfOk result (λ _. UpdatesLast K.eq (vacant_state self.entry).map.entries
+            (vacant_state self.entry).key) }
         ensures handed_back { IfErr result (HandsBack (λ m. made ≡ m) (vacant_state self.entry).key) }
     {
         let VacantEntry { map, hash, key } = self;
@@ -100,9 +104,9 @@ impl<'a, K: Eq + Hash, V, S: BuildHasher> VacantEntry<'a, K, V, S> {
 
     /// Inserts the given key with the value at the back, and returns the entry. It stores at most four links.
     ///
-    /// It allocates only if no node is spare. If the table is full then, it grows first, in linear time in
-    /// the new capacity. If an allocation fails, it returns the given key and the value in `Err` and changes
-    /// no entry; the room may have grown.
+    /// It allocates only if no node is free. A full table then grows first, in linear time in the new
+    /// capacity. If an allocation fails, it returns the given key and the value in `Err` and changes no
+    /// entry; the room may have grown.
     pub fn insert_entry(self, value: V) -> Result<RawOccupiedEntryMut<'a, K, V, S>, (K, V)>
         ensures* hands_on { sem 𝓛 (HandsOnNew K.row V.row S.row S.Hasher.row (vacant_map self.entry)
             (vacant_state self.entry).key value result) }
@@ -111,6 +115,8 @@ impl<'a, K: Eq + Hash, V, S: BuildHasher> VacantEntry<'a, K, V, S> {
         ensures adds { IfOk result (λ o. AddsEntry K.eq (vacant_state self.entry).map
             (state_of (raw_occupied_map o).now) (vacant_state self.entry).key value
             (length (vacant_state self.entry).map.entries)) }
+        ensures updates { IfOk result (λ o. Updates K.eq (vacant_state self.entry).map.entries
+            (entries_of (raw_occupied_map o).now) (vacant_state self.entry).key (Some value)) }
         ensures last { IfOk result (λ o. raw_place o ≡ length (vacant_state self.entry).map.entries) }
         ensures handed_back { IfErr result (λ p. p ≡ ((vacant_state self.entry).key, value)) }
     {

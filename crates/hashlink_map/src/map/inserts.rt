@@ -1,4 +1,4 @@
-//! Inserts. Each one hashes the key once, and looks it up as `get` does.
+//! Inserts. Each of them hashes the key once, and looks it up as `get` does.
 ghost use Rattle.std.specs.Prelude.{◌≡◌, [], ◌∷◌, ◌++◌, None, Some, IfOk, IfErr, IsOk, IsSome, OnOk, length};
 ghost use Rattle.std.specs.Borrow.{sem};
 ghost use Rattle.std.specs.Map.{lookup};
@@ -19,9 +19,9 @@ impl<K: Eq + Hash, V, S: BuildHasher> LinkedHashMap<K, V, S> {
     /// present, its entry keeps the stored key, takes the new value and moves to the back. It hashes the key
     /// once, and stores at most six links if the key is present and four if it is absent.
     ///
-    /// It allocates only if the key is absent and no node is spare. If the table is full then, it grows
-    /// first, in linear time in the new capacity. If an allocation fails, it returns the pair in `Err` and
-    /// changes no entry; the room may have grown.
+    /// It allocates only if the key is absent and no node is free. A full table then grows first, in linear
+    /// time in the new capacity. If an allocation fails, it returns the pair in `Err` and changes no entry;
+    /// the room may have grown.
     #[inline(always)]
     pub fn insert(&mut self, key: K, value: V) -> Result<Option<V>, (K, V)>
     where
@@ -38,7 +38,6 @@ impl<K: Eq + Hash, V, S: BuildHasher> LinkedHashMap<K, V, S> {
         ensures there { IsSome (lookup (K.eq key) (entries_of self.old)) → IsOk result }
         ensures distinct { IsEntries K.eq (entries_of self.new) }
     {
-        self.keys_are_distinct();
         self.list.insert(key, value)
     }
 
@@ -46,10 +45,10 @@ impl<K: Eq + Hash, V, S: BuildHasher> LinkedHashMap<K, V, S> {
     /// present, its entry keeps the stored key, takes the new value and moves to the front. It hashes the key
     /// once, and stores at most six links if the key is present and four if it is absent.
     ///
-    /// It allocates only if the key is absent and no node is spare. If the table is full then, it grows
-    /// first, in linear time in the new capacity. If an allocation fails, it returns the pair in `Err` and
-    /// changes no entry; the room may have grown.
-    #[inline]
+    /// It allocates only if the key is absent and no node is free. A full table then grows first, in linear
+    /// time in the new capacity. If an allocation fails, it returns the pair in `Err` and changes no entry;
+    /// the room may have grown.
+    #[inline(always)]
     pub fn insert_front(&mut self, key: K, value: V) -> Result<Option<V>, (K, V)>
     where
         K: Drop,
@@ -62,7 +61,6 @@ impl<K: Eq + Hash, V, S: BuildHasher> LinkedHashMap<K, V, S> {
         ensures there { IsSome (lookup (K.eq key) (entries_of self.old)) → IsOk result }
         ensures distinct { IsEntries K.eq (entries_of self.new) }
     {
-        self.keys_are_distinct();
         self.list.insert_front(key, value)
     }
 
@@ -70,10 +68,10 @@ impl<K: Eq + Hash, V, S: BuildHasher> LinkedHashMap<K, V, S> {
     /// keeps the stored key and its place. If it is absent, the pair is inserted at the back. It hashes the
     /// key once, and stores no link if the key is present and at most four if it is absent.
     ///
-    /// It allocates only if the key is absent and no node is spare. If the table is full then, it grows
-    /// first, in linear time in the new capacity. If an allocation fails, it returns the pair in `Err` and
-    /// changes no entry; the room may have grown.
-    #[inline]
+    /// It allocates only if the key is absent and no node is free. A full table then grows first, in linear
+    /// time in the new capacity. If an allocation fails, it returns the pair in `Err` and changes no entry;
+    /// the room may have grown.
+    #[inline(always)]
     pub fn replace(&mut self, key: K, value: V) -> Result<Option<V>, (K, V)>
     where
         K: Drop,
@@ -86,7 +84,6 @@ impl<K: Eq + Hash, V, S: BuildHasher> LinkedHashMap<K, V, S> {
         ensures there { IsSome (lookup (K.eq key) (entries_of self.old)) → IsOk result }
         ensures distinct { IsEntries K.eq (entries_of self.new) }
     {
-        self.keys_are_distinct();
         self.list.replace(key, value)
     }
 
@@ -95,10 +92,10 @@ impl<K: Eq + Hash, V, S: BuildHasher> LinkedHashMap<K, V, S> {
     /// key is inserted at the back with what it returns. It hashes the key once, and stores at most six links
     /// if the key is present and four if it is absent.
     ///
-    /// It allocates only if the key is absent and no node is spare. If the table is full then, it grows
-    /// first, in linear time in the new capacity. If an allocation fails, it returns the key and the value
-    /// that was made in `Err` and changes no entry; the room may have grown.
-    #[inline]
+    /// It allocates only if the key is absent and no node is free. A full table then grows first, in linear
+    /// time in the new capacity. If an allocation fails, it returns the key and the value that was made in
+    /// `Err` and changes no entry; the room may have grown.
+    #[inline(always)]
     pub fn get_or_insert_with<F: FnOnce() -> V>(
         &mut self,
         key: K,

@@ -1,5 +1,5 @@
-//! Removals. The other entries keep their order. Except for `clear`, each removal leaves a spare node, which
-//! the next insert of an absent key uses. No removal allocates.
+//! Removals. The other entries keep their order. Each removal except `clear` leaves a free node, which the
+//! next insert of an absent key uses. No removal allocates.
 ghost use Rattle.std.specs.Prelude.{◌≡◌, Contains, IfSome, None};
 ghost use Rattle.std.specs.Map.{lookup, lookup_entry, remove_entry};
 ghost use Rattle.std.specs.Map.Iter.{TakesFirst, TakesLast};
@@ -15,7 +15,7 @@ use std::hash::{BuildHasher, Hash};
 impl<K: Eq + Hash, V, S: BuildHasher> LinkedHashMap<K, V, S> {
     /// Removes the entry of the key, and returns its value, or `None` if the key is absent. It looks the key
     /// up as `get` does, and stores at most three links.
-    #[inline]
+    #[inline(always)]
     pub fn remove<Q: Equivalent<K>>(&mut self, key: Q) -> Option<V>
     where
         K: Drop,
@@ -32,7 +32,7 @@ impl<K: Eq + Hash, V, S: BuildHasher> LinkedHashMap<K, V, S> {
 
     /// Removes the entry of the key, and returns the stored pair, or `None` if the key is absent. It looks
     /// the key up as `get` does, and stores at most three links.
-    #[inline]
+    #[inline(always)]
     pub fn remove_entry<Q: Equivalent<K>>(&mut self, key: Q) -> Option<(K, V)>
         ensures found { result ≡ lookup_entry (Q.matches key) (entries_of self.old) }
         ensures entries { entries_of self.new ≡ remove_entry (Q.matches key) (entries_of self.old) }
@@ -41,7 +41,6 @@ impl<K: Eq + Hash, V, S: BuildHasher> LinkedHashMap<K, V, S> {
         ensures removes { RemovesMatch (Q.matches key) (state_of self.old) (state_of self.new) result }
         ensures distinct { IsEntries K.eq (entries_of self.new) }
     {
-        self.keys_are_distinct();
         self.list.remove_key(key)
     }
 
@@ -54,7 +53,6 @@ impl<K: Eq + Hash, V, S: BuildHasher> LinkedHashMap<K, V, S> {
         ensures updates { UpdatesPopped K.eq (entries_of self.old) (entries_of self.new) result }
         ensures distinct { IsEntries K.eq (entries_of self.new) }
     {
-        self.keys_are_distinct();
         self.list.pop_front()
     }
 
@@ -67,12 +65,11 @@ impl<K: Eq + Hash, V, S: BuildHasher> LinkedHashMap<K, V, S> {
         ensures updates { UpdatesPopped K.eq (entries_of self.old) (entries_of self.new) result }
         ensures distinct { IsEntries K.eq (entries_of self.new) }
     {
-        self.keys_are_distinct();
         self.list.pop_back()
     }
 
-    /// Drops every entry and frees its node. The spare nodes and the room stay. It takes linear time in the
-    /// number of entries and buckets.
+    /// Drops every entry and releases its node. The nodes that were free before and the room stay. It takes
+    /// linear time in the number of entries and buckets.
     pub fn clear(&mut self)
     where
         K: Drop,

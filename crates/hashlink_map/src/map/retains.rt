@@ -1,6 +1,6 @@
-//! Removals of the entries that a closure chooses. The others keep their order, and have what the closure
-//! wrote. None of these methods allocates or hashes a key. Each node that becomes spare serves the next
-//! insert of an absent key.
+//! Removals of the entries that a closure chooses. The others keep their order, and have the values that the
+//! closure wrote. None of the methods allocates or hashes a key. Each removal leaves a free node, which a
+//! later insert of an absent key uses.
 ghost use Rattle.std.specs.Map.Calls.{CalledAtPair, TakesPair, CallableOnEachPair};
 ghost use Rattle.hashlink_model.specs.Entries.{IsEntries};
 ghost use Rattle.hashlink_model.specs.Lookups.{UpdatesKept};
@@ -45,10 +45,10 @@ impl<K: Eq + Hash, V, S: BuildHasher> LinkedHashMap<K, V, S> {
         self.retain_from(&mut keep);
     }
 
-    /// Does the same as `retain_with_order`, with a closure that the caller keeps: after the last call of
-    /// `keep`, the caller can read from it what its calls left in it. It takes linear time in the number of
-    /// entries, and stores at most three links for each removal. `keep` has to be callable on each entry, in
-    /// the state that its earlier calls have left it in.
+    /// Does the same as `retain_with_order` with a closure that the caller keeps. Afterwards the caller can
+    /// read from `keep` what its calls left there. It takes linear time in the number of entries, and stores
+    /// at most three links for each removal. `keep` has to be callable on each entry, in the state that its
+    /// earlier calls have left it in.
     pub fn retain_from<F: FnMut(&K, &mut V) -> bool>(&mut self, keep: &mut F)
     where
         K: Drop,
@@ -61,7 +61,6 @@ impl<K: Eq + Hash, V, S: BuildHasher> LinkedHashMap<K, V, S> {
             (entries_of self.new) }
         ensures distinct { IsEntries K.eq (entries_of self.new) }
     {
-        self.keys_are_distinct();
         self.list.retain_in_order(keep);
     }
 }

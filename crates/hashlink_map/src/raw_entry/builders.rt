@@ -1,4 +1,4 @@
-//! How raw entries are found: by a query for the key, by its hash, or at either end.
+//! Calls that find raw entries: by a query for the key, by its hash, or at either end.
 ghost use Rattle.std.specs.Prelude.{◌≡◌, ◌-◌, [], Some, IfSome, IfNone, MatchOption, length, ⊤};
 ghost use Rattle.std.specs.Borrow.{sem};
 ghost use Rattle.std.specs.Option.{option_map};
@@ -87,8 +87,8 @@ impl<'a, K: Eq + Hash, V, S: BuildHasher> RawEntryBuilder<'a, K, V, S> {
         self.map.get_key_value(key)
     }
 
-    /// Returns the stored pair of the key, or `None` if it is absent. The key has to have this hash. It
-    /// hashes nothing.
+    /// Returns the stored pair of the key, or `None` if it is absent. `hash` has to be the hash of the key.
+    /// The call hashes nothing.
     #[inline(always)]
     pub fn from_key_hashed_nocheck<Q: Equivalent<K>>(
         self,
@@ -106,8 +106,8 @@ impl<'a, K: Eq + Hash, V, S: BuildHasher> RawEntryBuilder<'a, K, V, S> {
     }
 
     /// Returns the stored pair whose key has this hash and passes the test `is_match`, or `None` if there is
-    /// none. `is_match` has to be callable on each key in the map, and to tell those that are equal to one
-    /// key of this hash from the others. The call hashes nothing.
+    /// none. `is_match` has to be callable on each key in the map, and to distinguish the keys equal to one
+    /// key of this hash from all others. The call hashes nothing.
     #[inline(always)]
     pub fn from_hash<F: Fn(&K) -> bool>(self, hash: u64, is_match: F) -> Option<(&'a K, &'a V)>
     where
@@ -127,8 +127,8 @@ impl<'a, K: Eq + Hash, V, S: BuildHasher> RawEntryBuilder<'a, K, V, S> {
 }
 
 impl<K: Eq + Hash, V, S: BuildHasher> LinkedHashMap<K, V, S> {
-    /// Returns the place of the key, which it hashes once. It is `raw_entry_mut` and `from_key` in one call:
-    /// a caller can prove exactly what the map is afterwards.
+    /// Returns the place of the key, which it hashes once. Unlike with `raw_entry_mut` and `from_key`, a
+    /// caller can prove exactly what the map is afterwards.
     #[inline(always)]
     pub fn raw_entry_of<Q: Equivalent<K>>(&mut self, key: Q) -> RawEntryMut<'_, K, V, S>
         ensures same_map { (raw_map result).ghost_name ≡ self.entry.ghost_name }
@@ -143,8 +143,9 @@ impl<K: Eq + Hash, V, S: BuildHasher> LinkedHashMap<K, V, S> {
         self.raw_entry_hashed_nocheck(hash, key)
     }
 
-    /// Returns the place of the key, which has to have this hash. It hashes nothing. It is `raw_entry_mut`
-    /// and `from_key_hashed_nocheck` in one call: a caller can prove exactly what the map is afterwards.
+    /// Returns the place of the key. `hash` has to be the hash of the key. The call hashes nothing. Unlike
+    /// with `raw_entry_mut` and `from_key_hashed_nocheck`, a caller can prove exactly what the map is
+    /// afterwards.
     #[inline(always)]
     pub fn raw_entry_hashed_nocheck<Q: Equivalent<K>>(
         &mut self,
@@ -168,8 +169,8 @@ impl<K: Eq + Hash, V, S: BuildHasher> LinkedHashMap<K, V, S> {
     }
 
     /// Returns the place whose key has this hash and passes the test `is_match`. `is_match` has to be
-    /// callable on each key in the map, and to tell those that are equal to one key of this hash from the
-    /// others. The call hashes nothing. It is `raw_entry_mut` and `from_hash` in one call: a caller can prove
+    /// callable on each key in the map, and to distinguish the keys equal to one key of this hash from all
+    /// others. The call hashes nothing. Unlike with `raw_entry_mut` and `from_hash`, a caller can prove
     /// exactly what the map is afterwards.
     #[inline(always)]
     pub fn raw_entry_from_hash<F: Fn(&K) -> bool>(
@@ -223,7 +224,7 @@ impl<'a, K: Eq + Hash, V, S: BuildHasher> RawEntryBuilderMut<'a, K, V, S> {
         map.raw_entry_of(key)
     }
 
-    /// Returns the place of the key, which has to have this hash. It hashes nothing.
+    /// Returns the place of the key. `hash` has to be the hash of the key. The call hashes nothing.
     #[inline(always)]
     pub fn from_key_hashed_nocheck<Q: Equivalent<K>>(
         self,
@@ -247,7 +248,7 @@ impl<'a, K: Eq + Hash, V, S: BuildHasher> RawEntryBuilderMut<'a, K, V, S> {
     }
 
     /// Returns the place whose key has this hash and passes the test `is_match`. `is_match` has to be
-    /// callable on each key in the map, and to tell those that are equal to one key of this hash from the
+    /// callable on each key in the map, and to distinguish the keys equal to one key of this hash from all
     /// others. The call hashes nothing.
     #[inline(always)]
     pub fn from_hash<F: Fn(&K) -> bool>(self, hash: u64, is_match: F) -> RawEntryMut<'a, K, V, S>

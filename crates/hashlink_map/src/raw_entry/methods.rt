@@ -40,13 +40,13 @@ impl<'a, K: Eq + Hash, V, S: BuildHasher> RawEntryMut<'a, K, V, S> {
     }
 
     /// Returns the key and a mutable reference to the value. An occupied entry moves to the back. A vacant
-    /// one inserts the given pair at the back, whose key then has to be absent. So the map is afterwards as
-    /// after an insert of the value that is written. It hashes the key only if the entry is vacant, and then
-    /// once. It stores at most six links if the entry is occupied and four if it is vacant.
+    /// one inserts the given pair at the back, and its key then has to be absent. So the map ends as an
+    /// `insert` of the written value leaves it. It hashes the key only if the entry is vacant, and then once.
+    /// It stores at most six links if the entry is occupied and four if it is vacant.
     ///
-    /// It allocates only if the entry is vacant and no node is spare. If the table is full then, it grows
-    /// first, in linear time in the new capacity. If an allocation fails, it returns the pair in `Err` and
-    /// changes no entry; the room may have grown.
+    /// It allocates only if the entry is vacant and no node is free. A full table then grows first, in linear
+    /// time in the new capacity. If an allocation fails, it returns the pair in `Err` and changes no entry;
+    /// the room may have grown.
     pub fn or_insert(self, default_key: K, default_value: V) -> Result<(&'a K, &'a mut V), (K, V)>
     where
         K: Drop,
@@ -63,7 +63,7 @@ impl<'a, K: Eq + Hash, V, S: BuildHasher> RawEntryMut<'a, K, V, S> {
         RawOccupiedEntryMut::pair_of(self.or_insert_entry(default_key, default_value))
     }
 
-    /// Does the same as `or_insert_entry` with the pair that `default` returns. `default` is called only if
+    /// Does the same as `or_insert_entry` with the pair that `default` returns. It calls `default` only if
     /// the entry is vacant.
     fn or_insert_entry_with<F: FnOnce() -> (K, V)>(
         self,
@@ -93,10 +93,10 @@ impl<'a, K: Eq + Hash, V, S: BuildHasher> RawEntryMut<'a, K, V, S> {
         }
     }
 
-    /// Does the same as `or_insert` with the pair that `default` returns. `default` is called only if the
-    /// entry is vacant. It then has to be callable, and the key that it returns has to be absent. If an
-    /// allocation fails, it returns what `default` returned in `Err` and changes no entry; the room may have
-    /// grown.
+    /// Does the same as `or_insert` with the pair that `default` returns. It calls `default` only if the
+    /// entry is vacant. `default` then has to be callable, and the key that it returns has to be absent. If
+    /// an allocation fails, it returns the pair that was made in `Err` and changes no entry; the room may
+    /// have grown.
     pub fn or_insert_with<F: FnOnce() -> (K, V)>(
         self,
         default: F,
@@ -117,7 +117,7 @@ impl<'a, K: Eq + Hash, V, S: BuildHasher> RawEntryMut<'a, K, V, S> {
     }
 
     /// Calls `f` on the key and the value if the entry is occupied, and returns the entry. Nothing moves. `f`
-    /// then has to be callable on the two. Apart from `f`, the call hashes nothing and does not allocate.
+    /// then has to be callable on both. Apart from `f`, the call hashes nothing and does not allocate.
     pub fn and_modify<F: FnOnce(&K, &mut V)>(self, f: F) -> Self
     where
         F: Drop,

@@ -43,6 +43,7 @@ impl<'a, K: Eq + Hash, V, S: BuildHasher> RawOccupiedEntryMut<'a, K, V, S> {
     }
 
     /// Returns a reference to the value. It takes constant time.
+    #[inline]
     pub fn get(&self) -> &V
         ensures { value_at (raw_occupied_state self.now).map.entries (raw_place self.now) ≡ Some result.now }
     {
@@ -80,6 +81,7 @@ impl<'a, K: Eq + Hash, V, S: BuildHasher> RawOccupiedEntryMut<'a, K, V, S> {
     }
 
     /// Returns a mutable reference to the value for as long as the map is borrowed. It takes constant time.
+    #[inline]
     pub fn into_mut(self) -> &'a mut V
         ensures* lends { sem 𝓛 (RawLendsForGood K.row V.row S.row S.Hasher.row self.entry result) }
         ensures value { value_at (raw_occupied_state self.entry).map.entries (raw_place self.entry)
@@ -102,6 +104,7 @@ impl<'a, K: Eq + Hash, V, S: BuildHasher> RawOccupiedEntryMut<'a, K, V, S> {
 
     /// Returns the stored key and a mutable reference to the value, for as long as the map is borrowed. It
     /// takes constant time.
+    #[inline]
     pub fn into_key_value(self) -> (&'a K, &'a mut V)
         ensures* lends { sem 𝓛 (RawLendsForGood K.row V.row S.row S.Hasher.row self.entry result.1) }
         ensures pair { slice_get (raw_occupied_state self.entry).map.entries (raw_place self.entry)
@@ -190,6 +193,7 @@ impl<'a, K: Eq + Hash, V, S: BuildHasher, N: AsNode> RawOccupiedEntryMut<'a, K, 
     ghost use Rattle.hashlink_map.specs.RawEntry.{raw_place, raw_occupied_state};
 
     /// Removes the entry and returns its value. The key is dropped. It stores at most three links.
+    #[inline]
     pub fn remove(self) -> V
     where
         K: Drop,
@@ -204,6 +208,7 @@ impl<'a, K: Eq + Hash, V, S: BuildHasher, N: AsNode> RawOccupiedEntryMut<'a, K, 
     }
 
     /// Removes the entry and returns its pair. It stores at most three links.
+    #[inline]
     pub fn remove_entry(self) -> (K, V)
         ensures { TakesEntry (raw_occupied_state self.entry).map (state_of self.exit.0.now)
             (raw_place self.entry) result }

@@ -26,9 +26,9 @@ impl<'a, K: Eq + Hash, V, S: BuildHasher> RawVacantEntryMut<'a, K, V, S> {
     /// Inserts the pair at the back, and returns its key and a mutable reference to its value. The key has to
     /// be absent. It hashes the key once, and stores at most four links.
     ///
-    /// It allocates only if no node is spare. If the table is full then, it grows first, in linear time in
-    /// the new capacity. If an allocation fails, it returns the pair in `Err` and changes no entry; the room
-    /// may have grown.
+    /// It allocates only if no node is free. A full table then grows first, in linear time in the new
+    /// capacity. If an allocation fails, it returns the pair in `Err` and changes no entry; the room may have
+    /// grown.
     pub fn insert(self, key: K, value: V) -> Result<(&'a K, &'a mut V), (K, V)>
         requires absent { place_of (K.eq key) (entries_of (raw_vacant_map self).now) ≡ None }
         ensures* lends { sem 𝓛 (LendsNewPair K.row V.row S.row S.Hasher.row K.Hash
@@ -40,11 +40,11 @@ impl<'a, K: Eq + Hash, V, S: BuildHasher> RawVacantEntryMut<'a, K, V, S> {
     }
 
     /// Inserts the pair at the back, and returns its key and a mutable reference to its value. The key has to
-    /// be absent and to have this hash. It hashes nothing, and stores at most four links.
+    /// be absent, and `hash` has to be its hash. It hashes nothing, and stores at most four links.
     ///
-    /// It allocates only if no node is spare. If the table is full then, it grows first, in linear time in
-    /// the new capacity. If an allocation fails, it returns the pair in `Err` and changes no entry; the room
-    /// may have grown.
+    /// It allocates only if no node is free. A full table then grows first, in linear time in the new
+    /// capacity. If an allocation fails, it returns the pair in `Err` and changes no entry; the room may have
+    /// grown.
     pub fn insert_hashed_nocheck(
         self,
         hash: u64,
@@ -62,8 +62,8 @@ impl<'a, K: Eq + Hash, V, S: BuildHasher> RawVacantEntryMut<'a, K, V, S> {
         RawOccupiedEntryMut::pair_of(self.insert_entry_hashed_nocheck(hash, key, value))
     }
 
-    /// Does the same as `insert_hashed_nocheck`. The hasher has to return, for the new key and for every key
-    /// of the map, what the map's own hasher does. The map keeps each hash, so the hasher is not called.
+    /// Does the same as `insert_hashed_nocheck`. For the new key and every key of the map, `hasher` has to
+    /// return what the map's own hasher returns. The map keeps each hash, so `hasher` is not called.
     pub fn insert_with_hasher<F: Fn(&K) -> u64>(
         self,
         hash: u64,
@@ -90,9 +90,9 @@ impl<'a, K: Eq + Hash, V, S: BuildHasher> RawVacantEntryMut<'a, K, V, S> {
     /// Inserts the pair at the back, and returns its entry. The key has to be absent. It hashes the key once,
     /// and stores at most four links.
     ///
-    /// It allocates only if no node is spare. If the table is full then, it grows first, in linear time in
-    /// the new capacity. If an allocation fails, it returns the pair in `Err` and changes no entry; the room
-    /// may have grown.
+    /// It allocates only if no node is free. A full table then grows first, in linear time in the new
+    /// capacity. If an allocation fails, it returns the pair in `Err` and changes no entry; the room may have
+    /// grown.
     pub fn insert_entry(self, key: K, value: V) -> Result<RawOccupiedEntryMut<'a, K, V, S>, (K, V)>
         requires absent { place_of (K.eq key) (entries_of (raw_vacant_map self).now) ≡ None }
         ensures* hands_on { sem 𝓛 (HandsOnNew K.row V.row S.row S.Hasher.row
@@ -111,12 +111,12 @@ impl<'a, K: Eq + Hash, V, S: BuildHasher> RawVacantEntryMut<'a, K, V, S> {
         Ok(RawOccupiedEntryMut { map, node })
     }
 
-    /// Inserts the pair at the back, and returns its entry. The key has to be absent and to have this hash.
-    /// It hashes nothing, and stores at most four links.
+    /// Inserts the pair at the back, and returns its entry. The key has to be absent, and `hash` has to be
+    /// its hash. It hashes nothing, and stores at most four links.
     ///
-    /// It allocates only if no node is spare. If the table is full then, it grows first, in linear time in
-    /// the new capacity. If an allocation fails, it returns the pair in `Err` and changes no entry; the room
-    /// may have grown.
+    /// It allocates only if no node is free. A full table then grows first, in linear time in the new
+    /// capacity. If an allocation fails, it returns the pair in `Err` and changes no entry; the room may have
+    /// grown.
     pub fn insert_entry_hashed_nocheck(
         self,
         hash: u64,
@@ -141,9 +141,8 @@ impl<'a, K: Eq + Hash, V, S: BuildHasher> RawVacantEntryMut<'a, K, V, S> {
         Ok(RawOccupiedEntryMut { map, node })
     }
 
-    /// Does the same as `insert_entry_hashed_nocheck`. The hasher has to return, for the new key and for
-    /// every key of the map, what the map's own hasher does. The map keeps each hash, so the hasher is not
-    /// called.
+    /// Does the same as `insert_entry_hashed_nocheck`. For the new key and every key of the map, `hasher` has
+    /// to return what the map's own hasher returns. The map keeps each hash, so `hasher` is not called.
     pub fn insert_entry_with_hasher<F: Fn(&K) -> u64>(
         self,
         hash: u64,

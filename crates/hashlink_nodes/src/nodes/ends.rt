@@ -1,4 +1,4 @@
-//! How nodes are freed, and entries leave at the ends.
+//! Calls that free blocks, and that remove entries at the ends.
 ghost use Rattle.std.specs.Prelude.{◌≡◌, ℕ, ◌+◌, ◌*◌, ◌<◌, [], ◌∷◌, ◌++◌, length, drop};
 ghost use Rattle.hashlink_nodes.specs.Ring.{held};
 ghost use Rattle.hashlink_nodes.specs.declared.node.Node.{Node};
@@ -7,7 +7,7 @@ use super::Nodes;
 use crate::held::Held;
 
 impl<K, V> Nodes<K, V> {
-    /// Frees the spare nodes.
+    /// Frees the blocks of the free nodes.
     pub fn release_free(&mut self)
         ensures entries { self.new.entries ≡ self.old.entries }
         ensures free { self.new.free ≡ [] }
@@ -31,7 +31,7 @@ impl<K, V> Nodes<K, V> {
         self.spare -= 1;
     }
 
-    /// Drops the entries and frees their nodes, from the last to the first. The spare nodes stay. It stores
+    /// Drops the entries and frees their blocks, from the last to the first. The free nodes stay. It stores
     /// two links for each entry.
     pub fn release_all(&mut self)
     where
@@ -46,7 +46,7 @@ impl<K, V> Nodes<K, V> {
         }
     }
 
-    /// Removes the first entry, frees its node and returns what it held. It stores two links.
+    /// Removes the first entry, frees its block and returns what it held. It stores two links.
     pub fn give_back_first(&mut self) -> Held<K, V>
         requires { 0 < length self.old.entries }
         ensures first { (node : Node) × (self.old.entries ≡ (node, result) ∷ self.new.entries) }
@@ -66,7 +66,7 @@ impl<K, V> Nodes<K, V> {
         Held { number, key, value }
     }
 
-    /// Removes the last entry, frees its node and returns what it held. It stores two links.
+    /// Removes the last entry, frees its block and returns what it held. It stores two links.
     pub fn give_back_last(&mut self) -> Held<K, V>
         requires { 0 < length self.old.entries }
         ensures last { (node : Node) × (self.old.entries ≡ self.new.entries ++ (node, result) ∷ []) }
@@ -86,7 +86,8 @@ impl<K, V> Nodes<K, V> {
         Held { number, key, value }
     }
 
-    /// Removes the first entry and returns its pair. Its node is the next spare one. It stores three links.
+    /// Removes the first entry and returns its pair. Its node is the first free node then. It stores three
+    /// links.
     #[inline]
     pub fn spare_first(&mut self) -> (K, V)
         requires { 0 < length self.old.entries }
@@ -103,7 +104,8 @@ impl<K, V> Nodes<K, V> {
         self.detach_into_free(node)
     }
 
-    /// Removes the last entry and returns its pair. Its node is the next spare one. It stores three links.
+    /// Removes the last entry and returns its pair. Its node is the first free node then. It stores three
+    /// links.
     #[inline]
     pub fn spare_last(&mut self) -> (K, V)
         requires { 0 < length self.old.entries }
@@ -120,7 +122,7 @@ impl<K, V> Nodes<K, V> {
         self.detach_into_free(node)
     }
 
-    /// Drops the entries, from the last to the first. Their nodes are then spare. It stores three links for
+    /// Drops the entries, from the last to the first. Their nodes are free then. It stores three links for
     /// each entry.
     pub fn spare_all(&mut self)
     where
@@ -135,7 +137,7 @@ impl<K, V> Nodes<K, V> {
         }
     }
 
-    /// Ends a ring without nodes, and frees the guard's block.
+    /// Ends a ring that has no nodes, and frees the guard's block.
     pub(super) fn end(self)
         requires entries { self.entries ≡ [] }
         requires free { self.free ≡ [] }

@@ -1,5 +1,5 @@
 //! Reads of a ring.
-ghost use Rattle.std.specs.Prelude.{◌≡◌, ◌+◌, ◌++◌, ◌^◌, ◌<◌, length, Some, IfSome};
+ghost use Rattle.std.specs.Prelude.{◌≡◌, ◌+◌, ◌++◌, ◌^◌, ◌<◌, length, None, Some, IfNone, IfSome};
 ghost use Rattle.std.specs.Option.{option_map};
 ghost use Rattle.std.specs.List.{IsDistinct};
 ghost use Rattle.std.specs.Map.{keys_of, lookup};
@@ -20,7 +20,7 @@ impl<K, V> Nodes<K, V> {
         self.len
     }
 
-    /// Returns the number of spare nodes.
+    /// Returns the number of free nodes.
     #[inline]
     pub fn spare(&self) -> usize
         ensures { result ≡ length self.now.free }
@@ -28,8 +28,7 @@ impl<K, V> Nodes<K, V> {
         self.spare
     }
 
-    /// Returns the place after a place: after the guard comes the first node, and after the last node the
-    /// guard.
+    /// Returns the next place. After the last node this is the guard, and after the guard the first node.
     #[inline]
     pub fn next(&self, place: Option<Node>) -> Option<Node>
         requires { IsPlace self.now.entries place }
@@ -41,8 +40,8 @@ impl<K, V> Nodes<K, V> {
         self.pool.is_full(next).then_some(next)
     }
 
-    /// Returns the place before a place: before the guard comes the last node, and before the first node the
-    /// guard.
+    /// Returns the previous place. Before the first node this is the guard, and before the guard the last
+    /// node.
     #[inline]
     pub fn prev(&self, place: Option<Node>) -> Option<Node>
         requires { IsPlace self.now.entries place }
@@ -54,18 +53,21 @@ impl<K, V> Nodes<K, V> {
         self.pool.is_full(prev).then_some(prev)
     }
 
-    /// Returns the node after this one. After the last it returns the guard's, of which nothing is said: it
-    /// is not told from an entry's, so the node that is returned need not be read.
+    /// Returns the node after this one. After the last node it returns the guard's, which has no entry. It
+    /// does not tell which of the two it is, so it need not read the returned node.
     #[inline]
     pub fn after(&self, node: Node) -> Node
         requires { Holds self.now.entries node }
         ensures next { IfSome (next_place (keys_of self.now.entries) (Some node)) (λ next. result ≡ next) }
+        ensures last { IfNone (next_place (keys_of self.now.entries) (Some node))
+            (lookup (same_node result) self.now.entries ≡ None) }
         ensures apart { IsDistinct same_node (keys_of self.now.entries ++ self.now.free) }
     {
         self.pool.next(node)
     }
 
-    /// Returns the node before this one. Before the first it returns the guard's, of which nothing is said.
+    /// Returns the node before this one. Before the first node it returns a node about which no clause states
+    /// anything.
     #[inline]
     pub fn before(&self, node: Node) -> Node
         requires { Holds self.now.entries node }

@@ -1,4 +1,4 @@
-//! Changes of an entry that keeps its place.
+//! Changes of an entry that stays at its place.
 ghost use Rattle.std.specs.Prelude.{◌≡◌, ◌^◌, ◌<◌, Some, IfSome};
 ghost use Rattle.std.specs.Option.{option_map};
 ghost use Rattle.std.specs.Borrow.{sem};

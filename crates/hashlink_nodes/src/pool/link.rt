@@ -1,10 +1,10 @@
-//! One link. Its node is private to this file, so no code stores a link but by `store`, which counts it.
+//! A link. Its node is private to this file, so only `store`, which counts it, can store a link.
 ghost use Rattle.std.specs.Prelude.{◌≡◌, ◌+◌};
 
 use crate::link_writes::LinkWrites;
 use crate::node::Node;
 
-/// A link of a node, to the one after it or to the one before it. It is made leading nowhere.
+/// A link of a node, to the next node or to the previous one. A new link leads nowhere.
 pub(super) struct Link {
     to: Node,
 }

@@ -11,7 +11,7 @@ use crate::node::Node;
 use std::alloc::{AllocError, Global};
 use std_alloc::room::Vacant;
 
-/// The links of a node's block.
+/// The two links of a node's block.
 pub(crate) struct Links {
     next: Link,
     prev: Link,
@@ -72,7 +72,8 @@ impl<K, V> Pool<K, V> {
         }
     }
 
-    /// Allocates a guard, which holds nothing and links to itself. These two links have a count of their own.
+    /// Allocates a guard, which holds nothing and links to itself. The count of the pool does not include the
+    /// two links.
     pub(super) fn make_guard(&mut self, alloc: Global) -> Result<Node, AllocError>
         ensures made { IfOk result (λ g. MakesGuard g (state_of self.old) (state_of self.new)) }
         ensures refused { OnErr result (self.new ≡ self.old) }

@@ -23,11 +23,11 @@ impl<T: Eq + Hash, S: BuildHasher> LinkedHashSet<T, S> {
     ghost use Rattle.hashlink_set.specs.SetLends.{EndsInserted, EndsMade, StaysAsItWas, PutsElement};
     ghost use Rattle.hashlink_set.specs.SetLends.{MakesElement};
 
-    /// Inserts the element at the back, and returns whether it was absent. If an equal element is present,
-    /// that one stays in the set and moves to the back. It hashes the element once, and stores at most six
-    /// links if it is present and four if it is absent.
+    /// Inserts the element at the back, and returns whether it was absent. If an equal element is present, it
+    /// stays in the set and moves to the back. It hashes the element once, and stores at most six links if it
+    /// is present and four if it is absent.
     ///
-    /// It allocates only if the element is absent and no node is spare. If the table is full then, it grows
+    /// It allocates only if the element is absent and no node is free. If the table is also full, it grows
     /// first, in linear time in the new capacity. If an allocation fails, it returns the element in `Err` and
     /// changes no element; the room may have grown.
     #[inline(always)]
@@ -53,9 +53,10 @@ impl<T: Eq + Hash, S: BuildHasher> LinkedHashSet<T, S> {
     /// one. An absent element is inserted at the back. It hashes the element once, and stores no link if it
     /// is present and at most four if it is absent.
     ///
-    /// It allocates only if the element is absent and no node is spare. If the table is full then, it grows
+    /// It allocates only if the element is absent and no node is free. If the table is also full, it grows
     /// first, in linear time in the new capacity. If an allocation fails, it returns the element in `Err` and
     /// changes no element; the room may have grown.
+    #[inline(always)]
     pub fn replace(&mut self, value: T) -> Result<Option<T>, T>
         ensures replaces { SetReplaces T.eq self.old self.new value result }
         ensures elements { OnOk result (elements_of self.new ≡ replaced T.eq (elements_of self.old) value) }
@@ -68,13 +69,14 @@ impl<T: Eq + Hash, S: BuildHasher> LinkedHashSet<T, S> {
         }
     }
 
-    /// Inserts the element at the back, or moves the equal one to the back. Returns a reference to the one
-    /// that is then in the set. It is `insert`, and then `back`. It hashes the element once, and stores at
-    /// most six links if the element is present and four if it is absent.
+    /// Inserts the element at the back, or moves the equal one to the back. Returns a reference to the
+    /// element that is then in the set. It is `insert`, and then `back`. It hashes the element once, and
+    /// stores at most six links if the element is present and four if it is absent.
     ///
-    /// It allocates only if the element is absent and no node is spare. If the table is full then, it grows
+    /// It allocates only if the element is absent and no node is free. If the table is also full, it grows
     /// first, in linear time in the new capacity. If an allocation fails, it returns the element in `Err` and
     /// changes no element; the room may have grown.
+    #[inline(always)]
     pub fn get_or_insert(&mut self, value: T) -> Result<&T, T>
     where
         T: Drop,
@@ -88,14 +90,14 @@ impl<T: Eq + Hash, S: BuildHasher> LinkedHashSet<T, S> {
     }
 
     /// Moves the element that is equal to `value` to the back, or inserts the one that `f` returns at the
-    /// back. Returns a reference to the one that is then in the set. If none is equal to `value`, `f` is
-    /// called once: it has to be callable on `value`, and what it returns has to be absent. It hashes `value`
-    /// once, and what `f` returns once. It stores at most six links if the element is present, and four if it
-    /// is absent.
+    /// back. Returns a reference to the element that is then in the set. If none is equal to `value`, `f` is
+    /// called once: it has to be callable on `value`, and the element that it returns has to be absent. It
+    /// hashes `value` once, and the returned element once. It stores at most six links if the element is
+    /// present, and four if it is absent.
     ///
-    /// It allocates only if the element is absent and no node is spare. If the table is full then, it grows
-    /// first, in linear time in the new capacity. If an allocation fails, it returns what `f` returned in
-    /// `Err`, and changes no element; the room may have grown.
+    /// It allocates only if the element is absent and no node is free. If the table is also full, it grows
+    /// first, in linear time in the new capacity. If an allocation fails, it returns the element that `f`
+    /// returned in `Err`, and changes no element; the room may have grown.
     pub fn get_or_insert_with<F: FnOnce(&T) -> T>(&mut self, value: &T, f: F) -> Result<&T, T>
     where
         T: Drop,
@@ -111,7 +113,8 @@ impl<T: Eq + Hash, S: BuildHasher> LinkedHashSet<T, S> {
         Self::lent_or_refused(set.last_for_good(), refused)
     }
 
-    /// Returns the last element for as long as the set is borrowed. The set does not change.
+    /// Returns the last element, borrowed for as long as the set. The set does not change.
+    #[inline]
     fn last_for_good(&mut self) -> Option<&T>
         ensures* unchanged { sem 𝓛 (StaysAsItWas T.row S.row S.Hasher.row T.Hash S.BuildHasher S.Hasher.Hasher
             self.entry) }
@@ -121,6 +124,7 @@ impl<T: Eq + Hash, S: BuildHasher> LinkedHashSet<T, S> {
     }
 
     /// Does the same as `insert`, and returns the set and the element that was not inserted, if any.
+    #[inline(always)]
     fn put_last(&mut self, value: T) -> (&mut Self, Option<T>)
     where
         T: Drop,
@@ -145,7 +149,8 @@ impl<T: Eq + Hash, S: BuildHasher> LinkedHashSet<T, S> {
         (self, refused)
     }
 
-    /// Returns the element that was not inserted in `Err` if there is one, and otherwise the other.
+    /// Returns `refused` in `Err` if there is one, and otherwise `lent`.
+    #[inline]
     fn lent_or_refused(lent: Option<&T>, refused: Option<T>) -> Result<&T, T>
     where
         T: Drop,
@@ -181,6 +186,7 @@ impl<T: Eq + Hash, S: BuildHasher> LinkedHashSet<T, S> {
 }
 
 /// Does the same as `replace`, on the map.
+#[inline(always)]
 fn replace_in_map<T: Eq + Hash, S: BuildHasher>(
     map: &mut LinkedHashMap<T, (), S>,
     value: T,

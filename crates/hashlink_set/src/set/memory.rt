@@ -1,4 +1,4 @@
-//! The memory of a set. None of these methods changes an element.
+//! The memory of a set. No method here changes an element.
 ghost use Rattle.std.specs.Prelude.{◌≡◌, ◌+◌, ◌^◌, ◌<◌, ◌↔◌, length, Err};
 ghost use Rattle.hashlink_model.specs.Steps.{Reserves, Shrinks};
 ghost use Rattle.hashlink_model.specs.Sets.{elements_of};
@@ -13,9 +13,9 @@ impl<T: Eq + Hash, S: BuildHasher> LinkedHashSet<T, S> {
     /// changes nothing. Otherwise the table grows, which takes linear time in the new capacity and hashes
     /// nothing.
     ///
-    /// It returns `CapacityOverflow` if the set could then have more than 2 to the power of 62 elements, and
-    /// `AllocError` if the allocation fails or the table would need more than 2 to the power of 31 buckets.
-    /// After an error nothing has changed.
+    /// It returns `CapacityOverflow` if the set could then have more than 2^62 elements, and `AllocError` if
+    /// the allocation fails or the table would need more than 2^31 buckets. After an error nothing has
+    /// changed.
     pub fn reserve(&mut self, additional: usize) -> Result<(), TryReserveError>
         ensures reserves { Reserves self.old self.new additional result }
         ensures overflow { (result ≡ Err TryReserveError.CapacityOverflow) ↔
@@ -24,7 +24,7 @@ impl<T: Eq + Hash, S: BuildHasher> LinkedHashSet<T, S> {
         self.map.reserve(additional)
     }
 
-    /// Does the same as `reserve`. Its name says that it may fail.
+    /// Does the same as `reserve`.
     pub fn try_reserve(&mut self, additional: usize) -> Result<(), TryReserveError>
         ensures reserves { Reserves self.old self.new additional result }
         ensures overflow { (result ≡ Err TryReserveError.CapacityOverflow) ↔
@@ -33,12 +33,12 @@ impl<T: Eq + Hash, S: BuildHasher> LinkedHashSet<T, S> {
         self.reserve(additional)
     }
 
-    /// Frees the spare nodes, and the room that the elements do not need. It takes linear time in the old
-    /// capacity, which is at least the number of elements and spare nodes.
+    /// Frees the free nodes, and the room that the elements do not need. It takes linear time in the old
+    /// capacity, which is at least the number of elements and free nodes.
     ///
-    /// For a moment it needs memory for the smaller table. If that allocation fails, it returns `AllocError`
-    /// and keeps the room. The spare nodes are freed all the same. With no elements it cannot fail, and the
-    /// capacity is 0 afterwards.
+    /// While it runs it also needs memory for the smaller table. If that allocation fails, it returns
+    /// `AllocError` and keeps the room, but the free nodes are freed. With no elements it cannot fail, and
+    /// the capacity is 0 afterwards.
     pub fn shrink_to_fit(&mut self) -> Result<(), AllocError>
         ensures { Shrinks self.old self.new result }
     {

@@ -14,6 +14,7 @@ use std::hash::{BuildHasher, Hash};
 impl<T: Eq + Hash, S: BuildHasher> LinkedHashSet<T, S> {
     /// Moves the equal element to the front, and returns whether it is present. If it is absent, nothing
     /// changes. It hashes the element once, and stores at most six links.
+    #[inline(always)]
     pub fn to_front<Q: Equivalent<T>>(&mut self, value: Q) -> bool
         ensures moves { MovesMatch (Q.matches value) self.old self.new 0 (as_value result) }
         ensures keeps { SetKeepsLookups T.eq (Q.matches value) (elements_of self.old) (elements_of self.new) }
@@ -23,6 +24,7 @@ impl<T: Eq + Hash, S: BuildHasher> LinkedHashSet<T, S> {
 
     /// Moves the equal element to the back, and returns whether it is present. If it is absent, nothing
     /// changes. It hashes the element once, and stores at most six links.
+    #[inline(always)]
     pub fn to_back<Q: Equivalent<T>>(&mut self, value: Q) -> bool
         ensures moves { MovesMatch (Q.matches value) self.old self.new (length self.old.entries)
             (as_value result) }
@@ -32,6 +34,7 @@ impl<T: Eq + Hash, S: BuildHasher> LinkedHashSet<T, S> {
     }
 
     /// Does the same as `to_front`, and returns `Some(())` if the element is present.
+    #[inline(always)]
     fn find_to_front<Q: Equivalent<T>>(&mut self, value: Q) -> Option<()>
         ensures moves { MovesMatch (Q.matches value) self.old self.new 0 result }
         ensures keeps { SetKeepsLookups T.eq (Q.matches value) (elements_of self.old) (elements_of self.new) }
@@ -41,6 +44,7 @@ impl<T: Eq + Hash, S: BuildHasher> LinkedHashSet<T, S> {
     }
 
     /// Does the same as `to_back`, and returns `Some(())` if the element is present.
+    #[inline(always)]
     fn find_to_back<Q: Equivalent<T>>(&mut self, value: Q) -> Option<()>
         ensures moves { MovesMatch (Q.matches value) self.old self.new (length self.old.entries) result }
         ensures keeps { SetKeepsLookups T.eq (Q.matches value) (elements_of self.old) (elements_of self.new) }

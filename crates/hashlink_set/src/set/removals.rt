@@ -1,4 +1,4 @@
-//! Removals. The other elements keep their order. Except for `clear`, each removal leaves a spare node, which
+//! Removals. The other elements keep their order. Except for `clear`, each removal leaves a free node, which
 //! the next insert of an absent element uses. No removal allocates.
 ghost use Rattle.std.specs.Prelude.{◌≡◌, false};
 ghost use Rattle.std.specs.List.{IsDistinct, list_any};
@@ -17,6 +17,7 @@ use std::hash::{BuildHasher, Hash};
 impl<T: Eq + Hash, S: BuildHasher> LinkedHashSet<T, S> {
     /// Removes the equal element and drops it, and returns whether it was present. It looks the element up as
     /// `contains` does, and stores at most three links.
+    #[inline(always)]
     pub fn remove<Q: Equivalent<T>>(&mut self, value: Q) -> bool
     where
         T: Drop,
@@ -33,6 +34,7 @@ impl<T: Eq + Hash, S: BuildHasher> LinkedHashSet<T, S> {
 
     /// Removes the equal element and returns it, or returns `None` if it is absent. It looks the element up
     /// as `contains` does, and stores at most three links.
+    #[inline(always)]
     pub fn take<Q: Equivalent<T>>(&mut self, value: Q) -> Option<T>
         ensures removes { RemovesMatch (Q.matches value) self.old self.new (as_entry result) }
         ensures updates { SetUpdatesBy T.eq (Q.matches value) (elements_of self.old) (elements_of self.new)
@@ -45,6 +47,7 @@ impl<T: Eq + Hash, S: BuildHasher> LinkedHashSet<T, S> {
 
     /// Removes the element at the front and returns it, or returns `None` if the set is empty. It takes
     /// constant time, hashes nothing, and stores at most three links.
+    #[inline]
     pub fn pop_front(&mut self) -> Option<T>
         ensures pops { PopsFront self.old self.new (as_entry result) }
         ensures elements { TakesFirst (λ t. t) (elements_of self.old) result (elements_of self.new) }
@@ -57,6 +60,7 @@ impl<T: Eq + Hash, S: BuildHasher> LinkedHashSet<T, S> {
 
     /// Removes the element at the back and returns it, or returns `None` if the set is empty. It takes
     /// constant time, hashes nothing, and stores at most three links.
+    #[inline]
     pub fn pop_back(&mut self) -> Option<T>
         ensures pops { PopsBack self.old self.new (as_entry result) }
         ensures elements { TakesLast (λ t. t) (elements_of self.old) result (elements_of self.new) }
@@ -67,8 +71,8 @@ impl<T: Eq + Hash, S: BuildHasher> LinkedHashSet<T, S> {
         Some(last)
     }
 
-    /// Drops every element and frees its node. The spare nodes and the room stay. It takes linear time in the
-    /// number of elements and buckets.
+    /// Drops every element and frees its node. The nodes that were free and the room stay. It takes linear
+    /// time in the number of elements and buckets.
     pub fn clear(&mut self)
     where
         T: Drop,

@@ -1,5 +1,5 @@
-//! Removals of the elements that a closure chooses. The others keep their order. None of these methods
-//! allocates or hashes an element. Each node that becomes spare serves the next insert of an absent element.
+//! Removals of the elements that a closure rejects. The others keep their order. No method here allocates or
+//! hashes an element. Each node that becomes free serves a later insert of an absent element.
 ghost use Rattle.std.specs.Fn.{CalledAt};
 ghost use Rattle.std.specs.List.{IsDistinct};
 ghost use Rattle.std.specs.Map.Calls.{CallableOnEachPair, CalledAtPair, TakesPair};
@@ -14,9 +14,9 @@ use hashlink_map::LinkedHashMap;
 use std::hash::{BuildHasher, Hash};
 
 impl<T: Eq + Hash, S: BuildHasher> LinkedHashSet<T, S> {
-    /// Calls `keep` once on each element, from the front, and removes those for which it returns false. It
-    /// takes linear time in the number of elements, and stores at most three links for each removal. `keep`
-    /// has to be callable on each element, in the state that its earlier calls have left it in.
+    /// Calls `keep` once on each element, from the front, and removes the elements for which it returns
+    /// false. It takes linear time in the number of elements, and stores at most three links for each
+    /// removal. `keep` has to be callable on each element, in the state that its earlier calls left it in.
     pub fn retain<F: FnMut(&T) -> bool>(&mut self, mut keep: F)
     where
         T: Drop,
@@ -28,9 +28,9 @@ impl<T: Eq + Hash, S: BuildHasher> LinkedHashSet<T, S> {
         self.retain_from(&mut keep);
     }
 
-    /// Calls `keep` once on each element, from the front, and removes those for which it returns false. It
-    /// takes linear time in the number of elements, and stores at most three links for each removal. `keep`
-    /// has to be callable on each element, in the state that its earlier calls have left it in.
+    /// Calls `keep` once on each element, from the front, and removes the elements for which it returns
+    /// false. It takes linear time in the number of elements, and stores at most three links for each
+    /// removal. `keep` has to be callable on each element, in the state that its earlier calls left it in.
     pub fn retain_with_order<F: FnMut(&T) -> bool>(&mut self, mut keep: F)
     where
         T: Drop,
@@ -42,10 +42,10 @@ impl<T: Eq + Hash, S: BuildHasher> LinkedHashSet<T, S> {
         self.retain_from(&mut keep);
     }
 
-    /// Does the same as `retain_with_order`, with a closure that the caller keeps: after the last call of
-    /// `keep`, the caller can read from it what its calls left in it. It takes linear time in the number of
-    /// elements, and stores at most three links for each removal. `keep` has to be callable on each element,
-    /// in the state that its earlier calls have left it in.
+    /// Does the same as `retain_with_order`, with a closure that the caller keeps: afterwards the caller can
+    /// read from `keep` the state that its calls left. It takes linear time in the number of elements, and
+    /// stores at most three links for each removal. `keep` has to be callable on each element, in the state
+    /// that its earlier calls left it in.
     pub fn retain_from<F: FnMut(&T) -> bool>(&mut self, keep: &mut F)
     where
         T: Drop,
@@ -78,8 +78,8 @@ where
     );
 }
 
-/// Does what the map's `retain_from` does. That its condition has a name makes it a record, which is compared
-/// at little cost where the closure is known.
+/// Does what the map's `retain_from` does. Its condition has a name, so it is a record, which is cheap to
+/// compare if the closure is known.
 fn retain_by<K: Eq + Hash + Drop, V: Drop, S: BuildHasher, F: FnMut(&K, &mut V) -> bool>(
     map: &mut LinkedHashMap<K, V, S>,
     keep: &mut F,

@@ -3,7 +3,7 @@ ghost use Rattle.std.specs.Int.{IsPowerOfTwo};
 
 use super::lanes::LANES;
 
-/// Which of so many buckets a hash belongs to.
+/// Returns the bucket to which a hash belongs, if there are `buckets` buckets.
 #[inline]
 pub fn bucket_of(hash: u32, buckets: usize) -> usize
     requires { IsPowerOfTwo buckets }
@@ -12,7 +12,7 @@ pub fn bucket_of(hash: u32, buckets: usize) -> usize
     (hash as usize) & (buckets - 1)
 }
 
-/// The first bucket of the group that a hash belongs to.
+/// Returns the first bucket of the group to which a hash belongs.
 #[inline]
 pub fn base_of(hash: u32, buckets: usize) -> usize
     requires power { IsPowerOfTwo buckets }
@@ -22,7 +22,7 @@ pub fn base_of(hash: u32, buckets: usize) -> usize
     (hash as usize) & (buckets - LANES)
 }
 
-/// The first bucket of this bucket's group.
+/// Returns the first bucket of this bucket's group.
 #[inline]
 pub fn group_of(bucket: usize) -> usize
     ensures { result ≡ bucket - bucket % LANES }
@@ -30,10 +30,11 @@ pub fn group_of(bucket: usize) -> usize
     bucket - bucket % LANES
 }
 
-// The most room for which a table has two buckets for each node, and not one.
+// The greatest room for which a table has two buckets for each node. Above it, it has one.
 const MAX_SPARSE_ROOM: usize = 1 << 10;
 
-/// How many buckets a table with this room has, or with the next smaller ones after a shrink: whole groups.
+/// Returns the number of buckets of a table with this room, which fill whole groups. A table that was shrunk
+/// may have a smaller room.
 pub fn buckets_for(room: usize) -> usize
     requires { IsPowerOfTwo room }
     ensures power { IsPowerOfTwo result }

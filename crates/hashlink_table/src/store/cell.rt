@@ -5,23 +5,23 @@ use crate::steps::Steps;
 use std::marker::Model;
 use std::sync::ledger::Ledger;
 
-/// What stands in place of a cell's number after the last cell of a chain. No table has so many cells.
+/// The link after the last cell of a chain. No table has so many cells.
 pub const END: usize = (1 << 31) - 1;
 
-/// What is added to the link of an overflow cell without a node. It is above each link.
+/// A number above each link. The link of a free overflow cell is stored with this number added.
 pub const FREE: u32 = 1 << 31;
 
-/// What contracts see of a cell, a place for one node.
+/// A cell as contracts see it: a place for one node.
 #[derive(Clone, Copy)]
 pub struct Cell<N> {
     pub kept: Option<Hashed<N>>,
-    // The hash that is stored: the node's, if there is one.
+    // The stored hash, which is the node's if there is a node.
     pub hash: u32,
     // The next cell of the chain, or `END`.
     pub next: usize,
 }
 
-/// A cell as the table stores it, in 8 bytes and a node. A free one has a node too, which means nothing.
+/// A cell as the table stores it, in 8 bytes and a node. A free cell has a node too, which means nothing.
 #[derive(Drop)]
 pub struct Stored<N> {
     node: N,
@@ -41,7 +41,7 @@ impl<N> Model for Stored<N> {
 }
 
 impl<N: Copy> Stored<N> {
-    /// A cell with a node.
+    /// Makes a cell with a node.
     #[inline]
     pub fn taken(kept: Hashed<N>, next: usize) -> Self
         requires { next ≤ END }
@@ -54,7 +54,7 @@ impl<N: Copy> Stored<N> {
         }
     }
 
-    /// The same cell, for a move to another block.
+    /// Returns the same cell, for a move to another block.
     #[inline]
     pub(super) fn copied(&self) -> Self
         ensures { result ≡ self.now }
@@ -66,7 +66,7 @@ impl<N: Copy> Stored<N> {
         }
     }
 
-    /// Whether the cell has a node.
+    /// Returns whether the cell has a node.
     #[inline]
     pub fn is_taken(&self) -> bool
         ensures { IsTrue result ↔ IsSome self.now.kept }
@@ -74,7 +74,7 @@ impl<N: Copy> Stored<N> {
         self.link < FREE
     }
 
-    /// What a search reads of a cell that is known to have a node. It takes a step.
+    /// Returns the hash and the node of a cell that has to have a node, for a search. It takes a step.
     #[inline]
     pub fn look<L: Ledger>(&self, steps: &mut Steps<L>) -> Hashed<N>
         requires { IsSome self.now.kept }
@@ -85,7 +85,7 @@ impl<N: Copy> Stored<N> {
         self.known()
     }
 
-    /// What a cell has that is known to have a node, for a move of the node.
+    /// Returns the hash and the node of a cell that has to have a node, for a move of the node.
     #[inline]
     pub(super) fn known(&self) -> Hashed<N>
         requires { IsSome self.now.kept }
@@ -97,7 +97,7 @@ impl<N: Copy> Stored<N> {
         }
     }
 
-    /// What a cell has, for a move of its node.
+    /// Returns the hash and the node of a cell, if there is a node, for a move of the node.
     #[inline]
     pub(super) fn kept(&self) -> Option<Hashed<N>>
         ensures { result ≡ self.now.kept }

@@ -1,4 +1,4 @@
-//! How the cells grow.
+//! The growth of the cells.
 ghost use Rattle.std.specs.Prelude.{◌≡◌, ◌+◌, ◌*◌, ◌%◌, ◌^◌, ◌<◌, ◌≤◌, [], ◌++◌};
 ghost use Rattle.std.specs.Prelude.{IfOk, IsPermutation, OnErr, OnOk, Some};
 ghost use Rattle.std.specs.Prelude.{length, max, min, vec_capacity, vec_len};
@@ -13,7 +13,7 @@ use crate::hashed::Hashed;
 use crate::table::Table;
 use std::alloc::{AllocError, Global};
 
-/// The nodes of overflow cells, on their way into others. Only this file reads their hashes.
+/// The nodes of overflow cells, while they move to other cells. Only this file reads their hashes.
 #[derive(Drop)]
 pub struct OverflowNodes<N> {
     nodes: Vec<Hashed<N>>,
@@ -56,9 +56,9 @@ pub fn move_to<N: Copy>(cells: &mut Vec<Stored<N>>, mut block: Vec<Stored<N>>)
 /// Doubles the buckets. The overflow cells move to this block, and their nodes are taken out and returned. If
 /// it fails, no node changes, and the block may be kept.
 //
-// The overflow cells move before the slots grow, which then find room where the overflow cells were: so the
-// heap stays small, and `malloc` gives less of it back to the system, to take it again. They are emptied
-// last, so that nothing is lost where the slots get no memory.
+// The overflow cells move before the slots grow, so that the slots can grow into their old memory. So the
+// heap stays small, and `malloc` returns less of it to the system, to request it again. The overflow cells
+// are emptied last, so that nothing is lost if the slots cannot grow.
 pub fn double<N: Copy>(
     slots: &mut Slots<N>,
     cells: &mut Vec<Stored<N>>,
@@ -90,7 +90,7 @@ pub fn double<N: Copy>(
 }
 
 impl<N: Copy> Table<N> {
-    /// Puts the nodes in that another table has in its slots.
+    /// Inserts the nodes in the slots of another table.
     pub(crate) fn insert_slots(&mut self, slots: &Slots<N>)
         requires { len_of self.old + length (nodes_in slots.now) ≤ self.old.room }
         ensures inserted { IsPermutation (self.old.nodes ++ nodes_in slots.now) self.new.nodes }
@@ -103,7 +103,7 @@ impl<N: Copy> Table<N> {
         }
     }
 
-    /// Puts these nodes in.
+    /// Inserts the nodes that were taken out of overflow cells.
     pub(crate) fn insert_chained(&mut self, chained: &OverflowNodes<N>)
         requires { len_of self.old + vec_len chained.now.nodes ≤ self.old.room }
         ensures inserted { IsPermutation (self.old.nodes ++ chained.now.nodes.items) self.new.nodes }

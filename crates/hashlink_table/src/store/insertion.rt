@@ -1,4 +1,4 @@
-//! How a node comes in.
+//! Inserts of a node into a cell.
 ghost use Rattle.std.specs.Prelude.{◌≡◌, ◌≢◌, ◌+◌, ◌-◌, ◌%◌, ◌<◌, ◌≤◌, ◌∷◌, ◌++◌};
 ghost use Rattle.std.specs.Prelude.{IsPermutation};
 ghost use Rattle.std.specs.Prelude.{length, vec_capacity, vec_len};
@@ -10,7 +10,7 @@ use super::lanes::LANES;
 use super::slots::Slots;
 use crate::hashed::Hashed;
 
-// Puts a cell where the first free one is, or after the last if none is free, and returns where.
+// Puts a cell at the first free one's place, or after the last cell if none is free. Returns the place.
 #[inline]
 fn place<N: Copy>(cells: &mut Vec<Stored<N>>, free: &mut usize, cell: Stored<N>) -> usize
     requires within { free.old ≢ END → free.old < vec_len cells.old }
@@ -30,7 +30,7 @@ fn place<N: Copy>(cells: &mut Vec<Stored<N>>, free: &mut usize, cell: Stored<N>)
     at
 }
 
-// Chains a node in an overflow cell, which is then the first of its bucket's chain.
+// Puts a node into an overflow cell, which becomes the first of its bucket's chain.
 fn chain<N: Copy>(
     slots: &mut Slots<N>,
     cells: &mut Vec<Stored<N>>,
@@ -57,7 +57,7 @@ fn chain<N: Copy>(
     slots.set_next(bucket, at);
 }
 
-// Puts a node into its bucket: into a free cell of the bucket's group, or else into an overflow cell.
+// Puts a node into a free slot of its bucket's group, or into an overflow cell if there is none.
 #[inline]
 pub fn put<N: Copy>(
     slots: &mut Slots<N>,

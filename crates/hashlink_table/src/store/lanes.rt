@@ -1,13 +1,14 @@
-//! Sixteen tags at once.
+//! Comparisons of sixteen tags at once.
 ghost use Rattle.std.specs.Prelude.{◌≡◌, ◌+◌, ◌≤◌, ◌==◌, length, map};
 ghost use Rattle.std.specs.Simd.Lanes.{chunk, mask_l};
 
 use std::simd::prelude::*;
 
-/// How many cells a group has.
+/// The number of cells of a group.
 pub const LANES: usize = 16;
 
-/// Which tags of the group that begins here are this one: one bit for each, the lowest for the first.
+/// Returns which of the sixteen tags from `base` on are equal to `tag`: a bit for each, the lowest for the
+/// first.
 #[inline]
 pub fn lanes_with(tags: &[u8], base: usize, tag: u8) -> u64
     requires { base + LANES ≤ length tags.now }

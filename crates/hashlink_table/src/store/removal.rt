@@ -1,4 +1,4 @@
-//! How a node leaves.
+//! Removals of a node from its cell.
 ghost use Rattle.std.specs.Prelude.{◌≡◌, ◌≢◌, ℕ, ◌+◌, ◌*◌, ◌%◌, ◌<◌, ◌≤◌, ◌∷◌, ◌++◌};
 ghost use Rattle.std.specs.Prelude.{IfNone, IfSome, IsPermutation, IsSome, Some};
 ghost use Rattle.std.specs.Prelude.{length};
@@ -15,7 +15,7 @@ use super::slots::Slots;
 use super::spot::Spot;
 use crate::hashed::Hashed;
 
-// Removes a cell from its bucket's chain: the link to it leads past it.
+// Removes a cell from its bucket's chain: the link to it now leads to the cell after it.
 fn unlink<N: Copy>(slots: &mut Slots<N>, cells: &mut [Stored<N>], bucket: usize, cell: usize)
     requires within { bucket < length slots.old }
     requires on_chain { chain_at (length slots.old) cells.old cell ≡ bucket }
@@ -39,7 +39,7 @@ fn unlink<N: Copy>(slots: &mut Slots<N>, cells: &mut [Stored<N>], bucket: usize,
     cells[at].set_next(after);
 }
 
-// Removes a node from its overflow cell, which is then the first free one.
+// Removes a node from its overflow cell, which becomes the first free one.
 fn take_out<N: Copy>(
     slots: &mut Slots<N>,
     cells: &mut [Stored<N>],
@@ -64,7 +64,7 @@ fn take_out<N: Copy>(
     kept
 }
 
-// The first bucket of a group that has a chain.
+// Returns the first bucket of a group that has a chain.
 fn first_chained<N: Copy>(slots: &Slots<N>, base: usize) -> Option<usize>
     requires within { base + LANES ≤ length slots.now }
     requires base { base % LANES ≡ 0 }
@@ -86,7 +86,7 @@ fn first_chained<N: Copy>(slots: &Slots<N>, base: usize) -> Option<usize>
 }
 
 // Removes the node that a search found. If it was in a slot and a bucket of the group has a chain, the first
-// of that chain moves there. It returns nothing, so that no caller reads a hash by it.
+// node of this chain moves to the slot. It returns nothing, so that no caller can read a hash by it.
 pub fn take<N: Copy>(slots: &mut Slots<N>, cells: &mut [Stored<N>], free: &mut usize, spot: Spot)
     requires masked { IsPowerOfTwo (length slots.old) }
     requires whole { length slots.old % LANES ≡ 0 }

@@ -2,7 +2,7 @@ ghost use Rattle.std.specs.Prelude.{◌≡◌, ◌+◌, ◌≤◌, ◌++◌, IfO
 
 use std::alloc::{AllocError, Global};
 
-/// A list of this value, so many times.
+/// Returns a list with `count` times this value.
 pub fn repeated<T: Copy>(alloc: Global, value: T, count: usize) -> Result<Vec<T>, AllocError>
     ensures { IfOk result (λ list. list.items ≡ replicate count value) }
 {
@@ -11,7 +11,7 @@ pub fn repeated<T: Copy>(alloc: Global, value: T, count: usize) -> Result<Vec<T>
     Ok(list)
 }
 
-/// Adds this value so many times, for which there is room.
+/// Adds this value `count` times. There has to be room for them.
 pub fn add_repeated<T: Copy>(list: &mut Vec<T>, value: T, count: usize)
     requires roomy { vec_len list.old + count ≤ vec_capacity list.old }
     ensures { list.new.items ≡ list.old.items ++ replicate count value }

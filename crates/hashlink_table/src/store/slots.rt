@@ -19,17 +19,17 @@ use std::alloc::{AllocError, Global};
 use std::marker::Model;
 use std::sync::ledger::Ledger;
 
-/// What a cell stores beside its node: the node's hash, and where its bucket's chain begins.
+/// What a slot stores besides its node: the node's hash, and the first link of its bucket's chain.
 #[derive(Clone, Copy)]
 pub struct Rest {
     hash: u32,
     link: u32,
 }
 
-/// One cell for each bucket. Sixteen make a group, and a node of a bucket stands in any cell of its group.
+/// The slots, one for each bucket. Sixteen make a group, and a node may be in any slot of its bucket's group.
 ///
-/// Apart from the cells there is a byte for each: 0 if the cell has no node, and else a tag of the node's
-/// hash. A search compares the tags of a group at once.
+/// Apart from the slots there is a byte for each of them: 0 if the slot has no node, and else a tag of the
+/// node's hash. A search compares the tags of a group at once.
 #[derive(Drop)]
 pub struct Slots<N> {
     tags: Vec<u8>,
@@ -49,8 +49,9 @@ impl<N> Model for Slots<N> {
     ghost invariant = { λ o. IsTagged o.tags.items o.nodes.items o.rests.items };
 }
 
-// The tag of a hash: four bits that say which cell of its group is its bucket's, and four that its bucket
-// does not depend on. A cell without a node has the tag 0, so 1 stands in its place.
+// Returns the tag of a hash. It has the four bits that select the hash's bucket in its group, and four on
+// which the bucket does not depend. A slot without a node has the tag 0, so the tag of a hash is 1 in place
+// of 0.
 #[inline]
 fn tag(hash: u32) -> u8
     ensures { result ≡ tag_of hash }
@@ -58,9 +59,9 @@ fn tag(hash: u32) -> u8
     ((hash % 16 * 16 + hash / (1 << 28)) as u8).max(1)
 }
 
-// Makes two cells of one, itself and the one `count` cells on. Its node stays, or goes to the other one if
-// its bucket, of twice as many, is in the upper half; no chain begins at either. Both are written, by a
-// choice of values: a branch would be mispredicted half the time.
+// Makes two slots of one: itself and the one at `at + count`. Its node stays, or moves to the other one if
+// its bucket, among twice as many, is in the upper half. No chain begins at either. The code chooses values
+// and writes both slots, since a branch would be mispredicted half the time.
 #[inline]
 fn part<N: Copy>(tags: &mut [u8], nodes: &mut [N], rests: &mut [Rest], at: usize, count: usize)
     requires power { IsPowerOfTwo (2 * count) }
@@ -89,7 +90,7 @@ fn part<N: Copy>(tags: &mut [u8], nodes: &mut [N], rests: &mut [Rest], at: usize
 }
 
 impl<N: Copy> Slots<N> {
-    /// No cells. It does not allocate.
+    /// Creates an empty list of slots. It does not allocate.
     pub fn new(alloc: Global) -> Self
         ensures { result ≡ [] }
     {
@@ -100,7 +101,7 @@ impl<N: Copy> Slots<N> {
         }
     }
 
-    /// So many cells without nodes.
+    /// Creates `count` slots without nodes.
     pub fn with_cells(alloc: Global, filler: N, count: usize) -> Result<Self, AllocError>
         ensures { IfOk result (λ o. o ≡ replicate count bare_cell) }
     {
@@ -114,7 +115,7 @@ impl<N: Copy> Slots<N> {
         Ok(Slots { tags, nodes, rests })
     }
 
-    /// Doubles the cells, and ends all chains. The node of a cell stays, or goes to the same place in the
+    /// Doubles the slots, and ends all chains. The node of a slot stays, or moves to the same place in the
     /// upper half if its bucket is there now. If it fails, it changes nothing.
     pub fn double(&mut self, filler: N) -> Result<(), AllocError>
         requires power { IsPowerOfTwo (length self.old) }
@@ -133,7 +134,7 @@ impl<N: Copy> Slots<N> {
         Ok(())
     }
 
-    // Adds so many cells without nodes. It reserves all that it needs first, so a failure changes nothing.
+    // Adds `count` slots without nodes. It reserves all memory first, so it changes nothing if it fails.
     fn widen(&mut self, count: usize, filler: N) -> Result<(), AllocError>
         requires small { length self.old + count < 2 ^ 64 }
         ensures ok { OnOk result (self.new ≡ self.old ++ replicate count bare_cell) }
@@ -152,7 +153,7 @@ impl<N: Copy> Slots<N> {
         Ok(())
     }
 
-    /// How many cells there are.
+    /// Returns the number of slots.
     #[inline]
     pub fn len(&self) -> usize
         ensures { result ≡ length self.now }
@@ -160,7 +161,7 @@ impl<N: Copy> Slots<N> {
         self.tags.len()
     }
 
-    /// Where the chain of the bucket begins, or `END`.
+    /// Returns the first link of the bucket's chain, or `END`.
     #[inline]
     pub fn next(&self, bucket: usize) -> usize
         requires { bucket < length self.now }
@@ -170,7 +171,7 @@ impl<N: Copy> Slots<N> {
         self.rests[bucket].link as usize
     }
 
-    /// Sets where the chain of the bucket begins.
+    /// Sets the first link of the bucket's chain.
     #[inline]
     pub fn set_next(&mut self, bucket: usize, to: usize)
         requires within { bucket < length self.old }
@@ -180,7 +181,7 @@ impl<N: Copy> Slots<N> {
         self.rests[bucket].link = to as u32;
     }
 
-    /// What a search reads of a cell that is known to have a node: the node. It takes a step.
+    /// Returns the node of a slot that has to have one, for a search. It takes a step.
     #[inline]
     pub fn look<L: Ledger>(&self, at: usize, steps: &mut Steps<L>) -> N
         requires { IsSome (kept_at self.now at) }
@@ -191,7 +192,7 @@ impl<N: Copy> Slots<N> {
         self.nodes[at]
     }
 
-    /// What a cell has, for a move of its node.
+    /// Returns the hash and the node of a slot, if there is a node, for a move of the node.
     #[inline]
     pub(super) fn kept(&self, at: usize) -> Option<Hashed<N>>
         requires { at < length self.now }
@@ -207,7 +208,7 @@ impl<N: Copy> Slots<N> {
         }
     }
 
-    /// Puts a node into a cell, in place of what it had.
+    /// Puts a node into a slot, in place of its old node, if any.
     #[inline]
     pub fn put(&mut self, at: usize, kept: Hashed<N>)
         requires { at < length self.old }
@@ -218,7 +219,7 @@ impl<N: Copy> Slots<N> {
         self.rests[at].hash = kept.hash;
     }
 
-    /// Takes the node out of a cell.
+    /// Removes the node from a slot.
     #[inline]
     pub fn set_free(&mut self, at: usize)
         requires { at < length self.old }
@@ -227,8 +228,8 @@ impl<N: Copy> Slots<N> {
         self.tags[at] = 0;
     }
 
-    /// The cells of the group that begins here which may have a node of this hash, one bit for each. Each has
-    /// a node.
+    /// Returns which of the sixteen slots from `base` on may have a node of this hash, one bit for each. Each
+    /// of them has a node.
     #[inline]
     pub fn may_have(&self, base: usize, hash: u32) -> u64
         requires { base + LANES ≤ length self.now }
@@ -238,7 +239,7 @@ impl<N: Copy> Slots<N> {
         lanes_with(&self.tags, base, tag(hash))
     }
 
-    /// The cells of the group that begins here which have no node, one bit for each.
+    /// Returns which of the sixteen slots from `base` on have no node, one bit for each.
     #[inline]
     pub fn free(&self, base: usize) -> u64
         requires { base + LANES ≤ length self.now }
@@ -248,7 +249,7 @@ impl<N: Copy> Slots<N> {
         lanes_with(&self.tags, base, 0)
     }
 
-    /// Takes all nodes out, and ends all chains.
+    /// Removes all nodes, and ends all chains.
     pub fn clear(&mut self)
         ensures { self.new ≡ replicate (length self.old) bare_cell }
     {

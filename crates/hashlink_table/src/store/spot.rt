@@ -1,11 +1,11 @@
-/// Where a node stands: in a slot, or in an overflow cell.
+/// The place of a node: a slot, or an overflow cell.
 #[derive(Clone, Copy)]
 pub enum Spot {
     Slot(usize),
     Overflow(usize),
 }
 
-/// What a search found: a node, and where it stands.
+/// The result of a search: a node, and its place.
 #[derive(Clone, Copy)]
 pub struct Found<N> {
     pub spot: Spot,

@@ -7,7 +7,7 @@ ghost use Rattle.hashlink.specs.Texts.{is_text};
 use hashlink::LruCache;
 use std::hash::BuildHasher;
 
-/// Inserts a number into a cache that holds some. Its key has it now.
+/// Inserts a number into a cache that holds entries. Afterwards its key has it.
 pub fn put<S: BuildHasher>(
     cache: &mut LruCache<u64, u64, S>,
     key: u64,
@@ -20,14 +20,14 @@ pub fn put<S: BuildHasher>(
     Ok(())
 }
 
-/// Removes a key, which is absent then.
+/// Removes a key, which is absent afterwards.
 pub fn forget<S: BuildHasher>(cache: &mut LruCache<u64, u64, S>, key: u64)
     ensures { lookup (nat_eq key) (entries_of cache.new) ≡ None }
 {
     cache.remove(&key);
 }
 
-/// Removes a key. Every other one is found as before.
+/// Removes a key. Every other key is found as before.
 pub fn forget_one<S: BuildHasher>(
     cache: &mut LruCache<u64, u64, S>,
     key: u64,
@@ -65,14 +65,14 @@ pub fn write<S: BuildHasher>(cache: &mut LruCache<u64, u64, S>, key: u64, value:
     }
 }
 
-/// Returns whether there is no least recently used entry, which is only where there is none at all.
+/// Returns whether there is no least recently used entry, which holds only for an empty cache.
 pub fn is_vacant<S: BuildHasher>(cache: &LruCache<u64, u64, S>) -> bool
     ensures { IsTrue result → entries_of cache.now ≡ [] }
 {
     cache.peek_lru().is_none()
 }
 
-/// Inserts a number for a name into a cache that holds some. The name has it now.
+/// Inserts a number for a name into a cache that holds entries. Afterwards the name has it.
 pub fn put_name<S: BuildHasher>(
     cache: &mut LruCache<String, u64, S>,
     name: String,
@@ -85,14 +85,14 @@ pub fn put_name<S: BuildHasher>(
     Ok(())
 }
 
-/// Removes a name, which is absent then.
+/// Removes a name, which is absent afterwards.
 pub fn forget_name<S: BuildHasher>(cache: &mut LruCache<String, u64, S>, name: &str)
     ensures { lookup (is_text name.now) (entries_of cache.new) ≡ None }
 {
     cache.remove(name);
 }
 
-/// Removes a name. Every other one is found as before.
+/// Removes a name. Every other name is found as before.
 #[tactic(auto, using(std::proofs::lemmas::Map::Text::text_keys))]
 pub fn forget_one_name<S: BuildHasher>(
     cache: &mut LruCache<String, u64, S>,

@@ -8,7 +8,7 @@ ghost use Rattle.hashlink.specs.Texts.{is_text};
 use hashlink::LinkedHashMap;
 use std::hash::BuildHasher;
 
-/// Inserts a number. Its key has it now, and each other key what it had.
+/// Inserts a number. Afterwards its key has it, and each other key is as before.
 pub fn put<S: BuildHasher>(
     map: &mut LinkedHashMap<u64, u64, S>,
     key: u64,
@@ -22,7 +22,7 @@ pub fn put<S: BuildHasher>(
     Ok(())
 }
 
-/// Inserts two numbers, and returns the first as it is found then.
+/// Inserts two numbers, and returns the first as it is found afterwards.
 pub fn put_both<S: BuildHasher>(
     map: &mut LinkedHashMap<u64, u64, S>,
     first: u64,
@@ -36,14 +36,14 @@ pub fn put_both<S: BuildHasher>(
     Ok(map.get(&first).copied())
 }
 
-/// Removes a key, which is absent then.
+/// Removes a key, which is absent afterwards.
 pub fn forget<S: BuildHasher>(map: &mut LinkedHashMap<u64, u64, S>, key: u64)
     ensures { lookup (nat_eq key) (entries_of map.new) ≡ None }
 {
     map.remove(&key);
 }
 
-/// Removes a key. Every other one is found as before.
+/// Removes a key. Every other key is found as before.
 pub fn forget_one<S: BuildHasher>(
     map: &mut LinkedHashMap<u64, u64, S>,
     key: u64,
@@ -70,14 +70,14 @@ pub fn write<S: BuildHasher>(map: &mut LinkedHashMap<u64, u64, S>, key: u64, val
     }
 }
 
-/// Returns whether nothing is at the front, which is only where there is nothing at all.
+/// Returns whether there is no entry at the front, which holds only for an empty map.
 pub fn is_vacant<S: BuildHasher>(map: &LinkedHashMap<u64, u64, S>) -> bool
     ensures { IsTrue result → entries_of map.now ≡ [] }
 {
     map.front().is_none()
 }
 
-/// Inserts a number for a name. The name has it now.
+/// Inserts a number for a name. Afterwards the name has it.
 pub fn put_name<S: BuildHasher>(
     map: &mut LinkedHashMap<String, u64, S>,
     name: String,
@@ -89,14 +89,14 @@ pub fn put_name<S: BuildHasher>(
     Ok(())
 }
 
-/// Removes a name, which is absent then.
+/// Removes a name, which is absent afterwards.
 pub fn forget_name<S: BuildHasher>(map: &mut LinkedHashMap<String, u64, S>, name: &str)
     ensures { lookup (is_text name.now) (entries_of map.new) ≡ None }
 {
     map.remove(name);
 }
 
-/// Removes a name. Every other one is found as before.
+/// Removes a name. Every other name is found as before.
 #[tactic(auto, using(std::proofs::lemmas::Map::Text::text_keys))]
 pub fn forget_one_name<S: BuildHasher>(
     map: &mut LinkedHashMap<String, u64, S>,

@@ -7,7 +7,7 @@ ghost use Rattle.hashlink.specs.Texts.{is_text};
 use hashlink::LinkedHashSet;
 use std::hash::BuildHasher;
 
-/// Inserts a number, which is present then.
+/// Inserts a number, which is present afterwards.
 pub fn put<S: BuildHasher>(numbers: &mut LinkedHashSet<u64, S>, number: u64) -> Result<(), u64>
     ensures { OnOk result (list_any (nat_eq number) (elements_of numbers.new) ≡ true) }
 {
@@ -15,14 +15,14 @@ pub fn put<S: BuildHasher>(numbers: &mut LinkedHashSet<u64, S>, number: u64) -> 
     Ok(())
 }
 
-/// Removes a number, which is absent then.
+/// Removes a number, which is absent afterwards.
 pub fn forget<S: BuildHasher>(numbers: &mut LinkedHashSet<u64, S>, number: u64)
     ensures { list_any (nat_eq number) (elements_of numbers.new) ≡ false }
 {
     numbers.remove(&number);
 }
 
-/// Removes a number. Every other one is found as before.
+/// Removes a number. Every other number is found as before.
 pub fn forget_one<S: BuildHasher>(
     numbers: &mut LinkedHashSet<u64, S>,
     number: u64,
@@ -35,14 +35,14 @@ pub fn forget_one<S: BuildHasher>(
     numbers.contains(&other)
 }
 
-/// Returns whether nothing is at the front, which is only where there is nothing at all.
+/// Returns whether there is no element at the front, which holds only for an empty set.
 pub fn is_vacant<S: BuildHasher>(numbers: &LinkedHashSet<u64, S>) -> bool
     ensures { IsTrue result → elements_of numbers.now ≡ [] }
 {
     numbers.front().is_none()
 }
 
-/// Inserts a name, which is present then.
+/// Inserts a name, which is present afterwards.
 pub fn put_name<S: BuildHasher>(
     names: &mut LinkedHashSet<String, S>,
     name: String,
@@ -53,14 +53,14 @@ pub fn put_name<S: BuildHasher>(
     Ok(())
 }
 
-/// Removes a name, which is absent then.
+/// Removes a name, which is absent afterwards.
 pub fn forget_name<S: BuildHasher>(names: &mut LinkedHashSet<String, S>, name: &str)
     ensures { list_any (is_text name.now) (elements_of names.new) ≡ false }
 {
     names.remove(name);
 }
 
-/// Removes a name. Every other one is found as before.
+/// Removes a name. Every other name is found as before.
 pub fn forget_one_name<S: BuildHasher>(
     names: &mut LinkedHashSet<String, S>,
     name: &str,

@@ -8,7 +8,7 @@ ghost use Rattle.hashlink.specs.Texts.{is_text};
 use hashlink::weighted::{WeightError, WeightedCache};
 use std::hash::BuildHasher;
 
-/// Inserts a number with its weight. Its key has both now.
+/// Inserts a number with its weight. Afterwards its key has both.
 pub fn put<S: BuildHasher>(
     cache: &mut WeightedCache<u64, u64, S>,
     key: u64,
@@ -21,14 +21,14 @@ pub fn put<S: BuildHasher>(
     Ok(())
 }
 
-/// Removes a key, which is absent then.
+/// Removes a key, which is absent afterwards.
 pub fn forget<S: BuildHasher>(cache: &mut WeightedCache<u64, u64, S>, key: u64)
     ensures { lookup (nat_eq key) (entries_of cache.new) ≡ None }
 {
     cache.remove(&key);
 }
 
-/// Removes a key. Every other one is found as before.
+/// Removes a key. Every other key is found as before.
 pub fn forget_one<S: BuildHasher>(
     cache: &mut WeightedCache<u64, u64, S>,
     key: u64,
@@ -41,7 +41,7 @@ pub fn forget_one<S: BuildHasher>(
     cache.get(&other).copied()
 }
 
-/// Inserts a number with its weight for a name. The name has both now.
+/// Inserts a number with its weight for a name. Afterwards the name has both.
 pub fn put_name<S: BuildHasher>(
     cache: &mut WeightedCache<String, u64, S>,
     name: String,
@@ -55,14 +55,14 @@ pub fn put_name<S: BuildHasher>(
     Ok(())
 }
 
-/// Removes a name, which is absent then.
+/// Removes a name, which is absent afterwards.
 pub fn forget_name<S: BuildHasher>(cache: &mut WeightedCache<String, u64, S>, name: &str)
     ensures { lookup (is_text name.now) (entries_of cache.new) ≡ None }
 {
     cache.remove(name);
 }
 
-/// Removes a name. Every other one is found as before.
+/// Removes a name. Every other name is found as before.
 #[tactic(auto, using(std::proofs::lemmas::Map::Text::text_keys))]
 pub fn forget_one_name<S: BuildHasher>(
     cache: &mut WeightedCache<String, u64, S>,

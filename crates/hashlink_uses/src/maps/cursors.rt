@@ -1,4 +1,4 @@
-//! Cursors of entries, and what is known of a map after one.
+//! Cursors of entries, and what the caller knows about a map after one.
 ghost use Rattle.std.specs.Prelude.{◌≡◌, ℕ, None, Some, IfNone, MatchOption, length};
 ghost use Rattle.std.specs.Map.{lookup};
 ghost use Rattle.hashlink.specs.Cursor.{following_place};

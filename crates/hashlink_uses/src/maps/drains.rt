@@ -1,4 +1,4 @@
-//! Drains, and what is known of a map after one.
+//! Drains, and what the caller knows about a map after one.
 ghost use Rattle.hashlink.specs.Steps.{Drains};
 ghost use Rattle.hashlink.specs.Keyed.{state_of};
 
@@ -12,8 +12,8 @@ pub fn empty_out<K: Eq + Hash + Drop, V: Drop, S: BuildHasher>(map: &mut LinkedH
     let _rest = map.drain();
 }
 
-/// Removes so many entries from the front and so many from the back, and drops the others. The map ends as
-/// after a drain of all.
+/// Removes this many entries from the front and this many from the back, and drops the others. The map ends
+/// as after a drain of all.
 pub fn take_ends<K: Eq + Hash + Drop, V: Drop, S: BuildHasher>(
     map: &mut LinkedHashMap<K, V, S>,
     front: usize,

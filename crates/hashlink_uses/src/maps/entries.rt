@@ -1,4 +1,4 @@
-//! Calls through entries, raw entries and cursors, and what is known of a map once they are gone.
+//! Calls through entries, raw entries and cursors, and what the caller knows about a map afterwards.
 ghost use Rattle.std.specs.Prelude.{◌≡◌, ℕ, ◌+◌, ◌-◌, ◌<◌, ◌^◌, [], Some, Ok, IfOk, OnOk, IfErr, IfNone};
 ghost use Rattle.std.specs.Prelude.{◌≢◌, MatchOption, is_none, is_some, length, unwrap_or, true, false};
 ghost use Rattle.std.specs.Map.{lookup};
@@ -30,8 +30,7 @@ pub fn count_word<K: Eq + Hash + Drop, S: BuildHasher>(
     Ok(())
 }
 
-/// Counts a word: adds one to the count that there is, or begins with one. The map ends as after
-/// `count_word`.
+/// Counts a word: adds one to the present count, or begins with one. The map ends as after `count_word`.
 pub fn count_on<K: Eq + Hash + Drop, S: BuildHasher>(
     map: &mut LinkedHashMap<K, u64, S>,
     word: K,
@@ -146,7 +145,7 @@ pub fn set_to_seven<K: Eq + Hash + Drop, S: BuildHasher>(
     }
 }
 
-/// Inserts what the closure makes at the back, if the key is absent.
+/// Inserts the value that the closure makes at the back, if the key is absent.
 pub fn put_seven<K: Eq + Hash + Drop, S: BuildHasher>(
     map: &mut LinkedHashMap<K, u64, S>,
     key: K,
@@ -201,7 +200,7 @@ where
     }
 }
 
-/// Replaces the stored key by this equal one, by a raw entry, and returns the old one.
+/// Replaces the stored key by the given equal key, by a raw entry, and returns the old one.
 pub fn renew_key<K: Eq + Hash + Drop, V, S: BuildHasher>(
     map: &mut LinkedHashMap<K, V, S>,
     key: K,

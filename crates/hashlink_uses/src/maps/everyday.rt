@@ -39,7 +39,7 @@ pub fn write_first<K: Eq + Hash + Drop, V, S: BuildHasher>(
     map.insert_front(key, value)
 }
 
-/// The value of a key.
+/// Returns the value of a key.
 pub fn read<K: Eq + Hash, V: Copy, S: BuildHasher>(
     map: &LinkedHashMap<K, V, S>,
     key: &K,
@@ -50,7 +50,7 @@ pub fn read<K: Eq + Hash, V: Copy, S: BuildHasher>(
     map.get(key).copied()
 }
 
-/// Takes the value of a key out.
+/// Removes the entry of a key, and returns its value.
 pub fn erase<K: Eq + Hash + Drop, V, S: BuildHasher>(
     map: &mut LinkedHashMap<K, V, S>,
     key: &K,
@@ -62,7 +62,7 @@ pub fn erase<K: Eq + Hash + Drop, V, S: BuildHasher>(
     map.remove(key)
 }
 
-/// Takes the entry of a key out. What is returned was in the map.
+/// Removes the entry of a key, and returns it. The returned entry was in the map.
 pub fn erase_entry<K: Eq + Hash, V, S: BuildHasher>(
     map: &mut LinkedHashMap<K, V, S>,
     key: &K,
@@ -74,7 +74,7 @@ pub fn erase_entry<K: Eq + Hash, V, S: BuildHasher>(
     map.remove_entry(key)
 }
 
-/// Takes the first entry out.
+/// Removes the first entry, and returns it.
 pub fn take_first_entry<K: Eq + Hash, V, S: BuildHasher>(
     map: &mut LinkedHashMap<K, V, S>,
 ) -> Option<(K, V)>
@@ -84,7 +84,7 @@ pub fn take_first_entry<K: Eq + Hash, V, S: BuildHasher>(
     map.pop_front()
 }
 
-/// Takes the last entry out.
+/// Removes the last entry, and returns it.
 pub fn take_last_entry<K: Eq + Hash, V, S: BuildHasher>(
     map: &mut LinkedHashMap<K, V, S>,
 ) -> Option<(K, V)>

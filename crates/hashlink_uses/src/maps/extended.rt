@@ -1,4 +1,4 @@
-//! Maps that are built from many pairs or extended by them, and what is known of them afterwards.
+//! Maps that are built from many pairs or extended by them, and what the caller knows about them afterwards.
 ghost use Rattle.std.specs.Prelude.{◌≡◌, ◌≤◌, [], List, length, IsOk, OnErr, OnOk, IfOk, IfErr};
 ghost use Rattle.hashlink.specs.Many.{AcceptsAll, StopsAt, InsertsPair};
 ghost use Rattle.hashlink.specs.Keyed.{state_of, entries_of};
@@ -16,7 +16,7 @@ pub fn rebuild<K: Eq + Hash + Drop, V: Drop, S: BuildHasher + Default + Drop>(
 ) -> Result<LinkedHashMap<K, V, S>, AllocError>
     ensures { IfOk result (λ new. entries_of new ≡ entries_of map) }
 {
-    // its contract says that no two keys are equal
+    // the clauses of `len` state that no two keys are equal
     let _count = map.len();
     LinkedHashMap::from_iter(alloc, map)
 }
@@ -36,8 +36,8 @@ pub fn append<K: Eq + Hash + Drop, V: Drop, S: BuildHasher + Drop>(
     map.extend(other)
 }
 
-/// Empties a map and moves another's entries into it, of which there are no more. No insert fails, as each
-/// uses a spare node.
+/// Empties a map and moves another's entries into it, which are no more than it had. No insert fails, because
+/// each uses a free node.
 pub fn refill<K: Eq + Hash + Drop, V: Drop, S: BuildHasher + Drop>(
     map: &mut LinkedHashMap<K, V, S>,
     other: LinkedHashMap<K, V, S>,
@@ -49,8 +49,8 @@ pub fn refill<K: Eq + Hash + Drop, V: Drop, S: BuildHasher + Drop>(
     append(map, other)
 }
 
-/// Moves the entries that an iterator over another map has left to the back of this one. If an insert fails,
-/// those after its pair are still left.
+/// Moves the entries that an iterator over another map has yet to return to the back of this one. If an
+/// insert fails, the entries after its pair are still left.
 pub fn append_rest<K: Eq + Hash + Drop, V: Drop, S: BuildHasher + Drop>(
     map: &mut LinkedHashMap<K, V, S>,
     rest: &mut IntoIter<K, V>,

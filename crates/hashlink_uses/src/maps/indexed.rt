@@ -1,4 +1,4 @@
-//! Writes through an index, and what is known of a map after one.
+//! Writes through an index, and what the caller knows about a map after one.
 ghost use Rattle.std.specs.Prelude.{◌≡◌};
 ghost use Rattle.hashlink.specs.Steps.{with_value_of};
 ghost use Rattle.hashlink.specs.Keyed.{state_of};

@@ -1,4 +1,4 @@
-//! Values that a map lends for writing, and what is known of the map afterwards.
+//! Values that a map lends for writing, and what the caller knows about the map afterwards.
 ghost use Rattle.std.specs.Prelude.{◌≡◌, IsFalse, IsTrue, is_some, length};
 ghost use Rattle.std.specs.Map.{lookup};
 ghost use Rattle.hashlink.specs.Keyed.{entries_of, state_of};

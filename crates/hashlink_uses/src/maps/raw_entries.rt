@@ -1,4 +1,5 @@
-//! Values that raw entries lend, entries that are found by a hash, and what is known of a map afterwards.
+//! Values that raw entries lend, entries that are found by a hash, and what the caller knows about a map
+//! afterwards.
 ghost use Rattle.std.specs.Prelude.{◌≡◌, IsFalse, IsTrue, is_some};
 ghost use Rattle.std.specs.Map.{lookup};
 ghost use Rattle.hashlink.specs.Keyed.{entries_of, state_of};

@@ -1,15 +1,15 @@
-//! Retains, and what is known of a map or a set after one.
+//! Retains, and what the caller knows about a map or a set after one.
 ghost use Rattle.std.specs.Prelude.{◌≡◌, ◌+◌, ◌/◌, ◌%◌, ◌≤◌, ◌&&◌, cond, filter, length, map as list_map};
 ghost use Rattle.std.specs.Prelude.{nat_eq, nat_lt, not};
 ghost use Rattle.hashlink.specs.Steps.{KeepsOnly};
 ghost use Rattle.hashlink.specs.Keyed.{state_of, entries_of};
 ghost use Rattle.hashlink.specs.Sets.{elements_of};
-ghost use Rattle.hashlink_uses.specs.WithoutFirst.{without_first};
+ghost use Rattle.hashlink.specs.WithoutFirst.{without_first};
 
 use hashlink::{LinkedHashMap, LinkedHashSet};
 use std::hash::{BuildHasher, Hash};
 
-/// Keeps the entries whose value is even, and halves it.
+/// Keeps the entries whose value is even, and halves their values.
 pub fn halve_even<K: Eq + Hash + Drop, S: BuildHasher>(map: &mut LinkedHashMap<K, u64, S>)
     ensures { KeepsOnly (state_of map.old) (state_of map.new)
         (list_map (λ e. (e.0, e.1 / 2)) (filter (λ e. nat_eq (e.1 % 2) 0) (entries_of map.old))) }
@@ -28,7 +28,7 @@ pub fn keep_below<S: BuildHasher>(set: &mut LinkedHashSet<u64, S>, bound: u64)
     set.retain(|element| *element < bound);
 }
 
-/// Removes the entries whose value is zero, but no more than `most`, those nearest to the front, and returns
+/// Removes the entries whose value is zero, but at most `most` of them, the nearest to the front, and returns
 /// how many it removed. The closure counts, and the count is read after the retain.
 pub fn take_zeros<K: Eq + Hash + Drop, S: BuildHasher>(
     map: &mut LinkedHashMap<K, u64, S>,
@@ -56,7 +56,7 @@ pub fn take_zeros<K: Eq + Hash + Drop, S: BuildHasher>(
     most - left
 }
 
-/// Removes the even elements, but no more than `most`, those nearest to the front, and returns how many it
+/// Removes the even elements, but at most `most` of them, the nearest to the front, and returns how many it
 /// removed.
 pub fn take_even<S: BuildHasher>(set: &mut LinkedHashSet<u64, S>, most: usize) -> usize
     ensures left { elements_of set.new

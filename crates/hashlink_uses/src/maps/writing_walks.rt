@@ -1,4 +1,4 @@
-//! Lending iterators, and what is known of a map after one.
+//! Lending iterators, and what the caller knows about a map after one.
 ghost use Rattle.std.specs.Prelude.{◌≡◌, ◌≢◌, ◌-◌, [], length, IsTrue, IsFalse};
 ghost use Rattle.hashlink.specs.MapState.{with_value};
 ghost use Rattle.hashlink.specs.Keyed.{state_of, entries_of};

@@ -1,4 +1,4 @@
-//! How entries make room for the last one.
+//! Evictions, which make room for the last entry.
 ghost use Rattle.std.specs.Prelude.{◌≤◌};
 ghost use Rattle.hashlink_core.specs.Keyed.{state_of, entries_of};
 ghost use Rattle.hashlink_model.specs.Entries.{IsEntries};
@@ -10,8 +10,8 @@ ghost use Rattle.hashlink_weighted.specs.Weighed.{HasTotal, LastWeighs};
 use hashlink_map::LinkedHashMap;
 use std::hash::{BuildHasher, Hash};
 
-/// Evicts entries from the front until the weights sum to at most the budget, gives each to `on_evicted`, and
-/// returns the sum. The last entry has this weight, and all others together weigh `others`. It takes a step
+/// Evicts entries from the front until the weights sum to at most the budget, calls `on_evicted` on each, and
+/// returns the sum. The last entry weighs `weight`, and all others together weigh `others`. It takes a step
 /// for each entry that it evicts.
 ///
 /// It compares before it adds, so no sum wraps.

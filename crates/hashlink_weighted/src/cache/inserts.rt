@@ -1,4 +1,4 @@
-//! Inserts, and how they make room.
+//! Inserts, which evict entries to make room.
 ghost use Rattle.std.specs.Prelude.{◌≡◌, ◌<◌, ◌↔◌, IfOk, OnOk, OnErr, Err};
 ghost use Rattle.hashlink_model.specs.Entries.{IsEntries};
 ghost use Rattle.hashlink_model.specs.Lookups.{UpdatesFitting};
@@ -31,13 +31,13 @@ impl<K: Eq + Hash, V, S: BuildHasher> WeightedCache<K, V, S> {
     /// budget. The longest end that fits stays, and the pair is always in it.
     ///
     /// If the weight is above the budget, it returns the pair in `TooHeavy` and nothing changes, even if the
-    /// key is present. It allocates only if the key is absent and no node is spare. If the table is full
-    /// then, it grows first, in linear time in the number of entries. If an allocation fails, it returns the
-    /// pair in `Memory`, changes no entry and evicts nothing; the room may have grown.
+    /// key is present. It allocates only if the key is absent and no node is free. If the table is also full,
+    /// it grows first, in linear time in the number of entries. If an allocation fails, it returns the pair
+    /// in `Memory`, changes no entry and evicts nothing; the room may have grown.
     ///
-    /// It hashes the key once, and takes constant time except for such a growth and for what it evicts. It
-    /// stores at most six links if the key is present and four if it is absent, and at most three for each
-    /// entry that it evicts.
+    /// It hashes the key once, and takes constant time except for such a growth and for each entry that it
+    /// evicts. It stores at most six links if the key is present and four if it is absent, and at most three
+    /// for each entry that it evicts.
     pub fn insert(&mut self, key: K, value: V, weight: u64) -> Result<Option<V>, WeightError<K, V>>
     where
         K: Drop,
@@ -51,14 +51,14 @@ impl<K: Eq + Hash, V, S: BuildHasher> WeightedCache<K, V, S> {
         self.insert_evicting(key, value, weight, &mut |_, _| {})
     }
 
-    /// Inserts the pair as `insert` does, at the same cost, and gives the key and the value of each entry
-    /// that it evicts, from the front, to `on_evicted`. That is called once for each entry, and has to be
-    /// callable on it, in the state that its earlier calls have left it in. The caller keeps it: after its
-    /// last call, the caller can read from it what its calls left in it.
+    /// Inserts the pair as `insert` does, at the same cost, and calls `on_evicted` once on the key and the
+    /// value of each entry that it evicts, from the front. `on_evicted` has to be callable on each, in the
+    /// state that its earlier calls left it in. The caller keeps it, and can read afterwards the state that
+    /// its calls left.
     ///
-    /// What the key's own entry had before is not evicted: its old value is returned. If the weight is above
-    /// the budget, or an allocation fails, `on_evicted` is not called: the pair is returned in `TooHeavy` or
-    /// in `Memory`, no entry changes and none is evicted; the room may have grown.
+    /// The old value of the key's own entry is returned, not evicted. If the weight is above the budget, or
+    /// an allocation fails, `on_evicted` is not called: the pair is returned in `TooHeavy` or in `Memory`, no
+    /// entry changes and none is evicted; the room may have grown.
     pub fn insert_evicting<F: FnMut(K, V)>(
         &mut self,
         key: K,

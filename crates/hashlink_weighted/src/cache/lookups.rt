@@ -69,6 +69,7 @@ impl<K: Eq + Hash, V, S: BuildHasher> WeightedCache<K, V, S> {
     /// Removes the entry of the key, and returns its value, or `None` if the key is absent. It looks the key
     /// up as `peek` does, and stores at most three links. The next insert of an absent key uses the node of
     /// the removed entry.
+    #[inline(always)]
     pub fn remove<Q: Equivalent<K>>(&mut self, key: Q) -> Option<V>
     where
         K: Drop,

@@ -1,9 +1,9 @@
-//! std's traits: what `collect` makes, and what a derive clones.
+//! std's traits: the results of `collect`, and the clones of a derive.
 use crate::few::{Map, is_value, passes};
 use std::alloc::{AllocError, Global};
 use std::process::ExitCode;
 
-/// What holds a container.
+/// A type that contains a container.
 #[derive(Clone, Drop)]
 struct Index {
     values: Map,

@@ -1,22 +1,22 @@
-//! `?` where an allocation fails.
+//! `?` if an allocation fails.
 use crate::few::{Map, map_of, passes};
 use std::alloc::{AllocError, AllocFailed, Global};
 use std::io;
 use std::process::ExitCode;
 
-/// Makes room. The pair of an insert that fails is dropped for `?`.
+/// Reserves room. If an insert fails, `?` drops its pair.
 fn put(map: &mut Map, room: usize) -> Result<(), AllocError> {
     map.reserve(room)?;
     map.insert(1, 10).map_err(|_| AllocError)?;
     Ok(())
 }
 
-/// Whether a pair is put where there can be room, and only there.
+/// Whether a pair is inserted exactly if room can be reserved.
 fn is_room_refused(map: &mut Map) -> bool {
     put(map, 4).is_ok() & put(map, 1 << 61).is_err()
 }
 
-/// Inserts a pair, which is dropped if memory runs out. The line is the same for each of these errors.
+/// Inserts a pair, which is dropped if memory runs out. The line is the same for each error type.
 fn put_or_io_error(map: &mut Map) -> io::Result<()> {
     map.insert(1, 11).map_err(|_| AllocError)?;
     Ok(())
@@ -49,7 +49,7 @@ fn put_and_pass_on_to_any(map: &mut Map) -> anyhow::Result<Option<u64>> {
     Ok(put_or_hand_back(map, (1, 15))?)
 }
 
-/// Whether each of these inserts.
+/// Whether each of them inserts.
 fn is_put_each_time(map: &mut Map) -> bool {
     put_or_io_error(map).is_ok()
         & put_or_any_error(map).is_ok()

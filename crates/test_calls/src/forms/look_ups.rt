@@ -1,11 +1,11 @@
-//! What stands for a key in a lookup: a text for a `String`, a slice for a `Vec`, a `&K` for a `K`.
+//! What a lookup accepts as a key: a text for a `String`, a slice for a `Vec`, a `&K` for a `K`.
 use crate::few::{is_value, passes};
 use hashlink::weighted::WeightedCache;
 use hashlink::{LinkedHashMap, LinkedHashSet, LruCache};
 use std::alloc::Global;
 use std::process::ExitCode;
 
-/// The text as a `String`, or an empty one where there is no memory.
+/// The text as a `String`, or an empty one if there is no memory.
 fn owned(alloc: Global, text: &str) -> String {
     match text.to_string(alloc) {
         Ok(owned) => owned,
@@ -27,22 +27,22 @@ fn finds_entry(map: &Texts) -> bool {
         & map.raw_entry().from_key("one").is_some()
 }
 
-/// Whether the calls of a text find the entry that move it or write its value.
+/// Whether the calls by a text that move the entry or write its value find it.
 fn moves_entry(map: &mut Texts) -> bool {
     map.get_mut("one").is_some() & map.to_front("one").is_some() & map.to_back("one").is_some()
 }
 
-/// Whether a text removes the entry, and finds it no more.
+/// Whether a call by a text removes the entry, and does not find it afterwards.
 fn removes_entry(map: &mut Texts) -> bool {
     (map.remove("one") == Some(1)) & map.remove_entry("one").is_none()
 }
 
-/// Whether the calls of a text find what a map has under it.
+/// Whether the calls by a text find what a map has under it.
 fn finds_all(map: &mut Texts, key: &String) -> bool {
     finds_value(map, key) & finds_entry(map) & moves_entry(map) & removes_entry(map)
 }
 
-/// Whether they do in a map that takes another such key.
+/// Whether they find it in a map into which one more key is inserted.
 fn is_found(map: &mut Texts, key: String) -> bool {
     map.insert(owned(map.allocator(), "one"), 1).is_ok() & finds_all(map, &key)
 }
@@ -53,7 +53,7 @@ fn a_text_finds_its_entry(rt: HostRuntime) -> ExitCode {
     passes(is_found(&mut LinkedHashMap::new(rt.alloc()), key))
 }
 
-/// Whether bytes find the value that a map has under them, and no others do.
+/// Whether bytes find the value that a map has under them, and other bytes find none.
 fn is_found_by_bytes(map: &mut LinkedHashMap<Vec<u8>, u32>, key: Vec<u8>) -> bool {
     map.insert(key, 1).is_ok()
         & is_value(map.get(b"one".as_slice()), 1)
@@ -78,17 +78,17 @@ fn a_borrowed_text_finds_its_entry(rt: HostRuntime) -> ExitCode {
     passes(is_found_borrowed(&mut LinkedHashMap::new(rt.alloc())))
 }
 
-/// Whether the calls of a text find the element of a set.
+/// Whether the calls by a text find the element of a set.
 fn finds_element(set: &mut LinkedHashSet<String>) -> bool {
     set.contains("one") & set.get("one").is_some() & set.to_front("one") & set.to_back("one")
 }
 
-/// Whether a text takes the element out, and finds it no more.
+/// Whether a call by a text removes the element, and does not find it afterwards.
 fn takes_element(set: &mut LinkedHashSet<String>) -> bool {
     set.take("one").is_some() & !set.remove("one")
 }
 
-/// Whether a set takes the element and a text finds it.
+/// Whether a set accepts the element and a text finds it.
 fn is_element_found(set: &mut LinkedHashSet<String>, element: String) -> bool {
     set.insert(element).is_ok() & finds_element(set) & takes_element(set)
 }
@@ -99,14 +99,14 @@ fn a_text_finds_its_element(rt: HostRuntime) -> ExitCode {
     passes(is_element_found(&mut LinkedHashSet::new(rt.alloc()), element))
 }
 
-/// Whether the calls of a text that read find its statement.
+/// Whether the reading calls by a text find its statement.
 fn reads_statement(cache: &mut LruCache<String, u32>) -> bool {
     is_value(cache.get("select 1"), 1)
         & is_value(cache.peek("select 1"), 1)
         & cache.contains_key("select 1")
 }
 
-/// Whether the calls of a text that write or remove find it.
+/// Whether the writing and removing calls by a text find it.
 fn removes_statement(cache: &mut LruCache<String, u32>) -> bool {
     cache.get_mut("select 1").is_some()
         & cache.peek_mut("select 1").is_some()
@@ -114,7 +114,7 @@ fn removes_statement(cache: &mut LruCache<String, u32>) -> bool {
         & cache.remove_entry("select 1").is_none()
 }
 
-/// Whether a cache takes the statement and a text finds it.
+/// Whether a cache accepts the statement and a text finds it.
 fn is_statement_found(cache: &mut LruCache<String, u32>, sql: String) -> bool {
     cache.insert(sql, 1).is_ok() & reads_statement(cache) & removes_statement(cache)
 }
@@ -125,7 +125,7 @@ fn a_text_finds_its_statement(rt: HostRuntime) -> ExitCode {
     passes(is_statement_found(&mut LruCache::new(rt.alloc(), 2), sql))
 }
 
-/// Whether a cache with a budget takes a value, and a text finds it.
+/// Whether a cache with a budget accepts a value, and a text finds it.
 fn is_weighed(cache: &mut WeightedCache<String, u32>, key: String) -> bool {
     cache.insert(key, 1, 1).is_ok()
         & is_value(cache.get("one"), 1)

@@ -1,4 +1,4 @@
-//! A curve of misses that is worked by hand.
+//! A miss curve that is computed by hand.
 use crate::few::passes;
 use hashlink_uses::curves::misses_of;
 use std::process::ExitCode;

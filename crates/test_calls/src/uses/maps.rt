@@ -1,11 +1,11 @@
-//! Calls of a map that may need memory.
+//! Calls of a map that may allocate.
 use crate::few::{Map, map_of, passes};
 use crate::raw_insert::put_number;
 use hashlink_uses::maps::cursors::put_after;
 use hashlink_uses::maps::entries::put_new;
 use std::process::ExitCode;
 
-/// Whether a map with the key 1 takes a pair by a cursor, by an entry and by a raw entry.
+/// Whether a map with the key 1 accepts a pair by a cursor, by an entry and by a raw entry.
 fn takes_each(map: &mut Map) -> bool {
     (put_after(map, 1, 2, 20) == Some(Ok(None)))
         & (put_new(map, 3, 30) == Ok(true))

@@ -1,4 +1,4 @@
-//! A cache of pages before a disk.
+//! A cache of pages in front of a disk.
 ghost use Rattle.std.specs.Prelude.{◌≡◌, slice_index};
 
 use crate::few::passes;
@@ -48,7 +48,7 @@ impl Store<u32> for Disk {
     }
 }
 
-/// A cache of two pages before a disk of four.
+/// A cache of two pages in front of a disk of four.
 fn four_pages(alloc: Global, is_locked: bool) -> Result<PageCache<u32, Disk>, AllocError> {
     let pages = vec![in alloc; 10, 11, 12, 13]?;
     let disk = Disk {
@@ -59,8 +59,8 @@ fn four_pages(alloc: Global, is_locked: bool) -> Result<PageCache<u32, Disk>, Al
     Ok(PageCache::new(alloc, 2, disk))
 }
 
-/// Whether each page is read as it was last written, whether it has left the cache or not, and the disk has
-/// it in the end, written once for each time that it left changed.
+/// Whether each page is read as it was last written, even after it has left the cache. In the end the disk
+/// has each page, saved once for each time that it left changed.
 fn is_read_as_written(mut cache: PageCache<u32, Disk>) -> bool {
     let is_written = cache.write(0, 20).is_ok()
         & cache.write(1, 21).is_ok()
@@ -82,8 +82,8 @@ fn a_page_is_read_as_it_was_last_written(rt: HostRuntime) -> ExitCode {
     })
 }
 
-/// Whether pages that the disk does not take stay in the cache, a page that is read is read all the same, and
-/// none can be written where another has to leave.
+/// Whether the pages that the disk fails to save stay in the cache, other pages are still read, and no page
+/// can be written if another has to leave for it.
 fn stays_in_the_cache(mut cache: PageCache<u32, Disk>) -> bool {
     let is_written = cache.write(0, 20).is_ok() & cache.write(1, 21).is_ok();
     let refused = cache.write(2, 22) == Err(PageError::Store(DiskError::Locked));

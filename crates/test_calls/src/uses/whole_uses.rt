@@ -1,8 +1,8 @@
-//! Names, settings, lines, tasks and squares.
+//! Names, settings, lines, tasks and cubes.
 use crate::few::{is_pair, passes};
 use hashlink::{LinkedHashMap, LinkedHashSet, LruCache};
 use hashlink_uses::lines::distinct_lines;
-use hashlink_uses::memo::{Squares, shared_square};
+use hashlink_uses::memo::{CubeError, Cubes, shared_cube};
 use hashlink_uses::names::{Answer, address_of, learn, sweep};
 use hashlink_uses::settings::merge;
 use hashlink_uses::tasks::RoundRobin;
@@ -27,7 +27,7 @@ fn name_learnt(
     }
 }
 
-/// Learns three names, each with an address that holds until a time.
+/// Learns three names, each with an address that is valid until a time.
 fn names_learnt(alloc: Global, names: &mut Names) -> Result<(), AllocError> {
     for (name, address, expires) in [
         ("rattle.example", 0x0a00_0001, 60),
@@ -39,8 +39,8 @@ fn names_learnt(alloc: Global, names: &mut Names) -> Result<(), AllocError> {
     Ok(())
 }
 
-/// The addresses of three names at a time, of which the first no longer holds; then how many names a sweep
-/// leaves, and the one that is then used least recently.
+/// The addresses of three names at a time, of which the first is no longer valid; then how many names a sweep
+/// leaves, and whether the least recently used of them is the expected one.
 fn names_at_100(names: &mut Names) -> ([Option<u32>; 3], usize, bool) {
     let found = [
         address_of(names, "rattle.example", 100),
@@ -55,7 +55,7 @@ fn names_at_100(names: &mut Names) -> ([Option<u32>; 3], usize, bool) {
     (found, names.len(), is_www)
 }
 
-/// Whether the names are learnt, and found at that time as they should be.
+/// Whether the names are learnt, and found at that time as expected.
 fn are_found(alloc: Global, names: &mut Names) -> bool {
     names_learnt(alloc, names).is_ok()
         & (names_at_100(names) == ([None, Some(0x0a00_0003), Some(0x0a00_0002)], 2, true))
@@ -76,12 +76,12 @@ type Settings = LinkedHashMap<&'static str, &'static str>;
 
 type Setting = (&'static str, &'static str);
 
-/// These settings.
+/// A map of the given settings.
 fn settings_of(alloc: Global, settings: &[Setting]) -> Result<Settings, AllocError> {
     LinkedHashMap::from_iter(alloc, settings.iter().copied())
 }
 
-/// Lays the settings of a user over others, and returns whether there was memory.
+/// Lets a user's settings override others, and returns whether there was memory.
 fn lay_over(alloc: Global, settings: &mut Settings) -> bool {
     match settings_of(alloc, &[("tabs", "4"), ("editor", "ed"), ("wrap", "yes")]) {
         Ok(own) => merge(settings, own).is_ok(),
@@ -89,7 +89,7 @@ fn lay_over(alloc: Global, settings: &mut Settings) -> bool {
     }
 }
 
-/// Whether these are the settings, in this order.
+/// Whether the map has exactly the wanted settings, in their order.
 fn are_these(settings: &Settings, wanted: &[Setting]) -> bool {
     let mut left = settings.iter();
     let mut all = true;
@@ -99,7 +99,7 @@ fn are_these(settings: &Settings, wanted: &[Setting]) -> bool {
     all & left.next().is_none()
 }
 
-/// Whether a user's settings are laid over those that a program begins with as they should be.
+/// Whether a user's settings override the ones with which a program begins.
 fn is_laid_over(alloc: Global, settings: &mut Settings) -> bool {
     let merged = &[
         ("colour", "auto"),
@@ -120,7 +120,7 @@ fn a_setting_keeps_its_place_and_takes_the_other_value(rt: HostRuntime) -> ExitC
     })
 }
 
-/// What a shell was asked, line by line.
+/// The lines that were typed into a shell.
 const HISTORY: &str = "ls\ncd src\nls\nmake\nmake\ncd ..\n\nls\ncd src\n\nexit";
 
 /// Adds a line to a text, and returns whether there was memory.
@@ -137,7 +137,7 @@ fn add_lines(text: &mut String, lines: LinkedHashSet<&str>) -> bool {
     all
 }
 
-/// Adds the lines of the history where they appear first.
+/// Adds the first appearances of the history's lines.
 fn add_history(alloc: Global, text: &mut String) -> bool {
     match distinct_lines(alloc, HISTORY) {
         Ok(lines) => add_lines(text, lines),
@@ -145,7 +145,7 @@ fn add_history(alloc: Global, text: &mut String) -> bool {
     }
 }
 
-/// Whether the lines of the history are these.
+/// Whether the first appearances of the history's lines are the expected ones.
 fn is_history(alloc: Global, text: &mut String) -> bool {
     add_history(alloc, text) & (text.as_str() == "ls\ncd src\nmake\ncd ..\n\nexit\n")
 }
@@ -155,8 +155,8 @@ fn a_line_is_shown_where_it_appears_first(rt: HostRuntime) -> ExitCode {
     passes(is_history(rt.alloc(), &mut String::new(rt.alloc())))
 }
 
-/// Whether three tasks, of which one is added twice, have their turns one after another, and the others once
-/// one is removed.
+/// Whether three tasks, one of them added twice, have their turns one after another, and so do the others
+/// after one is removed.
 fn have_their_turns(tasks: &mut RoundRobin<u32>) -> bool {
     let added = [tasks.add(7), tasks.add(3), tasks.add(5), tasks.add(3)];
     let first = tasks.next();
@@ -175,26 +175,38 @@ fn each_task_has_its_turn(rt: HostRuntime) -> ExitCode {
     passes(have_their_turns(&mut RoundRobin::new(rt.alloc())))
 }
 
-#[test]
-fn a_square_is_found_again(rt: HostRuntime) -> ExitCode {
-    let mut squares = Squares::new(rt.alloc(), 1);
+/// Whether cubes are found, anew and again, and one that is too large is not.
+fn are_cubes(cubes: &mut Cubes) -> bool {
     let found = [
-        squares.get(3),
-        squares.get(3),
-        squares.get(4),
-        squares.get(u32::MAX),
+        cubes.get(3),
+        cubes.get(3),
+        cubes.get(2_642_245),
+        cubes.get(2_642_246),
+        cubes.get(3),
     ];
-    passes(found == [9, 9, 16, 0xffff_fffe_0000_0001])
+    found
+        == [
+            Ok(27),
+            Ok(27),
+            Ok(18_446_724_184_312_856_125),
+            Err(CubeError::TooLarge),
+            Ok(27),
+        ]
 }
 
 #[test]
-fn a_square_is_found_behind_a_lock(rt: HostRuntime) -> ExitCode {
-    let memo = Mutex::new(Squares::new(rt.alloc(), 1));
-    passes(
-        [
-            shared_square(&memo, 3),
-            shared_square(&memo, 3),
-            shared_square(&memo, 5),
-        ] == [9, 9, 25],
-    )
+fn a_cube_is_found_again(rt: HostRuntime) -> ExitCode {
+    passes(are_cubes(&mut Cubes::new(rt.alloc(), 1)))
+}
+
+#[test]
+fn a_cube_is_found_behind_a_lock(rt: HostRuntime) -> ExitCode {
+    let memo = Mutex::new(Cubes::new(rt.alloc(), 1));
+    let found = [
+        shared_cube(&memo, 3),
+        shared_cube(&memo, 3),
+        shared_cube(&memo, u64::MAX),
+        shared_cube(&memo, 5),
+    ];
+    passes(found == [Ok(27), Ok(27), Err(CubeError::TooLarge), Ok(125)])
 }

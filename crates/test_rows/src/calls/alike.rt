@@ -1,9 +1,8 @@
-//! Iterators over two sets, with their bounds, and beside a clone.
+//! Iterators over two sets, with their bounds, compared with a clone.
 use crate::items::{Item, Line, Name, Stop, Word, lent_item};
 
-/// Says the bounds of how many are left and what comes, in turn, for so many steps, or where no number of
-/// steps is given until nothing comes. Then nothing more may come, and a clone that is made after the first
-/// step has to say the same.
+/// Records the bounds and the item of each step: for the given number of steps or, without a number, up to
+/// the end. After that no item may follow. A clone that is made after the first step has to return the same.
 pub fn say_steps<'s, I: Iterator<Item = &'s Item> + Clone>(
     mut first: I,
     steps: Option<Name>,
@@ -42,7 +41,7 @@ fn say_all<'s, I: Iterator<Item = &'s Item> + Clone>(
     Err(Stop::Unread)
 }
 
-/// Says that it is wrong if an iterator that has ended does not stay so.
+/// Records `Wrong` if an iterator that has ended does not stay ended.
 fn say_end<'s, I: Iterator<Item = &'s Item>>(walk: &mut I, line: &mut Line<'_>) -> Result<(), Stop>
     requires { (s : I) → I.can_next s }
 {
@@ -52,7 +51,7 @@ fn say_end<'s, I: Iterator<Item = &'s Item>>(walk: &mut I, line: &mut Line<'_>) 
     line.say(Word::Wrong)
 }
 
-/// The bounds of how many are left, and then what comes.
+/// The bounds on the number of items left, and then the next item.
 fn next_step<'s, I: Iterator<Item = &'s Item>>(walk: &mut I) -> [Word; 3]
     requires { (s : I) → I.can_next s }
 {

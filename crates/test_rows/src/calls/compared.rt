@@ -4,33 +4,19 @@ use hashlink_map::DefaultHashBuilder;
 use std::cmp::Ordering;
 use std::hash::{BuildHasher, Hash};
 
-#[derive(Clone, Copy)]
-enum Comparison {
-    Eq,
-    Less,
-    Cmp,
-    Hash,
-}
-
-const COMPARISONS: [(&str, Comparison); 4] = [
-    ("eq", Comparison::Eq),
-    ("less", Comparison::Less),
-    ("cmp", Comparison::Cmp),
-    ("hash", Comparison::Hash),
-];
-
-/// Compares two containers by `eq`, `cmp` or `partial_cmp`, each way round, or says whether they feed a
-/// hasher the same.
+/// Compares two containers by `eq`, `cmp` or `partial_cmp`, in both directions, or records whether they feed
+/// a hasher the same bytes.
 pub fn compare<C: Ord + Hash>(one: &C, other: &C, line: &mut Line<'_>) -> Result<(), Stop> {
-    match line.words.named(&COMPARISONS)? {
-        Comparison::Eq => line.say(equal(one, other)),
-        Comparison::Less => line.say(less(one, other)),
-        Comparison::Cmp => line.say_all(&ordered(one, other)),
-        Comparison::Hash => line.say(hashed_alike(one, other)),
+    match line.words.word() {
+        "eq" => line.say(equal(one, other)),
+        "less" => line.say(less(one, other)),
+        "cmp" => line.say_all(&ordered(one, other)),
+        "hash" => line.say(hashed_alike(one, other)),
+        _ => Err(Stop::Unread),
     }
 }
 
-/// Whether the two are equal, if that is so each way round.
+/// Whether the two are equal, if both directions agree.
 pub fn equal<C: PartialEq>(one: &C, other: &C) -> Word {
     let is_equal = one == other;
     if (other == one) != is_equal || (one != other) == is_equal {
@@ -59,7 +45,7 @@ fn ordered<C: Ord>(one: &C, other: &C) -> [Word; 3] {
     ]
 }
 
-/// Whether the two feed a hasher the same.
+/// Whether the two feed a hasher the same bytes.
 pub fn hashed_alike<C: Hash>(one: &C, other: &C) -> Word {
     Word::Is(DefaultHashBuilder.hash_one(one) == DefaultHashBuilder.hash_one(other))
 }

@@ -1,4 +1,4 @@
-//! Calls of the entry of a key that is in hand, of a map and of a cache.
+//! Calls of the entry of a given key, for a map and for a cache.
 use crate::calls::map_calls::Map;
 use crate::calls::map_cursors::take_all_steps;
 use crate::hashers::Hashing;
@@ -10,14 +10,14 @@ use hashlink_map::{Entry, TryInsertError};
 
 type InHand<'m> = Entry<'m, Item, Item, Hashing>;
 
-/// Makes the call of the entry of a map's key that the words say.
+/// Makes the call, given by the words, of the entry of a map's key.
 pub fn call_entry_of(map: &mut Map, line: &mut Line<'_>) -> Result<(), Stop> {
     let (key, call) = EntryCall::of_key(line)?;
     call_entry(map.entry(key), call, line)
 }
 
-/// Makes a call of an entry, which may have steps of a cursor behind it. One of an occupied entry answers
-/// nothing where the key is absent, and one of a vacant entry nothing where it is there.
+/// Makes a call of an entry, which may be followed by steps of a cursor. A call of an occupied entry returns
+/// nothing if the key is absent, and a call of a vacant entry returns nothing if it is present.
 pub fn call_entry(entry: InHand<'_>, call: EntryCall, line: &mut Line<'_>) -> Result<(), Stop> {
     match call {
         EntryCall::Cursor => steps_of(entry, line),
@@ -69,7 +69,7 @@ fn ask_there(entry: InHand<'_>, call: There, new: Option<Name>) -> Word {
     }
 }
 
-/// Writes the value where the key is there.
+/// Writes the value if the key is present.
 fn modify(entry: InHand<'_>, new: Option<Name>) -> Word {
     match entry.and_modify(|lent| set(lent, new)) {
         Entry::Occupied(entry) => Word::item(entry.get().name()),
@@ -109,7 +109,7 @@ fn try_make_at(entry: InHand<'_>, made: Result<Item, Item>, new: Option<Name>) -
     }
 }
 
-/// The key and why nothing was made for it, or the pair that is handed back.
+/// The key and the reason why no value was made, or the pair that is returned.
 pub fn not_made(error: TryInsertError<Item, Item, Item>) -> Answer {
     match error {
         TryInsertError::Make(key, why) => Answer::Back(Word::Nothing, shown((&key, &why))),

@@ -1,4 +1,4 @@
-//! How extensions of containers go, also by std's `Extend`.
+//! Results of extensions of containers, including std's `Extend`.
 ghost use Rattle.std.specs.Prelude.{List};
 
 use crate::items::{Answer, Item, Line, Read, Stop, Word, done, made, no_memory_after, rest_of};
@@ -6,48 +6,27 @@ use hashlink_map::ExtendError;
 use std::alloc::Global;
 use std::vec::IntoIter;
 
-/// A call that puts many items in.
-#[derive(Clone, Copy)]
-pub enum Extension {
-    /// `extend`.
-    Whole,
-    /// `extend`, after which it is said how many items its iterator has left.
-    Kept,
-    /// `extend_from`, and the same.
-    From,
-    /// std's `Extend`, and the same.
-    ByTrait,
-}
-
 /// A container into which many items are put.
 pub trait TakesMany<T> {
-    fn extend_by(&mut self, call: Extension, items: &mut IntoIter<T>) -> Answer;
+    /// Makes the call of this name, if it is one that puts many items in.
+    fn extend_by(&mut self, name: &str, items: &mut IntoIter<T>) -> Option<Answer>;
 }
 
-/// Puts in what the rest of the line names.
+/// Inserts what the rest of the line names.
 pub fn put_rest<T: Read + Drop, C: TakesMany<T>>(
     container: &mut C,
-    call: Extension,
+    name: &str,
     line: &mut Line<'_>,
 ) -> Result<(), Stop> {
     let items = &mut rest_of(line)?.into_iter();
-    let answer = container.extend_by(call, items);
-    say_extension(call, answer, items.len(), line)
-}
-
-fn say_extension(
-    call: Extension,
-    answer: Answer,
-    left: usize,
-    line: &mut Line<'_>,
-) -> Result<(), Stop> {
-    match call {
-        Extension::Whole => line.give(answer),
-        _ => say_kept(answer, left, line),
+    match container.extend_by(name, items) {
+        Some(answer) if name == "extend" => line.give(answer),
+        Some(answer) => say_kept(answer, items.len(), line),
+        None => Err(Stop::Unread),
     }
 }
 
-/// Makes the container anew of what the rest of the line names.
+/// Makes the container anew from what the rest of the line names.
 pub fn make_of_rest<T: Read + Drop, C: FromIterator<T, Alloc = Global> + Drop>(
     container: &mut C,
     line: &mut Line<'_>,
@@ -58,7 +37,7 @@ pub fn make_of_rest<T: Read + Drop, C: FromIterator<T, Alloc = Global> + Drop>(
     line.say(made(container, C::from_iter(line.home.alloc, items)))
 }
 
-/// The same by an iterator that is kept, after which it is said how many items it has left.
+/// The same by an iterator that is kept, followed by the number of items that it has left.
 pub fn make_of_kept<T: Read + Drop, C: FromIterator<T, Alloc = Global> + Drop>(
     container: &mut C,
     line: &mut Line<'_>,
@@ -71,7 +50,7 @@ pub fn make_of_kept<T: Read + Drop, C: FromIterator<T, Alloc = Global> + Drop>(
     say_kept(Answer::Word(made(container, new)), left, line)
 }
 
-/// That all pairs went in, or how many did before the one that is handed back.
+/// Done if all pairs were inserted, else how many were, and the pair that is returned.
 pub fn extended(answer: Result<(), ExtendError<Item, Item>>) -> Answer {
     match answer {
         Ok(()) => Answer::Word(Word::Done),
@@ -79,7 +58,7 @@ pub fn extended(answer: Result<(), ExtendError<Item, Item>>) -> Answer {
     }
 }
 
-/// That all items went in by std's `Extend`, or not.
+/// Whether std's `Extend` inserted all items.
 pub fn extended_by_trait<T: Drop, C: Extend<T>>(
     container: &mut C,
     items: &mut IntoIter<T>,
@@ -89,7 +68,7 @@ pub fn extended_by_trait<T: Drop, C: Extend<T>>(
     Answer::Word(done(container.extend(items)))
 }
 
-/// Says how an extension went, and how many items its iterator, which was kept, has left.
+/// Records the result of an extension, and the number of items that its iterator, which was kept, has left.
 pub fn say_kept(answer: Answer, left: usize, line: &mut Line<'_>) -> Result<(), Stop> {
     line.give(answer)?;
     line.say(Word::count(left))

@@ -1,143 +1,56 @@
-//! Lines that speak to a map, and need one entry of it at most. The others are in `map_many`.
-use crate::calls::called::{LooksUp, TakesPair, look_up, put_pair};
+//! Lines that call a map and need at most one of its entries. The others are in `map_many`.
 use crate::calls::map_many::call_many;
 use crate::hashers::Hashing;
 use crate::items::{
-    Answer, Asked, Item, Line, Name, Stop, Word, done, given, given_item, has_room, lent,
-    lent_item, made, made_with_room, no_memory, put, room, write, write_item,
+    Answer, Item, Line, Name, Stop, Word, done, given, given_item, has_room, lent, lent_item, made,
+    made_with_room, no_memory, put, room, write, write_item,
 };
 use hashlink_map::LinkedHashMap;
 
 pub type Map = LinkedHashMap<Item, Item, Hashing>;
 
-/// A call, by what follows its name.
-#[derive(Clone, Copy)]
-enum MapCall {
-    /// Nothing.
-    Bare(BareCall),
-    /// A key, and after a call that lends the value for writing what is then written to it.
-    Key(KeyCall),
-    /// What is then written to the value.
-    LendBack,
-    /// A pair, and after a call that lends the value for writing what is then written to it.
-    Pair(PairCall),
-    /// A number.
-    Size(SizeCall),
-}
-
-const CALLS: [(&str, MapCall); 30] = [
-    ("front", MapCall::Bare(BareCall::Front)),
-    ("back", MapCall::Bare(BareCall::Back)),
-    ("len", MapCall::Bare(BareCall::Len)),
-    ("is_empty", MapCall::Bare(BareCall::IsEmpty)),
-    ("pop_front", MapCall::Bare(BareCall::PopFront)),
-    ("pop_back", MapCall::Bare(BareCall::PopBack)),
-    ("clear", MapCall::Bare(BareCall::Clear)),
-    ("shrink", MapCall::Bare(BareCall::Shrink)),
-    ("clone", MapCall::Bare(BareCall::Clone)),
-    ("get", MapCall::Key(KeyCall::Get)),
-    ("contains_key", MapCall::Key(KeyCall::ContainsKey)),
-    ("get_key_value", MapCall::Key(KeyCall::GetKeyValue)),
-    ("index", MapCall::Key(KeyCall::Index)),
-    ("remove", MapCall::Key(KeyCall::Remove)),
-    ("remove_entry", MapCall::Key(KeyCall::RemoveEntry)),
-    ("get_mut", MapCall::Key(KeyCall::GetMut)),
-    ("to_front", MapCall::Key(KeyCall::ToFront)),
-    ("to_back", MapCall::Key(KeyCall::ToBack)),
-    ("index_mut", MapCall::Key(KeyCall::IndexMut)),
-    ("back_value_mut", MapCall::LendBack),
-    (
-        "get_or_insert_with",
-        MapCall::Pair(PairCall::GetOrInsertWith),
-    ),
-    ("insert", MapCall::Pair(PairCall::Insert)),
-    ("insert_front", MapCall::Pair(PairCall::InsertFront)),
-    ("replace", MapCall::Pair(PairCall::Replace)),
-    ("reserve", MapCall::Size(SizeCall::Reserve)),
-    ("try_reserve", MapCall::Size(SizeCall::TryReserve)),
-    ("room", MapCall::Size(SizeCall::Has(Asked::Room))),
-    ("capacity", MapCall::Size(SizeCall::Has(Asked::Capacity))),
-    ("under", MapCall::Size(SizeCall::Has(Asked::Under))),
-    ("with_capacity", MapCall::Size(SizeCall::WithCapacity)),
-];
-
 /// Makes the call that a line says.
 pub fn call_map(map: &mut Map, line: &mut Line<'_>) -> Result<(), Stop> {
-    match line.words.known(&CALLS) {
-        Some(MapCall::Bare(call)) => line.say(call_bare(map, call)),
-        Some(MapCall::Key(call)) => look_up(map, call, line),
-        Some(MapCall::LendBack) => {
-            let new = line.words.optional();
-            line.say(write(map.back_value_mut(), new))
-        }
-        Some(MapCall::Pair(call)) => put_pair(map, call, line),
-        Some(MapCall::Size(call)) => ask_room(map, call, line),
-        None => call_many(map, line),
-    }
-}
-
-#[derive(Clone, Copy)]
-enum BareCall {
-    Front,
-    Back,
-    Len,
-    IsEmpty,
-    PopFront,
-    PopBack,
-    Clear,
-    Shrink,
-    Clone,
-}
-
-fn call_bare(map: &mut Map, call: BareCall) -> Word {
-    match call {
-        BareCall::Front => lent(map.front()),
-        BareCall::Back => lent(map.back()),
-        BareCall::Len => Word::count(map.len()),
-        BareCall::IsEmpty => Word::Is(map.is_empty()),
-        BareCall::PopFront => given(map.pop_front()),
-        BareCall::PopBack => given(map.pop_back()),
-        BareCall::Clear => {
+    let name = line.words.word();
+    let word = match name {
+        "front" => lent(map.front()),
+        "back" => lent(map.back()),
+        "len" => Word::count(map.len()),
+        "is_empty" => Word::Is(map.is_empty()),
+        "pop_front" => given(map.pop_front()),
+        "pop_back" => given(map.pop_back()),
+        "clear" => {
             map.clear();
             Word::Done
         }
-        BareCall::Shrink => done(map.shrink_to_fit()),
-        BareCall::Clone => {
+        "shrink" => done(map.shrink_to_fit()),
+        "clone" => {
             let clone = map.clone();
             made(map, clone)
         }
-    }
+        "back_value_mut" => write(map.back_value_mut(), line.words.optional()),
+        _ => return look_up(map, name, line),
+    };
+    line.say(word)
 }
 
-#[derive(Clone, Copy)]
-enum KeyCall {
-    Get,
-    ContainsKey,
-    GetKeyValue,
-    Index,
-    Remove,
-    RemoveEntry,
-    GetMut,
-    ToFront,
-    ToBack,
-    IndexMut,
-}
-
-impl LooksUp<KeyCall> for Map {
-    fn find_by(&mut self, call: KeyCall, key: &Item, new: Option<Name>) -> Word {
-        match call {
-            KeyCall::Get => lent_item(self.get(key)),
-            KeyCall::ContainsKey => Word::Is(self.contains_key(key)),
-            KeyCall::GetKeyValue => lent(self.get_key_value(key)),
-            KeyCall::Index => index(self, key),
-            KeyCall::Remove => given_item(self.remove(key)),
-            KeyCall::RemoveEntry => given(self.remove_entry(key)),
-            KeyCall::GetMut => write(self.get_mut(key), new),
-            KeyCall::ToFront => write(self.to_front(key), new),
-            KeyCall::ToBack => write(self.to_back(key), new),
-            KeyCall::IndexMut => index_mut(self, key, new),
-        }
-    }
+/// Makes the call of this name, if it looks up the key that the next word names. What is lent for writing is
+/// written, if a name follows.
+fn look_up(map: &mut Map, name: &str, line: &mut Line<'_>) -> Result<(), Stop> {
+    let word = match name {
+        "get" => lent_item(map.get(&line.item()?)),
+        "contains_key" => Word::Is(map.contains_key(&line.item()?)),
+        "get_key_value" => lent(map.get_key_value(&line.item()?)),
+        "index" => index(map, &line.item()?),
+        "remove" => given_item(map.remove(&line.item()?)),
+        "remove_entry" => given(map.remove_entry(&line.item()?)),
+        "get_mut" => write(map.get_mut(&line.item()?), line.words.optional()),
+        "to_front" => write(map.to_front(&line.item()?), line.words.optional()),
+        "to_back" => write(map.to_back(&line.item()?), line.words.optional()),
+        "index_mut" => index_mut(map, &line.item()?, line.words.optional()),
+        _ => return put_pair(map, name, line),
+    };
+    line.say(word)
 }
 
 fn index(map: &Map, key: &Item) -> Word {
@@ -154,48 +67,38 @@ fn index_mut(map: &mut Map, key: &Item, new: Option<Name>) -> Word {
     Word::Nothing
 }
 
-#[derive(Clone, Copy)]
-enum PairCall {
-    Insert,
-    InsertFront,
-    Replace,
-    /// The value is made where the key is absent.
-    GetOrInsertWith,
-}
-
-impl TakesPair<PairCall> for Map {
-    fn put_by(&mut self, call: PairCall, (key, value): (Item, Item), new: Option<Name>) -> Answer {
-        put(match call {
-            PairCall::Insert => self.insert(key, value),
-            PairCall::InsertFront => self.insert_front(key, value),
-            PairCall::Replace => self.replace(key, value),
-            PairCall::GetOrInsertWith => {
-                return match self.get_or_insert_with(key, || value) {
-                    Ok(lent) => Answer::Word(write_item(lent, new)),
-                    Err(pair) => no_memory(pair),
-                };
+/// Makes the call of this name, if it takes the pair that the next two words name.
+fn put_pair(map: &mut Map, name: &str, line: &mut Line<'_>) -> Result<(), Stop> {
+    let answer = match name {
+        "insert" => put(map.insert(line.item()?, line.item()?)),
+        "insert_front" => put(map.insert_front(line.item()?, line.item()?)),
+        "replace" => put(map.replace(line.item()?, line.item()?)),
+        "get_or_insert_with" => {
+            let (key, value) = line.pair()?;
+            match map.get_or_insert_with(key, || value) {
+                Ok(lent) => Answer::Word(write_item(lent, line.words.optional())),
+                Err(pair) => no_memory(pair),
             }
-        })
-    }
+        }
+        _ => return ask_room(map, name, line),
+    };
+    line.give(answer)
 }
 
-#[derive(Clone, Copy)]
-enum SizeCall {
-    Reserve,
-    TryReserve,
-    Has(Asked),
-    WithCapacity,
-}
-
-fn ask_room(map: &mut Map, call: SizeCall, line: &mut Line<'_>) -> Result<(), Stop> {
-    let size = line.words.size();
-    line.say(match call {
-        SizeCall::Reserve => room(map.reserve(size)),
-        SizeCall::TryReserve => room(map.try_reserve(size)),
-        SizeCall::Has(asked) => has_room(asked, map.capacity(), map.len(), size),
-        SizeCall::WithCapacity => {
-            let new = LinkedHashMap::with_capacity_and_hasher(line.home.alloc, size, *map.hasher());
+/// Makes the call of this name, if it takes the number that comes next.
+fn ask_room(map: &mut Map, name: &str, line: &mut Line<'_>) -> Result<(), Stop> {
+    let word = match name {
+        "reserve" => room(map.reserve(line.words.size())),
+        "try_reserve" => room(map.try_reserve(line.words.size())),
+        "room" => has_room(map.capacity(), map.len(), line.words.size()),
+        "capacity" => Word::Is(map.capacity() == line.words.size()),
+        "under" => Word::Is(map.capacity() < line.words.size()),
+        "with_capacity" => {
+            let (alloc, size) = (line.home.alloc, line.words.size());
+            let new = LinkedHashMap::with_capacity_and_hasher(alloc, size, *map.hasher());
             made_with_room(map, new)
         }
-    })
+        _ => return call_many(map, name, line),
+    };
+    line.say(word)
 }

@@ -1,4 +1,4 @@
-//! Lines that speak to a cursor.
+//! Lines that call a cursor.
 use crate::calls::map_calls::Map;
 use crate::calls::map_many::AtEnd;
 use crate::hashers::Hashing;
@@ -9,10 +9,10 @@ use hashlink_map::CursorMut;
 
 type Cursor<'m> = CursorMut<'m, Item, Item, Hashing>;
 
-/// What is done with the cursor after its steps.
+/// The call of the cursor after its steps.
 #[derive(Clone, Copy)]
 enum Last {
-    /// It becomes its entry, which is said.
+    /// It becomes its entry, which is recorded.
     Entry,
     /// It lends its entry, which is removed.
     TakeEntry,
@@ -45,18 +45,18 @@ enum Named {
     Last(Last),
 }
 
-/// A step with what follows its name.
+/// A step with the arguments after its name.
 #[derive(Drop)]
 enum CursorStep {
     Next,
     Prev,
-    /// It says the entries before the cursor, at it and after it.
+    /// Records the entries before the cursor, at it and after it.
     At,
     Put(PutAt, Item, Item),
     Write(WriteAt, Name),
 }
 
-/// What comes next in the line.
+/// The next part of the line.
 #[derive(Drop)]
 enum Coming {
     Step(CursorStep),
@@ -111,7 +111,7 @@ fn cursor_at<'m>(map: &'m mut Map, end: AtEnd) -> Cursor<'m> {
     }
 }
 
-/// Takes the steps, after which the cursor is left.
+/// Makes the steps, after which the cursor is dropped.
 pub fn take_all_steps(cursor: &mut Cursor<'_>, line: &mut Line<'_>) -> Result<(), Stop> {
     match take_steps(cursor, line)? {
         Some(_last) => Err(Stop::Unread),
@@ -119,7 +119,7 @@ pub fn take_all_steps(cursor: &mut Cursor<'_>, line: &mut Line<'_>) -> Result<()
     }
 }
 
-/// Takes the steps, and returns what is done then, if anything is.
+/// Makes the steps, and returns the call that follows them, if any.
 fn take_steps(cursor: &mut Cursor<'_>, line: &mut Line<'_>) -> Result<Option<Last>, Stop> {
     for _ in 0..64 {
         match next_step(line)? {

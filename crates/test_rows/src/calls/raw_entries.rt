@@ -1,4 +1,4 @@
-//! Lines that speak to raw entries.
+//! Lines that call raw entries.
 use crate::calls::map_calls::Map;
 use crate::calls::map_cursors::take_all_steps;
 use crate::calls::map_many::AtEnd;
@@ -36,14 +36,14 @@ const WAYS: [(&str, Way); 6] = [
     ("of_test", Way::OfTest),
 ];
 
-/// Reads the pair of a key in the way that the words say.
+/// Reads the pair of a key in the way that the words name.
 pub fn read_raw(map: &Map, line: &mut Line<'_>) -> Result<(), Stop> {
     let way = line.words.named(&WAYS)?;
     let key = line.item()?;
     line.say(read_at(map, way, &key))
 }
 
-/// The pair of a key. Where the way takes the hash, that is asked for first.
+/// The pair of a key. If the way takes the hash, it is computed first.
 fn read_at(map: &Map, way: Way, key: &Item) -> Word {
     match way {
         Way::Key | Way::OfKey => lent(map.raw_entry().from_key(key)),
@@ -58,7 +58,7 @@ fn read_at(map: &Map, way: Way, key: &Item) -> Word {
     }
 }
 
-/// The raw entry of a key. Where the way takes the hash, that is asked for first.
+/// The raw entry of a key. If the way takes the hash, it is computed first.
 fn raw_of<'m>(map: &'m mut Map, way: Way, key: &Item) -> Raw<'m> {
     match way {
         Way::Key => map.raw_entry_mut().from_key(key),
@@ -85,8 +85,8 @@ fn raw_of_test<'m>(map: &'m mut Map, way: Way, key: &Item) -> Raw<'m> {
     }
 }
 
-/// Makes the call of a raw entry of a map that the words say: the way, the key and the call. One that puts an
-/// absent key has another name than one that needs an entry.
+/// Makes the call, given by the words, of a raw entry of a map: the way, the key and the call. A call that
+/// inserts an absent key has another name than one that needs an entry.
 pub fn call_raw(map: &mut Map, line: &mut Line<'_>) -> Result<(), Stop> {
     let way = line.words.named(&WAYS)?;
     let (key, call) = RawCall::of_key(line)?;
@@ -105,7 +105,7 @@ fn give_at(map: &mut Map, call: RawGive, key: Item, value: Item, new: Option<Nam
     }
 }
 
-/// Makes a call of a raw entry that needs one that is there.
+/// Makes a call of a raw entry that has to be occupied.
 pub fn call_found(entry: Raw<'_>, call: RawCall, line: &mut Line<'_>) -> Result<(), Stop> {
     match call {
         RawCall::Ask(RawAsk::Modify, new) => line.say(modify(entry, new)),
@@ -141,7 +141,7 @@ fn ask_there(entry: Raw<'_>, call: RawThere, new: Option<Name>) -> Word {
     }
 }
 
-/// Writes the value where the key is there.
+/// Writes the value if the key is present.
 fn modify(entry: Raw<'_>, new: Option<Name>) -> Word {
     match entry.and_modify(|_, lent| set(lent, new)) {
         RawEntryMut::Occupied(entry) => shown(entry.get_key_value()),
@@ -149,7 +149,7 @@ fn modify(entry: Raw<'_>, new: Option<Name>) -> Word {
     }
 }
 
-/// Makes a call that puts a pair where its key is absent, and lends the pair that is there.
+/// Makes a call that inserts a pair if its key is absent, and lends the pair that is then present.
 pub fn put_found(
     entries: Entries<'_>,
     make: Make,
@@ -198,7 +198,8 @@ fn entry_at_end<'m>(map: &'m mut Map, end: AtEnd) -> Option<Occupied<'m>> {
     }
 }
 
-/// Makes a call that puts a pair whose key is absent, and says the pair that is lent, which is then written.
+/// Makes a call that inserts a pair whose key is absent, and records the pair that is lent, which is then
+/// written.
 fn put_lent(map: &mut Map, put: RawPut, key: Item, value: Item, new: Option<Name>) -> Answer {
     let builder = *map.hasher();
     let hash = builder.hash_one(&key);
@@ -218,7 +219,7 @@ fn put_lent(map: &mut Map, put: RawPut, key: Item, value: Item, new: Option<Name
     }
 }
 
-/// The same of a call that makes the pair an entry, which is written and then said.
+/// The same for a call that makes the pair an entry, which is written and then recorded.
 fn put_entry(map: &mut Map, put: RawPut, key: Item, value: Item, new: Option<Name>) -> Answer {
     let builder = *map.hasher();
     let hash = builder.hash_one(&key);
@@ -241,7 +242,8 @@ fn put_entry(map: &mut Map, put: RawPut, key: Item, value: Item, new: Option<Nam
     }
 }
 
-/// Says the key that was stored and its value, where the entry has the key of the line now.
+/// Replaces the stored key, and returns the old key and its value, if the entry that is found has the key of
+/// the line.
 fn replace_key(map: &mut Map, key: Item) -> Word {
     match map.raw_entry_mut().from_key(&key) {
         RawEntryMut::Occupied(mut entry) if key == *entry.key() => {

@@ -1,9 +1,7 @@
-//! Lines that speak to a set about many elements, by an iterator, or about an element that it makes.
+//! Lines that call a set about many elements, by an iterator, or about an element that the call makes.
 ghost use Rattle.std.specs.Prelude.{◌≡◌};
 
-use crate::calls::extended::{
-    Extension, TakesMany, extended_by_trait, make_of_kept, make_of_rest, put_rest,
-};
+use crate::calls::extended::{TakesMany, extended_by_trait, make_of_kept, make_of_rest, put_rest};
 use crate::calls::set_calls::{Set, lent_or_back};
 use crate::items::{
     Answer, Item, Keep, Line, Stop, Word, is_other, read_keep, taken, walk_and_clone,
@@ -14,48 +12,19 @@ use std::alloc::Global;
 use std::mem;
 use std::vec::IntoIter;
 
-/// A call, by what follows its name.
-#[derive(Clone, Copy)]
-enum ManyCall {
-    /// An element that is looked up, and made where it is absent.
-    GetOrInsertWith,
-    /// Elements.
-    Extend(Extension),
-    /// Elements.
-    FromIter,
-    /// The same by an iterator that is kept.
-    FromKept,
-    /// What is kept. Whether it is `retain_with_order`.
-    Retain(bool),
-    /// Steps of an iterator.
-    Walk(WalkCall),
-}
-
-const CALLS: [(&str, ManyCall); 13] = [
-    ("get_or_insert_with", ManyCall::GetOrInsertWith),
-    ("extend", ManyCall::Extend(Extension::Whole)),
-    ("extend_from", ManyCall::Extend(Extension::From)),
-    ("extend_kept", ManyCall::Extend(Extension::Kept)),
-    ("extend_by_trait", ManyCall::Extend(Extension::ByTrait)),
-    ("from_iter", ManyCall::FromIter),
-    ("from_iter_kept", ManyCall::FromKept),
-    ("retain", ManyCall::Retain(false)),
-    ("retain_with_order", ManyCall::Retain(true)),
-    ("iter", ManyCall::Walk(WalkCall::Iter)),
-    ("drain", ManyCall::Walk(WalkCall::Drain)),
-    ("forgotten_drain", ManyCall::Walk(WalkCall::ForgottenDrain)),
-    ("into_iter", ManyCall::Walk(WalkCall::IntoIter)),
-];
-
-/// Makes the call that a line says, if it is one of these.
-pub fn call_many(set: &mut Set, line: &mut Line<'_>) -> Result<(), Stop> {
-    match line.words.named(&CALLS)? {
-        ManyCall::GetOrInsertWith => put_made(set, line),
-        ManyCall::Extend(call) => put_rest(set, call, line),
-        ManyCall::FromIter => make_of_rest(set, line),
-        ManyCall::FromKept => make_of_kept(set, line),
-        ManyCall::Retain(is_ordered) => retain(set, is_ordered, line),
-        ManyCall::Walk(call) => walk_set(set, call, line),
+/// Makes the call of this name, if it is one of these.
+pub fn call_many(set: &mut Set, name: &str, line: &mut Line<'_>) -> Result<(), Stop> {
+    match name {
+        "get_or_insert_with" => put_made(set, line),
+        "from_iter" => make_of_rest(set, line),
+        "from_iter_kept" => make_of_kept(set, line),
+        "retain" => retain(set, false, line),
+        "retain_with_order" => retain(set, true, line),
+        "iter" => walk_and_clone(set.iter(), line),
+        "drain" => walk_whole(set.drain(), line),
+        "forgotten_drain" => walk_and_forget(set.drain(), 1, line),
+        "into_iter" => walk_whole(take(set, line.home.alloc).into_iter(), line),
+        _ => put_rest(set, name, line),
     }
 }
 
@@ -66,7 +35,8 @@ fn put_made(set: &mut Set, line: &mut Line<'_>) -> Result<(), Stop> {
     line.give(lent_or_back(get_or_make(set, &element, made)))
 }
 
-/// What is lent if the made element is inserted when its equal is absent.
+/// Looks the element up, and lends it. If it is absent, the made element, which is equal to it, is inserted
+/// and lent.
 fn get_or_make<'s>(set: &'s mut Set, element: &Item, made: Item) -> Result<&'s Item, Item>
     requires { made.group ≡ element.now.group }
 {
@@ -79,11 +49,12 @@ fn get_or_make<'s>(set: &'s mut Set, element: &Item, made: Item) -> Result<&'s I
 }
 
 impl TakesMany<Item> for Set {
-    fn extend_by(&mut self, call: Extension, elements: &mut IntoIter<Item>) -> Answer {
-        match call {
-            Extension::Whole | Extension::Kept => extended(self.extend(&mut *elements)),
-            Extension::From => extended(self.extend_from(&mut *elements)),
-            Extension::ByTrait => extended_by_trait(self, elements),
+    fn extend_by(&mut self, name: &str, elements: &mut IntoIter<Item>) -> Option<Answer> {
+        match name {
+            "extend" | "extend_kept" => Some(extended(self.extend(&mut *elements))),
+            "extend_from" => Some(extended(self.extend_from(&mut *elements))),
+            "extend_by_trait" => Some(extended_by_trait(self, elements)),
+            _ => None,
         }
     }
 }
@@ -95,11 +66,12 @@ fn extended(answer: Result<(), ExtendError<Item, ()>>) -> Answer {
     }
 }
 
-/// What a retain of a set keeps. It has no values that could be even.
-const KEEPS: [(&str, Keep); 2] = [("odd", Keep::Odd), ("others", Keep::Others)];
-
+/// Keeps what the next word names. A set has no values that could be even.
 fn retain(set: &mut Set, is_ordered: bool, line: &mut Line<'_>) -> Result<(), Stop> {
-    let keep = read_keep(&KEEPS, set.len(), line)?;
+    let keep = read_keep(set.len(), line)?;
+    if matches!(keep, Keep::Even | Keep::WithoutOdd) {
+        return Err(Stop::Unread);
+    }
     keep_some(set, is_ordered, keep, &mut line.answers.words);
     line.say(Word::Done)
 }
@@ -113,7 +85,7 @@ fn keep_some(set: &mut Set, is_ordered: bool, keep: Keep, met: &mut Vec<Word>) {
     }
 }
 
-/// Whether the element is odd, or where `others` are kept even.
+/// Whether the element is odd or, for `others`, even.
 fn is_kept(element: &Item, keep: Keep, met: &mut Vec<Word>) -> bool {
     match keep {
         Keep::Others => is_other(element, met),
@@ -121,25 +93,7 @@ fn is_kept(element: &Item, keep: Keep, met: &mut Vec<Word>) -> bool {
     }
 }
 
-#[derive(Clone, Copy)]
-enum WalkCall {
-    Iter,
-    Drain,
-    /// A drain that is forgotten after its steps.
-    ForgottenDrain,
-    IntoIter,
-}
-
-fn walk_set(set: &mut Set, call: WalkCall, line: &mut Line<'_>) -> Result<(), Stop> {
-    match call {
-        WalkCall::Iter => walk_and_clone(set.iter(), line),
-        WalkCall::Drain => walk_whole(set.drain(), line),
-        WalkCall::ForgottenDrain => walk_and_forget(set.drain(), 1, line),
-        WalkCall::IntoIter => walk_whole(take(set, line.home.alloc).into_iter(), line),
-    }
-}
-
-/// The set, in whose place stands an empty one.
+/// Takes the set, and leaves an empty one in its place.
 fn take(set: &mut Set, alloc: Global) -> Set {
     let empty = LinkedHashSet::with_hasher(alloc, *set.hasher());
     mem::replace(set, empty)

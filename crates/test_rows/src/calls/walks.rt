@@ -1,6 +1,7 @@
-//! The iterators of maps by steps from both ends.
+//! The iterators of maps and caches by steps from both ends.
 use crate::hashers::Hashing;
 use crate::items::{Goes, Item, Step, Walk, Word, given, lent, lent_item, write, write_pair};
+use hashlink_lru::Drain as CacheDrain;
 use hashlink_map::{Drain, IntoIter, Iter, IterMut, Keys, Values, ValuesMut};
 
 impl Walk for Iter<'_, Item, Item> {
@@ -75,6 +76,18 @@ impl Walk for IntoIter<Item, Item> {
 }
 
 impl Walk for Drain<'_, Item, Item, Hashing> {
+    fn step(&mut self, step: Step) -> Word {
+        let came = match step.goes {
+            Goes::Left => Word::Nothing,
+            Goes::Back => given(self.next_back()),
+            _ => given(self.next()),
+        };
+        let hint = self.size_hint();
+        step.said_of(came, hint.0, hint)
+    }
+}
+
+impl Walk for CacheDrain<'_, Item, Item, Hashing> {
     fn step(&mut self, step: Step) -> Word {
         let came = match step.goes {
             Goes::Left => Word::Nothing,

@@ -1,15 +1,15 @@
-//! What a call answers, word by word.
+//! The answer to a call, word by word.
 use crate::items::line::push;
 use std::alloc::{AllocError, Global};
 use std::fmt;
 
-/// The number that the digits say.
+/// The number that the digits spell.
 pub fn number(word: &str) -> Option<u64> {
     word.parse::<u64>().ok()
 }
 
-/// How an item is written: its group, and after a dot its number, if it has one. As a key it is compared and
-/// hashed by its group alone.
+/// An item as it is written: its group and, after a dot, its number, if it has one. As a key it is compared
+/// and hashed only by its group.
 #[derive(Clone, Copy)]
 #[derive_where(PartialEq, Eq, Hash)]
 pub struct Name {
@@ -32,7 +32,7 @@ impl Name {
     }
 }
 
-/// What is written as an item is.
+/// A value that is written as an item is.
 pub trait Named {
     fn name(&self) -> Name;
 }
@@ -65,7 +65,7 @@ pub enum Word {
     Item(u64, u64),
     /// A key and its value with a colon between them.
     Pair((u64, u64), (u64, u64)),
-    /// `memory`: there was none. What is handed back comes next.
+    /// `memory`: an allocation failed. The next word is what was returned.
     Memory,
     /// `overflow`: more room than there can be.
     Overflow,
@@ -75,7 +75,7 @@ pub enum Word {
     Wrong,
 }
 
-/// The words that say no number.
+/// The words without a number.
 const PLAIN: [(&str, Word); 7] = [
     ("-", Word::Nothing),
     ("ok", Word::Done),
@@ -86,7 +86,7 @@ const PLAIN: [(&str, Word); 7] = [
     ("heavy", Word::Heavy),
 ];
 
-/// What the name stands for in a table.
+/// What the table has for the name.
 pub fn find<T: Copy>(table: &[(&str, T)], name: &str) -> Option<T> {
     for (text, meant) in table {
         if name == *text {
@@ -129,7 +129,7 @@ impl Word {
         Word::Item(count as u64, 0)
     }
 
-    /// The text of a word that says no number.
+    /// The text of a word without a number.
     fn text(self) -> &'static str {
         match self {
             Word::Nothing => "-",
@@ -168,17 +168,17 @@ impl fmt::Display for Word {
     }
 }
 
-/// What a call answers.
+/// The answer to a call.
 #[derive(Clone, Copy)]
 pub enum Answer {
     Word(Word),
-    /// Why it hands something back, and what.
+    /// Why it returns something, and what.
     Back(Word, Word),
-    /// For want of memory it hands this back, after so many were taken.
+    /// An allocation failed: it returns this, after this many were inserted.
     BackAfter(Word, u64),
-    /// What stands around a cursor.
+    /// The pairs around a cursor.
     Around([Word; 3]),
-    /// Nothing is said.
+    /// Nothing is recorded.
     Silent,
 }
 
@@ -187,7 +187,7 @@ pub enum Answer {
 pub enum Stop {
     /// There was no memory for what the row itself needs.
     Memory,
-    /// It is no line of this kind of row.
+    /// It is not a line of this kind of row.
     Unread,
 }
 
@@ -197,7 +197,7 @@ impl From<AllocError> for Stop {
     }
 }
 
-/// How many answers were refusals, and how many rows had no memory of their own.
+/// The numbers of rows, of answers that were refusals, and of rows for which there was no memory.
 #[derive(Clone, Copy, Default)]
 pub struct Tally {
     pub rows: usize,
@@ -205,7 +205,7 @@ pub struct Tally {
     pub left_out: usize,
 }
 
-/// What a line answers, and how it went before.
+/// The answer to a line, and the counts so far.
 #[derive(Drop)]
 pub struct Answers {
     pub words: Vec<Word>,
@@ -236,7 +236,7 @@ impl Answers {
         }
     }
 
-    /// Counts the refusals that were said, and returns whether there was one.
+    /// Counts the refusals that were recorded, and returns whether there was one.
     pub fn count_refused(&mut self) -> bool {
         let before = self.tally.refused;
         for word in self.words.iter() {
@@ -252,7 +252,7 @@ impl Answers {
     }
 }
 
-/// Whether the words are what is written.
+/// Whether the words are the written ones.
 pub fn are_written(words: &[Word], written: &str) -> bool {
     let mut written = written.split(' ');
     for word in words {

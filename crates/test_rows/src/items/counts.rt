@@ -1,8 +1,8 @@
 //! How often items are hashed, compared and cloned, and how many are forgotten.
 use std::cell::Cell;
 
-/// What items share: how often any of them was hashed, two of them were compared, and any was cloned, and how
-/// many are never dropped.
+/// Counts that items share: how often any of them was hashed, two of them were compared, and any was cloned,
+/// and how many are never dropped.
 #[derive(Drop)]
 pub struct Counts {
     hashes: Cell<u64>,
@@ -44,12 +44,12 @@ impl Counts {
         self.forgotten.get()
     }
 
-    /// How many hashes and how many comparisons there were since the last call of this.
+    /// How many hashes and how many comparisons there were since the last call of this function.
     pub fn take_cost(&self) -> (u64, u64) {
         (self.hashes.replace(0), self.comparisons.replace(0))
     }
 
-    /// How many clones there were since the last call of this.
+    /// How many clones there were since the last call of this function.
     pub fn take_clones(&self) -> u64 {
         self.clones.replace(0)
     }

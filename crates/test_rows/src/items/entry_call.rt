@@ -3,7 +3,7 @@ use crate::items::Item;
 use crate::items::answers::{Name, Stop};
 use crate::items::line::Line;
 
-/// A call of an entry that is there, which takes no item. What is lent is written where a name follows.
+/// A call of an occupied entry, which takes no item. If a name follows, it is written into what is lent.
 #[derive(Clone, Copy)]
 pub enum There {
     Get,
@@ -17,14 +17,14 @@ pub enum There {
     IntoMut,
 }
 
-/// A call that puts a value where the key is absent, and lends the one that is there.
+/// A call that inserts a value if the key is absent, and lends the one that is then present.
 #[derive(Clone, Copy)]
 pub enum Make {
     OrInsert,
     OrInsertWith,
 }
 
-/// A call that puts a value where the key is there.
+/// A call that sets the value if the key is present.
 #[derive(Clone, Copy)]
 pub enum Put {
     Insert,
@@ -33,7 +33,7 @@ pub enum Put {
     ReplaceEntry,
 }
 
-/// A call that needs nothing more than the key that is absent.
+/// A call that needs only the absent key.
 #[derive(Clone, Copy)]
 pub enum Vacant {
     Key,
@@ -42,26 +42,26 @@ pub enum Vacant {
     Raw,
 }
 
-/// A call that puts a value where the key is absent.
+/// A call that inserts a value if the key is absent.
 #[derive(Clone, Copy)]
 pub enum PutVacant {
     Insert,
     InsertEntry,
-    /// Puts the pair in, and takes it out at once.
+    /// Inserts the pair, and removes it at once.
     Take,
 }
 
-/// A call that takes no item. What is lent is written where a name follows.
+/// A call that takes no item. If a name follows, it is written into what is lent.
 #[derive(Clone, Copy)]
 pub enum Ask {
-    /// The key that is in hand.
+    /// The given key.
     Key,
     Modify,
     There(There),
     Vacant(Vacant),
 }
 
-/// A call that takes a value. What is lent is written where a name follows.
+/// A call that takes a value. If a name follows, it is written into what is lent.
 #[derive(Clone, Copy)]
 pub enum Give {
     Make(Make),
@@ -69,7 +69,7 @@ pub enum Give {
     PutVacant(PutVacant),
 }
 
-/// A call of an entry, with what it takes.
+/// A call of an entry, with its arguments.
 #[derive(Drop)]
 pub enum EntryCall {
     Ended(EndedCall),
@@ -82,11 +82,11 @@ pub enum EntryCall {
 pub enum EndedCall {
     Ask(Ask, Option<Name>),
     Give(Give, Item, Option<Name>),
-    /// Puts what was made, or hands on why nothing was.
+    /// Inserts the made value, or passes on the reason why none was made.
     TryMake(Result<Item, Item>, Option<Name>),
 }
 
-/// A call by its name alone.
+/// A call by its name only.
 #[derive(Clone, Copy)]
 enum Named {
     Ask(Ask),
@@ -137,13 +137,13 @@ const VACANT: [(&str, Named); 6] = [
 ];
 
 impl EntryCall {
-    /// The key and the call that the next words say.
+    /// The key and the call that the next words name.
     pub fn of_key(line: &mut Line<'_>) -> Result<(Item, EntryCall), Stop> {
         let key = line.item()?;
         Ok((key, EntryCall::read(line)?))
     }
 
-    /// The call that the next words say.
+    /// The call that the next words name.
     fn read(line: &mut Line<'_>) -> Result<EntryCall, Stop> {
         let calls: &[(&str, Named)] = if line.words.has("vacant") {
             &VACANT

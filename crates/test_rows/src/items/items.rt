@@ -11,8 +11,8 @@ use std::alloc::{AllocError, Global};
 use std::hash::{Hash, Hasher};
 use std::rc::Rc;
 
-/// Where items and containers are made: the memory, what each item has a share of, so that the shares tell
-/// how many live, and how the containers hash.
+/// What items and containers are made from: the allocator, the counts that all items share, whose shares tell
+/// how many items live, and the hashing of the containers.
 #[derive(Clone, Copy)]
 pub struct Home<'h> {
     pub alloc: Global,
@@ -21,7 +21,7 @@ pub struct Home<'h> {
 }
 
 impl Home<'_> {
-    /// How many items live, but those that were forgotten.
+    /// How many items live, except for the forgotten ones.
     pub fn living(self) -> usize {
         Rc::strong_count(self.counts)
             .saturating_sub(1)
@@ -33,24 +33,24 @@ impl Home<'_> {
         self.counts.forget(items);
     }
 
-    /// How many hashes and how many comparisons of items there were since the last call of this.
+    /// How many hashes and how many comparisons of items there were since the last call of this function.
     pub fn cost(self) -> (u64, u64) {
         self.counts.take_cost()
     }
 
-    /// How many clones of items there were since the last call of this.
+    /// How many clones of items there were since the last call of this function.
     pub fn clones(self) -> u64 {
         self.counts.take_clones()
     }
 
-    /// Two new items of the names.
+    /// Two new items with the given names.
     pub fn pair(self, (key, value): Pair) -> Result<(Item, Item), Stop> {
         Ok((Item::new(self, key)?, Item::new(self, value)?))
     }
 }
 
-/// A key, an element or a value: compared and hashed by its group alone, so that its number tells which of
-/// two equal ones it is. It counts each hash, each comparison for equality and each clone.
+/// A key, an element or a value. It is compared and hashed only by its group, so its number shows which of
+/// two equal items it is. It counts each hash, each comparison for equality and each clone.
 #[derive(Drop)]
 #[derive_where(PartialOrd, Ord)]
 pub struct Item {

@@ -1,38 +1,32 @@
-//! What retains keep, and what is asked of room.
+//! The tests of retains, and the questions about room.
 use crate::items::Item;
 use crate::items::answers::{Stop, Word};
 use crate::items::line::Line;
-
-/// The call of a retain.
-#[derive(Clone, Copy)]
-pub enum Retain {
-    Any,
-    WithOrder,
-    /// `retain_from`, of a closure that is lent.
-    From,
-}
 
 /// The test of a retain, by its word.
 #[derive(Clone, Copy)]
 pub enum Keep {
     /// `even` values.
     Even,
-    /// `odd` keys, whose values become ten times as much.
+    /// `odd` keys, whose values grow tenfold.
     Odd,
-    /// `others` than the odd keys. Each key that is met is said, in turn.
+    /// `others` than the odd keys. Each key on which the test is called is recorded, in order.
     Others,
-    /// The same by `without_odd`, where each odd key is said, in turn.
+    /// The same by `without_odd`, for which each odd key is recorded, in order.
     WithoutOdd,
 }
 
-pub const KEEPS: [(&str, Keep); 4] = [
-    ("even", Keep::Even),
-    ("odd", Keep::Odd),
-    ("others", Keep::Others),
-    ("without_odd", Keep::WithoutOdd),
-];
-
 impl Keep {
+    fn of(word: &str) -> Result<Keep, Stop> {
+        match word {
+            "even" => Ok(Keep::Even),
+            "odd" => Ok(Keep::Odd),
+            "others" => Ok(Keep::Others),
+            "without_odd" => Ok(Keep::WithoutOdd),
+            _ => Err(Stop::Unread),
+        }
+    }
+
     /// How many words it may say of so many entries.
     pub fn room(self, len: usize) -> usize {
         match self {
@@ -57,40 +51,26 @@ pub fn is_even(_key: &Item, value: &mut Item) -> bool {
     value.group % 2 == 0
 }
 
-/// Whether the key is odd. Its value becomes ten times as much.
+/// Whether the key is odd. Then its value grows tenfold.
 pub fn is_raised(key: &Item, value: &mut Item) -> bool {
     value.group = value.group.wrapping_mul(10);
     key.group % 2 == 1
 }
 
-/// Whether the key, which is met, is even.
+/// Whether the key, which is recorded, is even.
 pub fn is_other(key: &Item, met: &mut Vec<Word>) -> bool {
     let _ = met.push(Word::item(key.name()));
     key.group % 2 == 0
 }
 
-/// The test of the table that the next word names, of so many entries, for whose words there is then room.
-pub fn read_keep(table: &[(&str, Keep)], len: usize, line: &mut Line<'_>) -> Result<Keep, Stop> {
-    let keep = line.words.named(table)?;
+/// The test that the next word names, of so many entries, for whose words there is then room.
+pub fn read_keep(len: usize, line: &mut Line<'_>) -> Result<Keep, Stop> {
+    let keep = Keep::of(line.words.word())?;
     line.answers.words.reserve(keep.room(len))?;
     Ok(keep)
 }
 
-/// What a row asks of the room of a container.
-#[derive(Clone, Copy)]
-pub enum Asked {
-    /// Whether so many more have room.
-    Room,
-    /// Whether the capacity is so much.
-    Capacity,
-    /// Whether it is less.
-    Under,
-}
-
-pub fn has_room(asked: Asked, capacity: usize, len: usize, size: usize) -> Word {
-    Word::Is(match asked {
-        Asked::Room => capacity.saturating_sub(len) >= size,
-        Asked::Capacity => capacity == size,
-        Asked::Under => capacity < size,
-    })
+/// Whether a container of this capacity and length has room for so many more.
+pub fn has_room(capacity: usize, len: usize, more: usize) -> Word {
+    Word::Is(capacity.saturating_sub(len) >= more)
 }

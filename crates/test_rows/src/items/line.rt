@@ -1,16 +1,16 @@
-//! A line that is being answered, and what is read from its words.
+//! A line that is being run, and what is read from its words.
 use crate::items::answers::{Answer, Answers, Name, Pair, Stop, Word};
 use crate::items::words::Words;
 use crate::items::{Home, Item};
 
-/// A line that is being answered.
+/// A line that is being run.
 #[derive(Drop)]
 pub struct Line<'l> {
-    /// Where the items are made that it names.
+    /// What the items that it names are made from.
     pub home: Home<'l>,
-    /// Those that are not yet read.
+    /// The words that have not been read yet.
     pub words: Words<'l>,
-    /// What it answers, and how the lines before it went.
+    /// Its answer, and the counts of the lines before it.
     pub answers: Answers,
 }
 
@@ -27,8 +27,8 @@ impl Line<'_> {
         Ok((Item::new(self.home, item)?, new))
     }
 
-    /// What the next word names as made, and the name after it, if there is one, or what the word after
-    /// `fail` names as why nothing is made.
+    /// The value that the next word names as made, and the name after it, if there is one; or, after `fail`,
+    /// the reason why none is made.
     pub fn tried(&mut self) -> Result<(Result<Item, Item>, Option<Name>), Stop> {
         let is_made = !self.words.has("fail");
         let (item, new) = self.lent_item()?;
@@ -53,7 +53,7 @@ impl Line<'_> {
     }
 }
 
-/// What is read from the next words of a line.
+/// A value that is read from the next words of a line.
 pub trait Read: Sized {
     fn read(line: &mut Line<'_>) -> Result<Self, Stop>;
 }
@@ -99,7 +99,7 @@ pub fn push_rest<T: Read + Drop>(line: &mut Line<'_>, named: &mut Vec<T>) -> Res
     Ok(())
 }
 
-/// Pushes what a row itself needs.
+/// Pushes an item that the row itself needs.
 pub fn push<T: Drop>(items: &mut Vec<T>, item: T) -> Result<(), Stop> {
     match items.push(item) {
         Ok(()) => Ok(()),

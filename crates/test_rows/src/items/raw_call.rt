@@ -4,7 +4,7 @@ use crate::items::answers::{Name, Stop};
 use crate::items::entry_call::Make;
 use crate::items::line::Line;
 
-/// A call of an entry that is there, which takes no item. What is lent is written where a name follows.
+/// A call of an occupied entry, which takes no item. If a name follows, it is written into what is lent.
 #[derive(Clone, Copy)]
 pub enum RawThere {
     Get,
@@ -20,7 +20,7 @@ pub enum RawThere {
     IntoKeyValue,
 }
 
-/// A call that puts a pair whose key is absent.
+/// A call that inserts a pair whose key is absent.
 #[derive(Clone, Copy)]
 pub enum RawPut {
     Insert,
@@ -28,24 +28,24 @@ pub enum RawPut {
     InsertWithHasher,
 }
 
-/// A call that takes no item. What is lent is written where a name follows.
+/// A call that takes no item. If a name follows, it is written into what is lent.
 #[derive(Clone, Copy)]
 pub enum RawAsk {
     Modify,
     There(RawThere),
 }
 
-/// A call that takes a value. What is lent is written where a name follows.
+/// A call that takes a value. If a name follows, it is written into what is lent.
 #[derive(Clone, Copy)]
 pub enum RawGive {
     Make(Make),
-    /// It lends what it puts.
+    /// It lends the pair that it inserts.
     Put(RawPut),
-    /// It makes what it puts an entry.
+    /// It makes the pair that it inserts an entry.
     PutEntry(RawPut),
 }
 
-/// A call of a raw entry, with what it takes beside the key.
+/// A call of a raw entry, with its arguments besides the key.
 #[derive(Drop)]
 pub enum RawCall {
     Ask(RawAsk, Option<Name>),
@@ -56,7 +56,7 @@ pub enum RawCall {
     Cursor,
 }
 
-/// A call by its name alone.
+/// A call by its name only.
 #[derive(Clone, Copy)]
 enum Named {
     Ask(RawAsk),
@@ -123,13 +123,13 @@ const CALLS: [(&str, Named); 23] = [
 ];
 
 impl RawCall {
-    /// The key and the call that the next words say.
+    /// The key and the call that the next words name.
     pub fn of_key(line: &mut Line<'_>) -> Result<(Item, RawCall), Stop> {
         let key = line.item()?;
         Ok((key, RawCall::read(line)?))
     }
 
-    /// The call that the next words say.
+    /// The call that the next words name.
     pub fn read(line: &mut Line<'_>) -> Result<RawCall, Stop> {
         match line.words.named(&CALLS)? {
             Named::Ask(call) => Ok(RawCall::Ask(call, line.words.optional())),

@@ -1,4 +1,4 @@
-//! What is said of keys and values that a container gives or lends.
+//! The words for keys and values that a container returns or lends.
 use crate::items::Item;
 use crate::items::answers::{Answer, Name, Word};
 use hashlink_table::TryReserveError;
@@ -8,7 +8,7 @@ pub fn shown((key, value): (&Item, &Item)) -> Word {
     Word::pair((key.name(), value.name()))
 }
 
-/// What is said of a pair that is lent.
+/// The word for a pair that is lent.
 pub fn lent(pair: Option<(&Item, &Item)>) -> Word {
     match pair {
         Some((key, value)) => shown((key, value)),
@@ -16,7 +16,7 @@ pub fn lent(pair: Option<(&Item, &Item)>) -> Word {
     }
 }
 
-/// What is said of a key, a value or an element that is lent.
+/// The word for a key, a value or an element that is lent.
 pub fn lent_item(item: Option<&Item>) -> Word {
     match item {
         Some(item) => Word::item(item.name()),
@@ -24,7 +24,7 @@ pub fn lent_item(item: Option<&Item>) -> Word {
     }
 }
 
-/// What is said of a pair that was taken out, if one was.
+/// The word for a pair that was removed, if one was.
 pub fn given(pair: Option<(Item, Item)>) -> Word {
     match pair {
         Some(pair) => taken_pair(pair),
@@ -32,12 +32,12 @@ pub fn given(pair: Option<(Item, Item)>) -> Word {
     }
 }
 
-/// What is said of a pair that was taken out.
+/// The word for a pair that was removed.
 pub fn taken_pair((key, value): (Item, Item)) -> Word {
     shown((&key, &value))
 }
 
-/// What is said of a key, a value or an element that was taken out, if one was.
+/// The word for a key, a value or an element that was removed, if one was.
 pub fn given_item(item: Option<Item>) -> Word {
     match item {
         Some(item) => taken(item),
@@ -45,12 +45,12 @@ pub fn given_item(item: Option<Item>) -> Word {
     }
 }
 
-/// What is said of a key, a value or an element that was taken out.
+/// The word for a key, a value or an element that was removed.
 pub fn taken(item: Item) -> Word {
     Word::item(item.name())
 }
 
-/// What is said of a value that is lent for writing, after which it is written.
+/// The word for a value that is lent for writing, which is then written.
 pub fn write(value: Option<&mut Item>, new: Option<Name>) -> Word {
     match value {
         Some(value) => write_item(value, new),
@@ -71,7 +71,7 @@ pub fn set(value: &mut Item, new: Option<Name>) {
     }
 }
 
-/// The same of a pair.
+/// The same for a pair.
 pub fn write_pair(pair: Option<(&Item, &mut Item)>, new: Option<Name>) -> Word {
     let Some(pair) = pair else {
         return Word::Nothing;
@@ -85,7 +85,7 @@ fn write_value(key: &Item, value: &mut Item, new: Option<Name>) -> Word {
     old
 }
 
-/// The old value, or the pair that is handed back for want of memory.
+/// The old value, or the pair that is returned because an allocation failed.
 pub fn put(old: Result<Option<Item>, (Item, Item)>) -> Answer {
     match old {
         Ok(value) => Answer::Word(given_item(value)),
@@ -93,17 +93,17 @@ pub fn put(old: Result<Option<Item>, (Item, Item)>) -> Answer {
     }
 }
 
-/// That a pair is handed back for want of memory.
+/// A pair that is returned because an allocation failed.
 pub fn no_memory(pair: (Item, Item)) -> Answer {
     Answer::Back(Word::Memory, taken_pair(pair))
 }
 
-/// That a pair is handed back for want of memory after so many were taken.
+/// A pair that is returned because an allocation failed, after this many were inserted.
 pub fn no_memory_after(pair: (Item, Item), taken: u64) -> Answer {
     Answer::BackAfter(taken_pair(pair), taken)
 }
 
-/// That it is done, or that there was no memory for it.
+/// Done, or that an allocation failed.
 pub fn done(is_done: Result<(), AllocError>) -> Word {
     match is_done {
         Ok(()) => Word::Done,
@@ -111,7 +111,7 @@ pub fn done(is_done: Result<(), AllocError>) -> Word {
     }
 }
 
-/// The row goes on with the container that was made.
+/// The row continues with the container that was made.
 pub fn made<C: Drop>(container: &mut C, made: Result<C, AllocError>) -> Word {
     match made {
         Ok(new) => {
@@ -122,7 +122,7 @@ pub fn made<C: Drop>(container: &mut C, made: Result<C, AllocError>) -> Word {
     }
 }
 
-/// The same of a container that was asked for with room.
+/// The same for a container that was made with room.
 pub fn made_with_room<C: Drop>(container: &mut C, made: Result<C, TryReserveError>) -> Word {
     match made {
         Ok(new) => {
@@ -133,7 +133,7 @@ pub fn made_with_room<C: Drop>(container: &mut C, made: Result<C, TryReserveErro
     }
 }
 
-/// How a request for room went.
+/// The result of a request for room.
 pub fn room(room: Result<(), TryReserveError>) -> Word {
     match room {
         Ok(()) => Word::Done,

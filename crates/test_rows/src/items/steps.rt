@@ -2,18 +2,18 @@
 use crate::items::answers::{Name, Word, find, number};
 use crate::items::words::Words;
 
-/// Where a step goes.
+/// The call of a step.
 #[derive(Clone, Copy)]
 pub enum Goes {
     Next,
     Back,
-    /// `next_value`, of those that lend pairs for writing.
+    /// `next_value`, for iterators that lend pairs for writing.
     Value,
-    /// `next_value_back`, of the same.
+    /// `next_value_back`, for the same iterators.
     ValueBack,
-    /// `peek`, of the same.
+    /// `peek`, for the same iterators.
     Peek,
-    /// Nowhere: it is said how many are left.
+    /// No call: the number of items left is recorded.
     Left,
 }
 
@@ -21,7 +21,7 @@ pub enum Goes {
 #[derive(Clone, Copy)]
 pub struct Step {
     pub goes: Goes,
-    /// What is written where the value is lent for writing.
+    /// The name to write if the value is lent for writing.
     pub written: Option<Name>,
 }
 
@@ -35,7 +35,7 @@ const STEPS: [(&str, Goes); 6] = [
 ];
 
 impl Step {
-    /// The step of the word, and of a number that comes next.
+    /// The step that the word names, with the number after it, if there is one.
     pub fn read(word: &str, words: &mut Words<'_>) -> Step {
         let found = find(&STEPS, word);
         words.is_unread = words.is_unread | found.is_none();
@@ -45,12 +45,12 @@ impl Step {
         }
     }
 
-    /// What is said after the step: what came, or how many the iterator has left.
+    /// The word for the step: the item that it returned, or how many the iterator has left.
     pub fn said<I: ExactSizeIterator>(self, came: Word, walk: &I) -> Word {
         self.said_of(came, walk.len(), walk.size_hint())
     }
 
-    /// The same where so many are left. The hint has to say that too.
+    /// The same if this many are left, which the hint has to equal.
     pub fn said_of(self, came: Word, left: usize, hint: (usize, Option<usize>)) -> Word {
         if hint.0 != left || hint.1 != Some(left) {
             return Word::Wrong;

@@ -7,11 +7,11 @@ use std::mem;
 
 /// An iterator that goes from both ends and knows how many are left.
 pub trait Walk {
-    /// What is said after the step. A value that is lent for writing is written.
+    /// Makes the step, and returns the word for it. If a value is lent for writing, it is written.
     fn step(&mut self, step: Step) -> Word;
 }
 
-/// Takes the steps up to a word `clone`, and says what each says. After `times` a step is taken so often.
+/// Makes the steps up to a word `clone`, and records each. After `times` a step is made that many times.
 pub fn take_steps<W: Walk>(walk: &mut W, line: &mut Line<'_>) -> Result<(), Stop> {
     for _ in 0..64 {
         let Some((times, word)) = next_steps(&mut line.words) else {
@@ -22,7 +22,7 @@ pub fn take_steps<W: Walk>(walk: &mut W, line: &mut Line<'_>) -> Result<(), Stop
     Err(Stop::Unread)
 }
 
-/// How often the next step is taken, and its word, if one comes before the end or a word `clone`.
+/// How many times the next step is made, and its word, if there is one before the end or a word `clone`.
 fn next_steps<'l>(words: &mut Words<'l>) -> Option<(u64, &'l str)> {
     match words.next() {
         Some("times") => Some((words.name().group, words.word())),
@@ -39,12 +39,12 @@ fn repeat<W: Walk>(walk: &mut W, times: u64, word: &str, line: &mut Line<'_>) ->
     Ok(())
 }
 
-/// The same of an iterator that is given away.
+/// The same for an iterator that is passed by value.
 pub fn walk_whole<W: Walk + Drop>(mut walk: W, line: &mut Line<'_>) -> Result<(), Stop> {
     take_steps(&mut walk, line)
 }
 
-/// The same of an iterator that is then forgotten, and has so many items of each entry that is left.
+/// The same for an iterator that is then forgotten; each entry left counts as `items` items.
 pub fn walk_and_forget<W: Walk + Iterator>(
     mut walk: W,
     items: usize,
@@ -57,7 +57,7 @@ pub fn walk_and_forget<W: Walk + Iterator>(
     taken
 }
 
-/// The same, and from `clone` on the steps are taken by a clone, and then by the iterator itself.
+/// The same; after `clone` the steps are made by a clone, and then by the iterator itself.
 pub fn walk_and_clone<W: Walk + Clone + Drop>(
     mut first: W,
     line: &mut Line<'_>,

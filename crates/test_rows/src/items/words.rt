@@ -1,13 +1,13 @@
 //! The words of a line.
 use crate::items::answers::{Name, Pair, Stop, find, number};
 
-/// The words of a line that are not yet read.
+/// The words of a line that have not been read yet.
 #[derive(Clone, Copy)]
 pub struct Words<'l> {
     pub rest: &'l str,
-    /// What the word `n` stands for.
+    /// The value of the word `n`.
     pub n: u64,
-    /// Whether a word was read that is not there, or is not what it was read as.
+    /// Whether a word was read that is missing, or that is not of the expected kind.
     pub is_unread: bool,
 }
 
@@ -35,12 +35,12 @@ impl<'l> Words<'l> {
         self.next().unwrap_or("")
     }
 
-    /// What the next word stands for in a table.
+    /// What the table has for the next word.
     pub fn named<T: Copy>(&mut self, table: &[(&str, T)]) -> Result<T, Stop> {
         find(table, self.word()).ok_or(Stop::Unread)
     }
 
-    /// The same, if the next word stands in the table. It is read only then.
+    /// The same, if the table has the next word. Only then the word is read.
     pub fn known<T: Copy>(&mut self, table: &[(&str, T)]) -> Option<T> {
         let mut rest = *self;
         let found = find(table, rest.word())?;
@@ -92,7 +92,7 @@ impl<'l> Words<'l> {
         self.number_of(word) as usize
     }
 
-    /// The number or `max` that comes next, or 0 where none does.
+    /// The next word as a number or `max`, or 0 if there is none.
     pub fn capacity(&mut self) -> usize {
         let mut rest = *self;
         let size = rest.size();
@@ -103,7 +103,7 @@ impl<'l> Words<'l> {
         size
     }
 
-    /// Whether the next word is this one, which is then read.
+    /// Whether the next word is this one. If so, it is read.
     pub fn has(&mut self, word: &str) -> bool {
         let mut rest = *self;
         let is_next = rest.next() == Some(word);

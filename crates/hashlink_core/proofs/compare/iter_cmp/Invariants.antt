@@ -1,4 +1,4 @@
--- What is left compares as the whole lists do.
+-- The entries left compare as the whole lists do.
 use Rattle.std.proofs.Common.{◌≡◌, length}
 use Rattle.hashlink_model.specs.Compare.{entries_cmp}
 use Rattle.hashlink_core.proofs.compare.iter_cmp.Given as goal

@@ -1,4 +1,4 @@
--- A short search is enough here, and where an edit breaks the comparison it ends soon.
+-- A short search is enough here. It also ends soon if an edit breaks the comparison.
 use Rattle.std.proofs.Common.{rules}
 use Rattle.hashlink_core.proofs.compare.iter_eq.Goals as goal
 

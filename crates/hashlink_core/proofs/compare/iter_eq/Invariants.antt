@@ -1,4 +1,4 @@
--- What is left is as long on both sides, and equal where the whole lists are.
+-- Both sides have as many entries left, which are equal exactly if the whole lists are.
 use Rattle.std.proofs.Common.{◌≡◌, length}
 use Rattle.hashlink_model.specs.Compare.{entries_eq}
 use Rattle.hashlink_core.proofs.compare.iter_eq.Given as goal

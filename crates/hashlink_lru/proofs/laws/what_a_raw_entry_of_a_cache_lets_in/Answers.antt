@@ -6,7 +6,7 @@ use Rattle.hashlink_model.proofs.Afterwards.{length-put_there}
 use Rattle.hashlink_model.proofs.Caches.{front_evicted-at_most}
 use Rattle.hashlink_lru.proofs.laws.what_a_raw_entry_of_a_cache_lets_in.Goals as goal
 
--- a put makes a map longer by one entry at most
+-- a put lengthens a map by at most one entry
 grown : {K V S : Type 0} (eq : K → K → Bool) (old new : MapState K V S) (k : K) (v : V) (o : Option V)
     → MatchOption o (AddsEntry eq old new k v (length old.entries))
     (PutsEntry eq old new k v (length old.entries))

@@ -1,10 +1,12 @@
-use Rattle.hashlink_run.proofs.Names.{◌≡◌, Bool, ap, subst, sym, ◌∙◌, lookup_entry, entries_of, CacheCommand}
+use Rattle.hashlink_run.proofs.Names.{◌≡◌, Bool, ap, refl, subst}
+use Rattle.hashlink_run.proofs.Names.{sym, ◌∙◌, lookup_entry, entries_of, CacheCommand}
 use Rattle.hashlink_run.proofs.Names.{CacheState}
 use Rattle.hashlink_lru.specs.Cached.{state_of}
 use Rattle.hashlink_run.specs.CacheStep.{CommandReads, ReadFromCache}
+use Rattle.hashlink_run.proofs.Moved.{by_key}
 use Rattle.hashlink_run.proofs.cache_steps.reply_to_command.Goals as goal
 
--- what the command of an arm reads, the command that was given reads
+-- the pair that an arm's command reads is the pair that the given command reads
 reads_of : {K V S : Type 0} (eq : K → K → Bool) (old : CacheState K V S) (pair : K × V)
     (given of_arm : CacheCommand K V) → given ≡ of_arm → CommandReads eq old of_arm pair
     → ReadFromCache eq old given pair
@@ -24,9 +26,12 @@ reply_of_entry-requires g c = record {
       (reads_of _ _ pair _ _ c.in-Entry.is ((state_of c.make_room.new.self).map, evicts.map, from));
 }
 
-pub said_of_get-requires : goal.said_of_get-requires
-said_of_get-requires g c =
-    record { says = λ pair read. c.requires.says pair (reads_of _ _ pair _ _ c.in-Get.is read) }
+pub reply_of_entry-requires-in-Get : goal.reply_of_entry-requires-in-Get
+reply_of_entry-requires-in-Get g c = record {
+  says = λ pair read.
+      let from = rw c.map_mut-in-Get.ensures.unchanged at read in
+      c.requires.says pair (reads_of _ _ pair _ _ c.in-Get.is from);
+}
 
 pub said_of-requires : goal.said_of-requires
 said_of-requires g c = record {
@@ -42,3 +47,9 @@ returns-in-Entry g c =
     let from = rw c.map_mut.ensures.unchanged at c.reply_of_entry.ensures in
     let evicts = c.make_room.ensures.evicts in
     rw c.in-Entry.is ((state_of c.make_room.new.self).map, evicts.map, from, evicts.cap)
+
+pub returns-in-Get : goal.returns-in-Get
+returns-in-Get g c =
+    let step = rw c.map_mut-in-Get.ensures.unchanged at c.reply_of_entry-in-Get.ensures in
+    let moved = by_key g.K.PartialEq.eq _ _ _ c.in-Get.key _ _ step in
+    rw c.in-Get.is (record { map = moved.0; cap = refl }, moved.1)

@@ -60,7 +60,7 @@ returns-in-InsertEntry g c =
     let step =
     at_occupied g.K.PartialEq.eq (ClosureSays g.F.Fn c.args.says.now) c.in-Occupied.ensures.entry
     c.in-InsertEntry.is (Pair (Some c.insert_entry.result) ∷ []) (state_of c.insert_entry.new.self.0) refl
-    (c.insert_entry.result, c.insert_entry.ensures, refl) in
+    (c.insert_entry.result, c.insert_entry.ensures.inserts, refl) in
     search rules
 
 pub returns-in-ReplaceEntry : goal.returns-in-ReplaceEntry
@@ -68,7 +68,7 @@ returns-in-ReplaceEntry g c =
     let step =
     at_occupied g.K.PartialEq.eq (ClosureSays g.F.Fn c.args.says.now) c.in-Occupied.ensures.entry
     c.in-ReplaceEntry.is (Pair (Some c.replace_entry.result) ∷ []) (state_of c.replace_entry.new.self.0) refl
-    (c.replace_entry.result, c.replace_entry.ensures, refl) in
+    (c.replace_entry.result, c.replace_entry.ensures.replaces, refl) in
     search rules
 
 pub returns-in-Remove : goal.returns-in-Remove
@@ -85,7 +85,7 @@ returns-in-Occupied g c =
     let step =
     at_occupied g.K.PartialEq.eq (ClosureSays g.F.Fn c.args.says.now) c.in-Occupied.ensures.entry
     c.in-RemoveEntry.is (Pair (Some c.remove_entry.result) ∷ []) (state_of c.remove_entry.new.self.0) refl
-    (c.remove_entry.result, c.remove_entry.ensures, refl) in
+    (c.remove_entry.result, c.remove_entry.ensures.takes, refl) in
     search rules
 
 pub returns-in-Ok : goal.returns-in-Ok

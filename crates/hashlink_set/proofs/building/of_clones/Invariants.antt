@@ -1,4 +1,4 @@
--- Clones of what came so far were inserted in turn.
+-- Clones of the items returned so far were inserted in order.
 use Rattle.hashlink_set.proofs.Names.{List, map, EndsFrom, items_left, AllZip, deref, AcceptsAll, SetInserts}
 use Rattle.std.proofs.iter.Next as it
 use Rattle.hashlink_set.proofs.building.of_clones.Given as goal

@@ -15,7 +15,7 @@ pub seek_overflow-requires-clause-bucket : goal.seek_overflow-requires-clause-bu
 seek_overflow-requires-clause-bucket g c =
     c.bucket_of-bucket.ensures ∙ ap (λ m. c.args.hash % m) c.len-buckets.ensures
 
--- the group of the hash, and the nodes that are looked at there and in the chain
+-- the group of the hash, and the nodes at which the search looks, there and in the chain
 module _ (g : given.Over) (c : After-base_of-base g) where
   abbrev m : ℕ
   m = length c.args.slots.now
@@ -55,7 +55,7 @@ seek_overflow-requires-clause-callable g c cell node is =
     c.requires.callable c.args.hash node
     (contains_found c.args.slots.now c.args.cells.now (Overflow cell) _ is) refl
 
--- what none of the group has no slot has
+-- if no cell of the group has the node, no slot has it
 none_in_slots : (g : given.Over) (c : In_default g) (at : ℕ) (node : g.row.N.Denot)
     → kept_at c.args.slots.now at ≡ Some (record { hash = c.args.hash; node = node })
     → g.F.Fn.post c.args.is_match.now (node, tt) false

@@ -10,7 +10,7 @@ use Rattle.hashlink_table.proofs.search.seek_overflow.Goals.{else-kept-hash-via-
 use Rattle.hashlink_table.proofs.search.seek_overflow.Goals.{else-kept-hash-via-else-kept-hash}
 use Rattle.hashlink_table.proofs.search.seek_overflow.Goals.{After-index-cells-at}
 
--- the bucket is one of the buckets
+-- the bucket is among the buckets
 low : (m bucket hash : ℕ) → IsPowerOfTwo m → bucket ≡ hash % m → bucket < m
 low m bucket hash power is = omega (arith, positive_by_power m power, is)
 

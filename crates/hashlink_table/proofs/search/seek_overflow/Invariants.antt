@@ -2,7 +2,7 @@ use Rattle.hashlink_table.proofs.Names.{◌≡◌, length, Some, false, next_at,
 use Rattle.hashlink_table.proofs.Walks.{IsSearch, steps_left}
 use Rattle.hashlink_table.proofs.search.seek_overflow.Given as goal
 
--- where no cell that is still to come has the node, none has; and there is a step for each cell of the bucket
+-- if no cell left has the node, none has it; and there is a step for each cell of the bucket
 abbrev pub invariant-loop-at : goal.invariant-loop-at
 invariant-loop-at g l =
     IsSearch

@@ -10,24 +10,24 @@ there : {N : Type 0} (hash : ℕ) (o : Option (Hashed N)) → kept_may_be hash o
 there hash None e = absurd (true≢false (sym e))
 there hash (Some k) e = refl
 
--- with the tag of the hash
+-- its tag is the hash's
 same_tag : {N : Type 0} (hash : ℕ) (o : Option (Hashed N)) (k : Hashed N) → o ≡ Some k → kept_may_be hash o
     ≡ true
     → tag_of k.hash ≡ tag_of hash
 same_tag hash o k is e = eqb-true (tag_of k.hash) (tag_of hash) (rw is at e)
 
--- one with a node of the hash may have it
+-- a cell with a node of the hash may have it
 slot_hash : {N : Type 0} (hash : ℕ) (o : Option (Hashed N)) (node : N)
     → o ≡ Some (record { hash = hash; node = node })
     → kept_may_be hash o ≡ true
 slot_hash hash o node is = rw is (eq-eqb (tag_of hash) (tag_of hash) refl)
 
--- what the cell has, by its parts
+-- the node of the cell, by its parts
 parts : {N : Type 0} (k : Hashed N) (hash : ℕ) (node : N) → k.hash ≡ hash → k.node ≡ node
     → Some k ≡ Some (record { hash = hash; node = node })
 parts k hash node h n = rw (sym h, sym n) refl
 
--- what is said of something that is there
+-- from a fact of an option to the same fact of its value
 of_some : {X : Type 0} (P : X → Type 0) (o : Option X) → IsSome o → IfSome o P → (x : X) × (o ≡ Some x) × P x
 of_some P None some p = absurd (false≢true some)
 of_some P (Some x) some p = (x, refl, p)

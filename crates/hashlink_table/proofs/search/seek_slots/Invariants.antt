@@ -3,8 +3,8 @@ use Rattle.hashlink_table.proofs.Names.{lanes_of, may_be}
 use Rattle.hashlink_table.proofs.Masks.{IsLeft}
 use Rattle.hashlink_table.proofs.search.seek_slots.Given as goal
 
--- the cells before this one have not the node, the bits that are left are those of the cells from it on, and
--- there was a step for each that may have had it
+-- no cell before this one has the node, and the bits left are those of the cells from this one on. There was
+-- a step for each cell before it that may have had the node
 abbrev pub invariant-loop-hits : goal.invariant-loop-hits
 invariant-loop-hits g l = record {
   left : IsLeft l.slots l.base (may_be l.hash) l.at l.hits;

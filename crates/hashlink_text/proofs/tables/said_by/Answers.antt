@@ -6,7 +6,7 @@ use Rattle.std.proofs.lemmas.List.{at_drop_all, at_drop_more}
 use Rattle.hashlink_text.specs.Cuts.{words_shown}
 use Rattle.hashlink_text.proofs.tables.said_by.Goals as goal
 
--- what the table says of the name from the place i on
+-- the entry of this name in the table, from index i on
 said_from : {X : Type 0} (name : List ℕ) (table : List (Bor (List ℕ) × X)) (i : ℕ) (entry : Bor (List ℕ) × X)
     (b : Bool) → entry ≡ get_or table i entry → i < length table → bytes_eq name entry.0.now ≡ b
     → lookup (bytes_eq name) (words_shown (drop i table))

@@ -1,7 +1,7 @@
 use Rattle.hashlink_uses.proofs.Common.{◌≡◌, ◌++◌, [], drop, elements_of, first_appearances}
 use Rattle.hashlink_uses.proofs.lines.distinct.Given as goal
 
--- what is there and what appears first among the others is all
+-- the elements so far and the first appearances among the items left are together all first appearances
 abbrev pub invariant-loop-item : goal.invariant-loop-item
 invariant-loop-item g l =
     (elements_of l.seen

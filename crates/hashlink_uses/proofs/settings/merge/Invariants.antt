@@ -1,7 +1,7 @@
 use Rattle.hashlink_uses.proofs.Common.{◌≡◌, ◌++◌, List, entries_of, merged}
 use Rattle.hashlink_uses.proofs.settings.merge.Given as goal
 
--- those that have gone were set in turn
+-- the settings returned so far were set in order
 abbrev pub invariant-loop-key : goal.invariant-loop-key
 invariant-loop-key g l =
     (goal.iterator-loop-key g).can_next l.key-iterator × (goal.iterator-loop-key g).is_finite l.key-iterator

@@ -4,7 +4,7 @@ use Rattle.hashlink.specs.Keyed.{state_of}
 use Rattle.hashlink.specs.WritingWalk.{WritesSoFar}
 use Rattle.test_calls.proofs.loops.copy_keys.Given as goal
 
--- the entries before those that are left have been written
+-- the entries before the ones left have been written
 abbrev pub invariant-loop-key : goal.invariant-loop-key
 invariant-loop-key l =
     ((walk_map l.walk).ghost_name ≡ (walk_map l.initial.walk).ghost_name)

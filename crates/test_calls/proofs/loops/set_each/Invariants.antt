@@ -4,7 +4,7 @@ use Rattle.hashlink.specs.Keyed.{state_of}
 use Rattle.hashlink.specs.WritingWalk.{WritesSoFar}
 use Rattle.test_calls.proofs.loops.set_each.Given as goal
 
--- the entries before those that are left have been written
+-- the entries before the ones left have been written
 abbrev pub invariant-loop-old : goal.invariant-loop-old
 invariant-loop-old l =
     ((values_map l.values).ghost_name ≡ (values_map l.initial.values).ghost_name)

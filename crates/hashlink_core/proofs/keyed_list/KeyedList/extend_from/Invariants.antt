@@ -1,4 +1,4 @@
--- The items that came so far are in.
+-- The items read so far are inserted.
 use Rattle.hashlink_core.proofs.Names.{◌≡◌, ◌-◌, ◌^◌, length, min, AcceptsAll, InsertsPair, state_of}
 use Rattle.std.specs.Iterator.{EndsFrom, items_left}
 use Rattle.std.proofs.iter.Next as it

@@ -14,7 +14,7 @@ among g c n h here =
     subst (λ m. Contains (keys_of (entries_of m)) h.key) c.self.view_is
     (key-held c.self.inside.nodes.entries n h here)
 
--- for the keys that are equal to it
+-- for the keys that are equal to k
 search-key : (g : given.Over) (c : After-short_hash g) (k : g.row.K.Denot)
     → Tells g.F.Fn g.K.PartialEq.eq
     (hash_with g.S.BuildHasher.build_hasher g.S.Hasher.Hasher.write g.S.Hasher.Hasher.finish

@@ -4,7 +4,7 @@ use Rattle.hashlink_core.proofs.AtKeyNode.{guard-number, written-number, written
 use Rattle.hashlink_core.proofs.AtKeyNode.{passed-on}
 use Rattle.hashlink_core.proofs.keyed_list.KeyedList.insert.Goals as goal
 
--- ---- a key that is there
+-- ---- a present key
 
 pub move_before-requires-clause-node : goal.move_before-requires-clause-node
 move_before-requires-clause-node g c =

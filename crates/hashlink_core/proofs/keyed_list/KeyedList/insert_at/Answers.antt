@@ -40,7 +40,7 @@ returns-in_default-clause-keeps g c =
     keeps-place c.args.self.now _ g.met.K.Eq.laws e.sound
     (keys-added c.args.self.now _ e.added)
 
--- ---- a key that is there
+-- ---- a present key
 
 pub is_at-requires-clause-node : goal.is_at-requires-clause-node
 is_at-requires-clause-node g c =

@@ -3,7 +3,7 @@ use Rattle.hashlink_core.proofs.Names.{length-values_of, Keyed, short}
 use Rattle.hashlink_core.proofs.Calls.{on_err, sound, place-inside, added-step, added-node}
 use Rattle.hashlink_core.proofs.keyed_list.KeyedList.insert_before.Goals as goal
 
--- where there is no room for one more, none is spare
+-- if there is no room for one more node, none is free
 full : (n spare room : ℕ) → n + spare ≤ room → (n + 1 ≤ room → ⊥) → spare ≡ 0
 full n spare room fits more = omega arith
 

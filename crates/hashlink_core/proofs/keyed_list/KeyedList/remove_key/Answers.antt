@@ -50,7 +50,7 @@ detach_into_free-requires g c =
     listed-holds g.met.K.Eq.laws c.self.invariant _ c.in_ok-node.node
     (was-kept c.self.inside.table c.remove.new.self _ _ c.in_ok-node.ensures.removed.0)
 
--- the node that the table gave back is the key's
+-- the node that the table returned is the key's
 found : (g : given.Over) (c : goal.After-detach_into_free g)
     → HoldsMatch (g.Q.Equivalent.matches c.args.key) c.args.self.now.nodes c.in_ok-node.node
 found g c =
@@ -87,3 +87,9 @@ returns-clause-removes g c =
 
 pub returns-clause-sound : goal.returns-clause-sound
 returns-clause-sound g c = sound refl (invariant_of-self-2 g c)
+
+pub returns-in_err-node-clause-was_sound : goal.returns-in_err-node-clause-was_sound
+returns-in_err-node-clause-was_sound g c = sound c.self.view_is c.self.invariant
+
+pub returns-clause-was_sound : goal.returns-clause-was_sound
+returns-clause-was_sound g c = sound c.self.view_is c.self.invariant

@@ -7,7 +7,7 @@ use Rattle.hashlink_core.proofs.keyed_list.KeyedList.replace_pair.Goals.{After-r
 use Rattle.hashlink_core.proofs.keyed_list.KeyedList.replace_pair.Given as given
 use Rattle.hashlink_core.proofs.keyed_list.KeyedList.replace_pair.Goals as goal
 
--- the key is the one that stood there
+-- the key is the one that was there before
 same-key : (g : given.Over) (c : After-replace_value-old_value g)
     → key_at (entries_of c.replace_value-old_value.new.self)
     (place_number c.replace_value-old_value.new.self.nodes (Some c.args.node))

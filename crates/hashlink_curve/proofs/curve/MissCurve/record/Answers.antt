@@ -5,7 +5,7 @@ use Rattle.hashlink_curve.proofs.curve.MissCurve.record.Goals.{In_ok-distance}
 use Rattle.hashlink_curve.proofs.curve.MissCurve.record.Given as given
 use Rattle.hashlink_curve.proofs.curve.MissCurve.record.Goals as goal
 
--- the use can be counted, and what it leaves
+-- the use can be counted, and leaves this
 touched : (g : given.Over) (c : In_ok-distance g)
     → CanCount c.in_ok-distance.distance c.reserve.new.self
     × IsTallied c.touch.new.self (tallied c.in_ok-distance.distance c.reserve.new.self.items)

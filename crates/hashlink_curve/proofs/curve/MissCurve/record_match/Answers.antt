@@ -5,7 +5,7 @@ use Rattle.hashlink_curve.proofs.curve.MissCurve.record_match.Goals.{In-Some}
 use Rattle.hashlink_curve.proofs.curve.MissCurve.record_match.Given as given
 use Rattle.hashlink_curve.proofs.curve.MissCurve.record_match.Goals as goal
 
--- the use can be counted, and what it leaves
+-- the use can be counted, and leaves this
 touched : (g : given.Over) (c : In-Some g)
     → CanCount (Some c.in-Some.others) c.self.inside.reuses
     × IsTallied c.touch_match.new.self (tallied (Some c.in-Some.others) c.self.inside.reuses.items)

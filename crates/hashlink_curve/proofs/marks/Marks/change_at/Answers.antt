@@ -4,7 +4,7 @@ use Rattle.std.proofs.lemmas.List.Elements.{All-get_or}
 use Rattle.hashlink_curve.proofs.Sums.{AreSummed-can_change, AreSummed-changed}
 use Rattle.hashlink_curve.proofs.marks.Marks.change_at.Goals as goal
 
--- what is asked of the marks, of the row inside
+-- the condition on the marks, for the row inside
 within : (row seen : List ℕ) (place less more : ℕ) → row ≡ seen → place < length seen
     → less ≤ get_or seen place 0 → (get_or seen place 0 ≤ 1 → get_or seen place 0 + more ≤ less + 1)
     → All (λ marks. marks ≤ 1) row

@@ -1,4 +1,4 @@
--- `entry` makes room, and hands on the map that it has then to the map's own `entry`.
+-- `entry` makes room, and then passes the map on to the map's own `entry`.
 use Rattle.std.proofs.Common.{◌≡◌, List, [], ◌∷◌, ◌++◌, refl, sym, ap, subst}
 use base.Logic.{SProp, ent, id⊢, emp}
 use mir.Syntax.{a_type, named, dcons, dnil}
@@ -103,11 +103,11 @@ entry_spec 𝓤 𝓛 𝓜 𝓡 wired K V S T LK LV LS LT e de p dp h dh b db w d
     ((c κs a).requires z.1) ∷ []) ∵ split ! $ move ! (2 ∷ []) $
     use1 𝓛 (raw (Again (emp 𝓤)) ⊛ raw (Again (emp 𝓤))) (asks_again 𝓤 (κs.1.0 ⊑ K.lives) (κs.1.1.0 ⊑ V.lives)
     (κs.1.1.1.0 ⊑ S.lives) (κs.1.1.1.1.0 ⊑ T.lives) 𝓛 (emp 𝓤)) $ split ! $
-    -- [what a call asks, twice; the tokens; the arguments]
+    -- [what a call requires, twice; the tokens; the arguments]
     move ! (3 ∷ []) $ fsplit ! $ move ! (1 ∷ []) $ fsplit ! $ move ! (1 ∷ []) $ drop ! $
-    -- [the key; the cache; what a call asks, twice; the tokens]
+    -- [the key; the cache; what a call requires, twice; the tokens]
     nothing ! $ move ! (2 ∷ 0 ∷ []) $ fjoin ! $ move ! (4 ∷ 0 ∷ []) $ join ! $ move ! (0 ∷ 2 ∷ []) $ join ! $
-    -- [the first call's; the key; what a call asks]
+    -- [what the first call requires; the key; what a call requires]
     use1 𝓛 (raw (Y.pre y)) (id⊢ 𝓤 (Y.pre y)) $
     enter ! 𝓣.C 𝓣.Λ fn vs Post $ alloc_all ! (λ l. pass_all ! refl ((tt, tt), (key_at.2, tt)) $
     sets ! (addr ! (through ! refl (stop !))) refl (tt, tt) $
@@ -120,12 +120,12 @@ entry_spec 𝓤 𝓛 𝓜 𝓡 wired K V S T LK LV LS LT e de p dp h dh b db w d
     raw (fact 𝓤 (Evicts q)) ⊛ raw (fact 𝓤 (Distinct q))))))) (id⊢ 𝓤 (Y.post y v)) $
     await ! tt $ pick ! (λ q. split ! $ move ! (1 ∷ []) $ pick ! (λ ls. split ! $ drop ! $ split ! $
     move ! (1 ∷ []) $ split ! $ heard ! (Evicts q) (λ evicts. heard ! (Distinct q) (λ apart.
-    -- [how the cache ends; the tokens and the map; the key; what a call asks]
+    -- [how the cache ends; the tokens and the map; the key; what a call requires]
     move ! (1 ∷ []) $ split ! $ move ! (1 ∷ []) $ peeks ! Ref (Is Ref) (shows 𝓛 Ref) q (v ∷ []) (λ is.
     let is_map : v ≡ vptr q.ref_ptr.0 q.ref_ptr.1 = ap only (mut_Tells (named 0) κ Map q (v ∷ []) is) in
     rewrite ! 0 (λ (u : Val). ‵ (Ref.own_val q (u ∷ []))) is_map refl $
     lands_as ! is_map refl (tt, tt) $ sets ! (of_opd ! (get ! refl)) refl key_at.2 $
-    -- [the map; the tokens; how the cache ends; the key; what a call asks]
+    -- [the map; the tokens; how the cache ends; the key; what a call requires]
     nothing ! $ move ! (4 ∷ 0 ∷ []) $ fjoin ! $ move ! (1 ∷ 0 ∷ []) $ fjoin ! $ move ! (1 ∷ 0 ∷ []) $ join ! $
     move ! (0 ∷ 2 ∷ []) $ join ! $
     let Y₂ = triple_of 𝓛 (finds.signature K V S T e de p dp h dh b db w dw dd)

@@ -1,4 +1,4 @@
--- The items that came so far are in.
+-- The items returned so far were inserted.
 use Rattle.std.proofs.Common.{◌≡◌, ◌-◌, ◌^◌, length, min}
 use Rattle.std.proofs.iter.Next as it
 use Rattle.std.specs.Iterator.{EndsFrom, items_left}

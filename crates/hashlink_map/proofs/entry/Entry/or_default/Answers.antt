@@ -1,3 +1,4 @@
+use Rattle.std.proofs.Common.{rules}
 use Rattle.hashlink_map.proofs.Names.{refl}
 use Rattle.hashlink_map.proofs.Answering.{or_made, no_refusal, no_pair}
 use Rattle.hashlink_map.proofs.entry.Entry.or_default.Goals as goal
@@ -10,8 +11,22 @@ returns-in-Occupied g c =
       (refl, f.holds, no_refusal r _ f.holds-at-none),
       record {
         lends = tt;
+        updates = c.into_last_mut.ensures.updates;
         value = or_made r _ _ c.into_last_mut.ensures.value;
         given = no_pair r _ f.holds-at-none;
         made = no_pair r _ f.holds-at-none;
+      },
+    )
+
+pub returns-in-Vacant : goal.returns-in-Vacant
+returns-in-Vacant g c =
+    rw c.in-Vacant.is (
+      search rules,
+      record {
+        lends = tt;
+        updates = c.insert.ensures.updates;
+        value = search rules;
+        given = search rules;
+        made = search rules;
       },
     )

@@ -1,4 +1,4 @@
--- What is left takes the hasher to where the whole list does.
+-- Hashing the entries left brings the hasher to the state in which the whole list leaves it.
 use Rattle.hashlink_map.proofs.Names.{◌≡◌, fold, length, entries_hash_input}
 use Rattle.hashlink_map.proofs.hashing.LinkedHashMapHash.hash.Given as goal
 

@@ -1,4 +1,4 @@
--- `next` lends the pair of the first entry left, where there is one, and the walk follows it.
+-- `next` lends the pair of the first entry left, if there is one, and the walk follows it.
 use Rattle.hashlink_map.proofs.Names.{first_of, after_front}
 use Rattle.hashlink_map.specs.contracts.iter_mut.IterMut+K+V+S.next as f
 use Rattle.hashlink_map.proofs.LendAtPlace.{steps_and_lends}

@@ -1,4 +1,4 @@
--- `next_back` lends the pair of the last entry left, where there is one, and the walk follows it.
+-- `next_back` lends the pair of the last entry left, if there is one, and the walk follows it.
 use Rattle.hashlink_map.proofs.Names.{last_of, after_back, last_place}
 use Rattle.hashlink_map.specs.contracts.iter_mut.IterMut+K+V+S.next_back as f
 use Rattle.hashlink_map.proofs.LendAtPlace.{steps_and_lends}

@@ -1,4 +1,4 @@
--- `pair_at` lends the value beside the key, where there is one, and the walk follows it.
+-- `pair_at` lends the value beside the key, if there is one, and the walk follows it.
 use Rattle.hashlink_map.specs.contracts.iter_mut.IterMut+K+V+S.pair_at as f
 use Rattle.hashlink_map.proofs.WalkPairs.{Writer, at_node}
 use Rattle.hashlink_map.proofs.LendAtPlace.{lends_at_place}

@@ -1,4 +1,4 @@
--- Clones of the pairs that came so far are in.
+-- Clones of the pairs returned so far are inserted.
 use Rattle.hashlink_map.proofs.Names.{◌≡◌, List, ◌++◌, AcceptsAll, InsertsPair, state_of, ArePairClones}
 use Rattle.hashlink_map.proofs.map.LinkedHashMap.clone.Given as goal
 

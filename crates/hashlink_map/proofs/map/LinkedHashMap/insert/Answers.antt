@@ -21,4 +21,4 @@ returns-clause-added g c = inserts_added _ _ _ _ _ _ (returns-clause-inserts g c
 pub returns-clause-updates : goal.returns-clause-updates
 returns-clause-updates g c =
     updates-inserted g.K.PartialEq.eq g.met.K.Eq.laws c.insert.result _ _ c.args.key c.args.value _
-    c.keys_are_distinct.ensures (returns-clause-entries g c)
+    (rw c.self.view_is at c.insert.ensures.was_sound.distinct) (returns-clause-entries g c)

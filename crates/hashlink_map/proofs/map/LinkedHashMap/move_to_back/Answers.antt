@@ -1,6 +1,5 @@
-use Rattle.hashlink_map.proofs.Names.{entries_of, at-node, guard-number}
+use Rattle.hashlink_map.proofs.Names.{guard-number}
 use Rattle.hashlink_map.proofs.AtNode.{stays-last}
-use Rattle.hashlink_map.proofs.LastMoved.{distinct_before}
 use Rattle.hashlink_map.proofs.map.LinkedHashMap.move_to_back.Goals as goal
 
 pub returns-clause-moves : goal.returns-clause-moves
@@ -13,7 +12,4 @@ returns-clause-stays g c =
     (rw c.self.view_is at c.move_before.ensures.moved.nodes)
 
 pub returns-clause-distinct : goal.returns-clause-distinct
-returns-clause-distinct g c =
-    let old = c.args.self.now in
-    distinct_before g.K.PartialEq.eq g.met.K.Eq.laws (entries_of old) _ _ (at-node old c.args.node c.requires)
-    (rw ((returns-clause-moves g c).entries) at c.move_before.ensures.sound.distinct)
+returns-clause-distinct g c = rw c.self.view_is at c.move_before.ensures.was_sound.distinct

@@ -11,5 +11,6 @@ returns-clause-entries g c = pop-takes_last _ _ _ (returns-clause-pops g c)
 
 pub returns-clause-updates : goal.returns-clause-updates
 returns-clause-updates g c =
-    updates-pop_back g.K.PartialEq.eq g.met.K.Eq.laws c.pop_back.result _ _ c.keys_are_distinct.ensures
+    updates-pop_back g.K.PartialEq.eq g.met.K.Eq.laws c.pop_back.result _ _
+    (rw c.self.view_is at c.pop_back.ensures.was_sound.distinct)
     (returns-clause-entries g c)

@@ -13,6 +13,7 @@ returns g c =
     let absent = rw (← c.self.view_is) at c.requires.absent in
     rw (← c.self.view_is) (record {
       inserts = pushes laws m new k v absent r e.added e.handed_back e.refused e.no_spare;
+      distinct = e.was_sound.distinct;
       holds = pushed-holds laws m new k v absent e.sound r e.added;
       place = pushed-place laws m new k v absent e.sound r e.added;
     })

@@ -1,8 +1,10 @@
-use Rattle.hashlink_map.proofs.Names.{length, ap, ◌∙◌, entries_of, then_moves, length-replaced}
+use Rattle.hashlink_map.proofs.Names.{length, ap, ◌∙◌, subst, entries_of, state_of, then_moves}
+use Rattle.hashlink_map.proofs.Names.{length-replaced, IsEntries}
+use Rattle.hashlink_map.proofs.EntryUpdates.{updates-pair_last}
 use Rattle.hashlink_map.proofs.map.LinkedHashMap.put_pair_last.Goals as goal
 
-pub returns : goal.returns
-returns g c =
+pub returns-clause-inserts : goal.returns-clause-inserts
+returns-clause-inserts g c =
     let first = c.replace_pair_at-old.ensures in
     let same = ap length first.replaces.step.entries
     ∙ length-replaced (entries_of c.args.self.now) _ c.args.key c.args.value in
@@ -11,3 +13,11 @@ returns g c =
       step = then_moves _ _ _ _ first.replaces.step _ _ _ _ first.stays.place same
           c.move_to_back.ensures.moves;
     }
+
+pub returns-clause-updates : goal.returns-clause-updates
+returns-clause-updates g c =
+    let eq = g.K.PartialEq.eq in
+    updates-pair_last eq g.met.K.Eq.laws (state_of c.args.self.now) _ c.args.key _ c.requires.place
+    c.args.value _
+    (subst (IsEntries eq) c.replace_pair_at-old.ensures.replaces.step.entries c.move_to_back.ensures.distinct)
+    (returns-clause-inserts g c)

@@ -13,5 +13,6 @@ returns g c =
         answer = first.replaces.answer;
         step = then_moves _ _ _ _ first.replaces.step _ _ _ _ first.stays.place same then.moves;
       };
+      distinct = first.distinct;
       stays = rw (← same) (stays_twice _ _ _ c.args.node _ _ first.stays then.stays);
     }

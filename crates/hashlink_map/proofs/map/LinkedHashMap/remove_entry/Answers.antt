@@ -15,5 +15,5 @@ returns-clause-held g c = removed_was_there _ _ _ _ (returns-clause-removes g c)
 pub returns-clause-updates : goal.returns-clause-updates
 returns-clause-updates g c =
     updates-left g.K.PartialEq.eq g.met.K.Eq.laws (g.Q.Equivalent.matches c.args.key)
-    (g.met.Q.Equivalent.finds_equal c.args.key) _ _ c.keys_are_distinct.ensures
-    (returns-clause-entries g c)
+    (g.met.Q.Equivalent.finds_equal c.args.key) _ _
+    (rw c.self.view_is at c.remove_key.ensures.was_sound.distinct) (returns-clause-entries g c)

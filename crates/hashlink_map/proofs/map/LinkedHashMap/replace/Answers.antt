@@ -18,4 +18,4 @@ returns-clause-there g c = (replaces_outcome _ _ _ _ _ _ (returns-clause-replace
 pub returns-clause-updates : goal.returns-clause-updates
 returns-clause-updates g c =
     updates-inserted g.K.PartialEq.eq g.met.K.Eq.laws c.replace.result _ _ c.args.key c.args.value _
-    c.keys_are_distinct.ensures (returns-clause-entries g c)
+    (rw c.self.view_is at c.replace.ensures.was_sound.distinct) (returns-clause-entries g c)

@@ -15,3 +15,6 @@ returns-clause-stays g c =
 
 pub returns-clause-replaces : goal.returns-clause-replaces
 returns-clause-replaces g c = rw (← c.self.view_is) c.replace_pair.ensures.replaces
+
+pub returns-clause-distinct : goal.returns-clause-distinct
+returns-clause-distinct g c = rw c.self.view_is at c.replace_pair.ensures.was_sound.distinct

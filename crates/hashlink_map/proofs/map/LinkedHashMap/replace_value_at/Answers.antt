@@ -11,3 +11,6 @@ pub returns-clause-stays : goal.returns-clause-stays
 returns-clause-stays g c =
     stays-renewed g.met.K.Eq.laws _ _ c.replace_value.ensures.sound c.args.node c.requires
     (pair_with_value c.args.value) (λ k t. t) (rw c.self.view_is at c.replace_value.ensures.written.nodes)
+
+pub returns-clause-distinct : goal.returns-clause-distinct
+returns-clause-distinct g c = rw c.self.view_is at c.replace_value.ensures.was_sound.distinct

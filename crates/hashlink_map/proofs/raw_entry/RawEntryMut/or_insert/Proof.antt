@@ -1,4 +1,4 @@
--- `or_insert` lends the pair of the entry that `or_insert_entry` answers.
+-- `or_insert` lends the pair of the entry that `or_insert_entry` returns.
 use Rattle.hashlink_map.proofs.Names.{◌≡◌, [], ◌∷◌, refl, ftrue, fsep, ent, via, sem, of_opd, and_then}
 use Rattle.hashlink_map.proofs.Names.{no_more, returns, enter, alloc_all, pass_all, free_all, look_at, get}
 use Rattle.hashlink_map.proofs.Names.{sets, lands_as, Lfts, tables, no, Last, left, rest, param, param_laws}

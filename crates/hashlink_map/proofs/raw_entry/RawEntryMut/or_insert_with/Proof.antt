@@ -1,4 +1,4 @@
--- `or_insert_with` lends the pair of the entry that `or_insert_entry_with` answers.
+-- `or_insert_with` lends the pair of the entry that `or_insert_entry_with` returns.
 use Rattle.hashlink_map.proofs.Names.{◌≡◌, [], ◌∷◌, refl, ftrue, fsep, ent, sep, via, sem, of_opd, and_then}
 use Rattle.hashlink_map.proofs.Names.{no_more, returns, enter, alloc_all, pass_all, free_all, look_at, get}
 use Rattle.hashlink_map.proofs.Names.{sets, lands_as, ◌⊑◌, Lfts, fact, tables, no, Last, left, rest, param}

@@ -1,4 +1,4 @@
--- A `&` to the arena reaches each value. Assumes `Logic`.
+-- A `&` to the arena gives access to each value. Assumes `Logic`.
 use Rattle.hashlink_nodes.proofs.Names.{[], ◌++◌, Incl-trans, meet_⊑_left, RattleType, RawPtr, Laws}
 use Rattle.hashlink_nodes.proofs.Names.{copy_shared, field_copy, of_Lends}
 use Rattle.std.specs.contracts.marker.PhantomData as marker

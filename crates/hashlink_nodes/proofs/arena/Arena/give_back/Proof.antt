@@ -1,4 +1,4 @@
--- `give_back` takes a block out of those that the arena owns.
+-- `give_back` takes a block from those that the arena owns.
 use Rattle.hashlink_nodes.proofs.Names
 use Names.{word_had, handle_tells, ◌≡◌, ℕ, ◌+◌, ◌∙◌, ◌^◌, List, [], ◌∷◌, ◌++◌, refl, sym, ap, Option, None}
 use Names.{IsSome, lookup, remove_entry, full_share, Ty, a_type, ty_int, w64, bare, inst_fn, Val, vint, vptr}

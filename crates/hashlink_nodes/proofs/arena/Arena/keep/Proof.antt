@@ -1,4 +1,5 @@
--- `keep` adds a block to those that the arena owns. It lies apart from them, since it is owned beside them.
+-- `keep` adds a block to those that the arena owns. Its address differs from theirs, since it is owned
+-- besides them.
 use Rattle.hashlink_nodes.proofs.Names
 use Names.{word_made, handle_tells, ◌≡◌, ◌+◌, ◌^◌, List, [], ◌∷◌, ◌++◌, refl, sym, subst, Option, None}
 use Names.{lookup, full_share, lit<, Ty, a_type, w64, inst_fn, Val, vptr, SProp, ftrue, froom, flft, WpFn, ‵}

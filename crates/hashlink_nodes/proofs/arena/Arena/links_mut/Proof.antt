@@ -1,4 +1,4 @@
--- `links_mut` lends the links of one block, and the arena follows them.
+-- `links_mut` lends the links of one block for writing, and the arena follows them.
 use Rattle.hashlink_nodes.proofs.Names
 use Names.{◌∙◌, [], ◌∷◌, refl, sym, ap, Some, IsSome, lookup, full_share, a_type, id⊢, fsep, ‵, ◌$◌, ◌∵◌, ! }
 use Names.{qed, move, join, fsplit, fsplit3, fjoin, fjoin3, done, follows, RattleType, lies_at, param}

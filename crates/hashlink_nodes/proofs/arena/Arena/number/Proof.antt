@@ -1,4 +1,4 @@
--- `number` shows what the arena lends of the number of one block.
+-- `number` lends the number of one block.
 use Rattle.hashlink_nodes.proofs.Names
 use Names.{◌^◌, ◌<◌, sym, subst, usize, [], ◌∷◌, refl, ap, IsSome, lookup, a_type, id⊢, ‵, ◌$◌, ◌∵◌, !, qed}
 use Names.{move, keep, join, fsplit, fsplit3, use1, done, RattleType, param, layouts, option_map, Kept}

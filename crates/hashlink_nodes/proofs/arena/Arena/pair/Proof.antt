@@ -1,4 +1,4 @@
--- `pair` shows what the arena lends of the pair of one block.
+-- `pair` lends the pair of one block.
 use Rattle.hashlink_nodes.proofs.Names.{ℕ, Option, ◌∙◌, rewrite, [], ◌∷◌, refl, ap, IsSome, lookup, a_type}
 use Rattle.hashlink_nodes.proofs.Names.{emp, id⊢, ‵, ◌$◌, ◌∵◌, !, qed, move, keep, join, fsplit, use1, done}
 use Rattle.hashlink_nodes.proofs.Names.{fact_i, RattleType, param, layouts, option_map, Kept, entry_in}

@@ -1,4 +1,4 @@
--- `pair_mut` lends the pair of one block, and the arena follows it.
+-- `pair_mut` lends the pair of one block for writing, and the arena follows it.
 use Rattle.hashlink_nodes.proofs.Names
 use Names.{◌≡◌, ℕ, Option, ◌∙◌, [], ◌∷◌, refl, sym, ap, Some, IsSome, lookup, full_share, a_type, id⊢, fsep}
 use Names.{‵, ◌$◌, ◌∵◌, !, qed, move, join, fsplit, fjoin, rewrite, done, follows, RattleType, lies_at, param}

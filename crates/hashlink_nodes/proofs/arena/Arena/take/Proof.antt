@@ -1,4 +1,4 @@
--- `take` reads the pair of a block out, and leaves room.
+-- `take` moves the pair out of a block, and leaves room for one.
 use Rattle.hashlink_nodes.proofs.Names
 use Names.{word_had, ◌≡◌, ℕ, ◌+◌, ◌∙◌, ◌^◌, List, [], ◌∷◌, ◌++◌, refl, sym, ap, Option, None, IsSome, lookup}
 use Names.{remove_entry, option_map, full_share, lit<, Ty, a_type, ty_int, w64, bare, inst_fn, Val, vint}

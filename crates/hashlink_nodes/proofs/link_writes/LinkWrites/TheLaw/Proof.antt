@@ -1,4 +1,4 @@
--- A `&` to the count holds nothing. Assumes `Logic`.
+-- A `&` to the count owns nothing. Assumes `Logic`.
 use Rattle.hashlink_nodes.proofs.Names.{RawPtr, copy_shared, nothing_shr_laws, field_copy, of_Lends}
 use Rattle.hashlink_nodes.proofs.Names.{Lends-nothing}
 use Rattle.std.specs.contracts.marker.PhantomData as marker

@@ -1,4 +1,4 @@
--- The count goes up by one, and no memory changes.
+-- The count grows by one, and no memory changes.
 use Rattle.hashlink_nodes.proofs.Names
 use Names.{◌≡◌, ◌+◌, List, [], ◌∷◌, ◌++◌, refl, sym, subst, Val, vptr, vunit, SProp, ent, emp, id⊢, ftrue}
 use Names.{flft, WpFn, ‵, raw, ◌⊛◌, ◌$◌, ◌∵◌, !, qed, by, move, keep, drop, split, join, fsplit, fsplit3}

@@ -4,7 +4,7 @@ use Rattle.hashlink_nodes.proofs.Calls.{ready_spare, spare_of, into_before}
 use Rattle.hashlink_nodes.proofs.Opening.{known, opened, seal}
 use Rattle.hashlink_nodes.proofs.nodes.Nodes.push_before.Goals as goal
 
--- ---- no node is spare
+-- ---- no node is free
 pub returns-then-self-eq0-clause-succeeds : goal.returns-then-self-eq0-clause-succeeds
 returns-then-self-eq0-clause-succeeds g c =
     λ some. absurd (omega (arith, some, (known c.self.invariant c.self.view_is).is_spare, c.if-self-eq0.true))
@@ -21,7 +21,7 @@ returns-then-self-eq0-clause-free g c =
     ((known c.self.invariant c.self.view_is).is_spare ∙ c.if-self-eq0.true)))
     c.push_new.ensures.free
 
--- ---- the first spare node is taken
+-- ---- the first free node is taken
 pub next-first_spare-requires : goal.next-first_spare-requires
 next-first_spare-requires g c =
     (spare_of (opened c.self.invariant c.self.view_is c.unwrap-guard.ensures)
@@ -33,7 +33,7 @@ fill-requires g c =
     (omega (arith, c.if-self-eq0.false)) in
     record { has = t.has_node; bare = t.bare; small = c.requires.small }
 
--- ---- and goes in
+-- ---- it is linked into the ring
 pub attach_before-requires : goal.attach_before-requires
 attach_before-requires g c =
     (into_before (ready_spare c.self.invariant c.self.view_is c.unwrap-guard.ensures

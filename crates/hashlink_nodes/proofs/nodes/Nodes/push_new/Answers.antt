@@ -6,7 +6,7 @@ pub fill-requires : goal.fill-requires
 fill-requires g c =
     let a = c.in-Ok-make.ensures.made in record { has = a.there; bare = a.bare; small = c.requires.small }
 
--- ---- the new node goes in
+-- ---- the new node is linked into the ring
 pub attach_before-requires : goal.attach_before-requires
 attach_before-requires g c =
     (into_before (ready_new c.self.invariant c.self.view_is c.in-Ok.ensures.made c.requires.none
@@ -34,7 +34,7 @@ returns-in-Ok-make g c =
       refused = tt;
     }
 
--- ---- it is refused, and the guard stays
+-- ---- the allocation fails, and the guard stays
 pub invariant_of-self-in-Err-make : goal.invariant_of-self-in-Err-make
 invariant_of-self-in-Err-make g c =
     seal (guard_stays c.self.invariant c.self.view_is c.in-Ok.ensures.made

@@ -20,7 +20,8 @@ returns g c =
     let node = c.prev-node.result in
     let number = at.value.number in
     let pair = pair_found at.before node at.value [] at.is off d.pair in
-    let left = sym (d.entries ∙ left_without at.before node at.value [] at.is off ∙ append-nil at.before) in record {
+    let left = sym (d.entries ∙ left_without at.before node at.value [] at.is off
+    ∙ append-nil at.before) in record {
       last = (node, number, at.is ∙ (λ i. left i ++ (node, held number (pair i).0 (pair i).1) ∷ []));
       free = ap length d.free ∙ omega arith;
       link_writes = d.link_writes;

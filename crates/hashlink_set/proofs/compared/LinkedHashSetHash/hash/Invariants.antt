@@ -1,4 +1,4 @@
--- What is left takes the hasher to where the whole list does.
+-- The elements left take the hasher to the state to which the whole list takes it.
 use Rattle.std.proofs.Common.{◌≡◌, fold, length}
 use Rattle.hashlink_model.specs.Compare.{elements_hash_input}
 use Rattle.hashlink_set.proofs.compared.LinkedHashSetHash.hash.Given as goal

@@ -1,4 +1,4 @@
--- What is left is as long on both sides, and equal where the whole lists are.
+-- The elements left are as many on both sides, and they are equal exactly if the whole lists are.
 use Rattle.hashlink_set.proofs.Names.{◌≡◌, length, elements_eq}
 use Rattle.hashlink_set.proofs.compared.LinkedHashSetPartialEq.eq.Given as goal
 

@@ -11,7 +11,8 @@ returns-clause-steps g c =
     let last : g.row.T.Denot × Unit {0} = (c.in_ok-element.element, tt) in
     let old = state_with set c.args.self.now.drained in
     let new = state_with set c.pop_back.new.self in
-    let pops = pops-back set c.args.self.now.drained c.pop_back.new.self (Some last) c.in_ok-element.ensures in
+    let pops = pops-back set c.args.self.now.drained c.pop_back.new.self (Some last)
+    c.in_ok-element.ensures in
     record {
       takes =
           ap keys_of (pop-takes_last old new (Some last) pops)

@@ -1,4 +1,4 @@
--- The elements that came so far are in.
+-- The elements returned so far were inserted.
 use Rattle.hashlink_set.proofs.Names.{◌≡◌, ◌-◌, ◌^◌, length, EndsFrom, items_left, AcceptsAll, SetInserts}
 use Rattle.std.proofs.Common.{min}
 use Rattle.std.proofs.iter.Next as it

@@ -1,4 +1,4 @@
--- `get_or_insert` puts the element in, and lends the last of what is there then.
+-- `get_or_insert` inserts the element, and then lends the last element.
 use Rattle.hashlink_set.proofs.Names.{◌≡◌, List, [], ◌∷◌, ◌++◌, refl, sym, ap, subst, ◌∙◌, SProp, ent, id⊢}
 use Rattle.hashlink_set.proofs.Names.{emp, a_type, named, ty_ptr, dcons, dnil, inst_fn, Val, of_list, vptr}
 use Rattle.hashlink_set.proofs.Names.{vstruct, WpFn, sem, ‵, raw, ◌⊛◌, some, later, ◌$◌, ◌∵◌, !, qed, by}
@@ -133,7 +133,7 @@ get_or_insert_spec 𝓤 𝓛 𝓜 𝓡 wired T S X LT LS LX e de p dp h dh b db 
     await ! tt $ pick ! (λ o. split ! $ move ! (1 ∷ []) $
     pick ! (λ ls₂. split ! $ drop ! $ split ! $ move ! (1 ∷ []) $ heard ! (Last o) (λ last.
     move ! (1 ∷ []) $ split ! $ move ! (1 ∷ []) $
-    -- [what is lent; the tokens; how the set rests; what was refused]
+    -- [what is lent; the tokens; how the set ends; what was refused]
     peeks ! Out (Is Out) (shows 𝓛 Out) o (v₂ ∷ []) (λ is_out.
     lands_as ! refl refl ((LOut.lawful 𝓛).typed o (v₂ ∷ []) is_out).0 $
     sets ! (of_opd ! (get ! refl)) refl fits $
@@ -163,7 +163,7 @@ get_or_insert_spec 𝓤 𝓛 𝓜 𝓡 wired T S X LT LS LX e de p dp h dh b db 
     peeks ! Ans (Is Ans) (shows 𝓛 Ans) x (v₃ ∷ []) (λ is_ans.
     lands_as ! refl refl ((LAns.lawful 𝓛).typed x (v₃ ∷ []) is_ans).0 $
     returns ! (look_at ! 0 refl) $ free_all ! refl $
-    -- [the answer; the tokens; how the set rests]
+    -- [the result; the tokens; how the set ends]
     let Gets : Set.Denot → Type 0 = λ new. GetsOrInserts p.eq r.now new t (as_seen x) in
     let gets : Gets q.0.now = answers_insert p.eq r.now q.0.now t q.1 o x put_in last is_lent is_refused in
     let Ends : SProp 𝓤 = sem 𝓛

@@ -1,7 +1,7 @@
 use Rattle.hashlink_set.proofs.Names.{◌≡◌, length, not, eqb, first_passing, elements_in, sifts}
 use Rattle.hashlink_set.proofs.sifted.SiftedIterator.next.Given as goal
 
--- what was looked at does not pass
+-- no element looked at so far passes
 abbrev pub invariant-loop-element : goal.invariant-loop-element
 invariant-loop-element g l =
     let test = sifts g.T.PartialEq.eq (not (eqb g.row.HAS 0)) (elements_in l.initial.self.other.now) in

@@ -1,4 +1,4 @@
--- A power of two less sixteen is a mask of the bits above the lowest four.
+-- A power of two minus sixteen is a mask of the bits above the lowest four.
 use Rattle.hashlink_table.proofs.Names.{◌≡◌, ℕ, ◌+◌, ◌-◌, ◌%◌, ◌^◌, bit_and, sym, subst, arith, pow_pos}
 use Rattle.hashlink_table.proofs.Names.{and_high, mod-pow-add}
 use Rattle.hashlink_table.proofs.Groups.{groups_of}

@@ -1,4 +1,4 @@
--- A power of two less one is a mask of the low bits.
+-- A power of two minus one is a mask of the low bits.
 use Rattle.hashlink_table.proofs.Names.{◌≡◌, ℕ, ◌-◌, ◌%◌, bit_and, sym, subst, and_mask}
 use Rattle.hashlink_table.proofs.store.bucket.bucket_of.Goals as goal
 

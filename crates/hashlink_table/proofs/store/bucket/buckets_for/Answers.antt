@@ -1,4 +1,4 @@
--- Twice a power of two is one, and one from sixteen on is whole groups.
+-- Twice a power of two is a power of two, and from 16 on a power of two is a multiple of 16.
 use Rattle.std.proofs.Common.{◌*◌, refl, arith}
 use Rattle.hashlink_table.proofs.Groups.{whole_power}
 use Rattle.hashlink_table.proofs.Doubling.{twice_power}

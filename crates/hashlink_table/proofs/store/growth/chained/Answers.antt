@@ -7,7 +7,7 @@ use Rattle.hashlink_table.proofs.Nodes.{next_in}
 use Rattle.hashlink_table.proofs.store.growth.chained.Goals as goal
 use Rattle.hashlink_table.proofs.store.growth.chained.Goals.{in-Some, in_default}
 
--- one node more, or none
+-- one more node, or none
 pushed : {N : Type 0} (cells : List (Cell N)) (i : ℕ) (o p : Option (Hashed N)) (old new : List (Hashed N))
     → i < length cells → o ≡ kept_at cells i → o ≡ p → old ≡ nodes_in (take i cells) → new
     ≡ old ++ with_node p []

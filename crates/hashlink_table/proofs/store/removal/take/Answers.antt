@@ -9,12 +9,12 @@ use Rattle.hashlink_table.proofs.store.removal.take.Given as given
 use Rattle.hashlink_table.proofs.store.removal.take.Goals.{After-next-next, In-Slot}
 use Rattle.hashlink_table.proofs.store.removal.take.Goals as goal
 
--- what is so of what a cell has
+-- a fact of the node of a cell, if it has one
 if_kept : {K : Type 0} (o : Option K) (P : K → Type 0) → ((k : K) → o ≡ Some k → P k) → IfSome o P
 if_kept None P so = tt
 if_kept (Some k) P so = so k refl
 
--- the slot is one of the slots
+-- the slot is among the slots
 low : (g : given.Over) (c : In-Slot g) → c.in-Slot.at < length c.args.slots.now
 low g c = within_by_kept c.args.slots.now c.in-Slot.at (rw c.in-Slot.is at c.requires.there)
 

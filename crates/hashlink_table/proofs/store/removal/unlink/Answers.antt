@@ -9,7 +9,7 @@ use Rattle.hashlink_table.proofs.store.removal.unlink.Given as given
 use Rattle.hashlink_table.proofs.store.removal.unlink.Goals.{Start}
 use Rattle.hashlink_table.proofs.store.removal.unlink.Goals as goal
 
--- the cell is one of the cells
+-- the cell is among the cells
 within : (g : given.Over) (c : Start g) → c.args.cell < length c.args.cells.now
 within g c =
     on_within (length c.args.slots.now) c.args.cells.now c.args.cell c.args.bucket c.requires.on_chain

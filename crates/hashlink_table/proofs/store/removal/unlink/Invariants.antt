@@ -2,7 +2,7 @@ use Rattle.hashlink_table.proofs.Names.{◌≢◌, ◌<◌, length, next_at}
 use Rattle.hashlink_table.proofs.Walks.{IsWalk, rank, steps_left}
 use Rattle.hashlink_table.proofs.store.removal.unlink.Given as goal
 
--- the cell is still to come
+-- the cell was not passed
 abbrev pub invariant-loop-cells : goal.invariant-loop-cells
 invariant-loop-cells g l = record {
   walk : IsWalk l.cells (length l.slots) l.bucket l.at;

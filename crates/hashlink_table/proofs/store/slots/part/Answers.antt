@@ -1,4 +1,4 @@
--- Both halves of a cell are in their lists, and are what the contract says.
+-- Both halves of a cell are in their lists, and are as the contract states.
 use Rattle.hashlink_table.proofs.Names.{slice_index_or, true, false, refl, arith, lt-ltb, le-ltb, length-set}
 use Rattle.hashlink_table.proofs.Names.{Rest}
 use Rattle.hashlink_table.proofs.Storing.{sizes}
@@ -23,7 +23,7 @@ pub bounds-rests-at-3 : goal.bounds-rests-at-3
 bounds-rests-at-3 g c =
     omega (arith, c.requires.within, sizes c.requires.tagged refl, length-set {A = Rest})
 
--- the node stays, or goes on
+-- the node stays, or moves
 parts : (g : given.Over) (c : goal.After-index-nodes-at g)
     → IsApart c.args.count (slice_index_or c.args.rests.now c.args.at (record { hash = 0; link = 0 })).hash
     (slice_index_or c.args.tags.now c.args.at 0) c.if-bucket_of-count.low

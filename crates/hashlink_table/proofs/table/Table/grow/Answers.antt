@@ -7,7 +7,7 @@ use Rattle.hashlink_table.proofs.table.Table.grow.Goals.{then-buckets-now, else-
 use Rattle.hashlink_table.proofs.table.Table.grow.Goals.{After-double, In_ok-chained}
 use Rattle.hashlink_table.proofs.table.Table.grow.Given as given
 
--- no node is lost where the buckets double
+-- no node is lost if the buckets double
 counted : (g : given.Over) (c : In_ok-chained g)
     → length (nodes_in c.double.new.slots) + length c.in_ok-chained.chained.nodes.items ≡ c.self.inside.len
 counted g c =
@@ -27,7 +27,7 @@ overflow_sub-self g c =
       counted g (goal.at.overflow_sub-self g c).In_ok-chained,
     )
 
--- the buckets are neither as many as before nor of another number
+-- if the number of buckets is not the old one, it is twice that
 twice_as_many : (g : given.Over) (c : After-double g) → c.args.buckets ≡ 2 * c.len-now.result
 twice_as_many g c =
     elim c.if-buckets-now.branch [
@@ -35,7 +35,7 @@ twice_as_many g c =
       | else-buckets-now w ↦ absurd (c.if-buckets-now-3.false w.if-buckets-now.false)
     ]
 
--- the overflow cells may keep the block that they were moved to
+-- the overflow cells may keep the block to which they were moved
 pub invariant_of-self-in_err-chained : goal.invariant_of-self-in_err-chained
 invariant_of-self-in_err-chained g c =
     let s = c.self.invariant in let z = s.sizes in let failed = c.in_err-chained.ensures in

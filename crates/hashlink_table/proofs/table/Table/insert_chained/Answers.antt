@@ -3,7 +3,7 @@ use Rattle.hashlink_table.proofs.Names.{sym, ap, ◌∙◌, arith, length-take, 
 use Rattle.hashlink_table.proofs.Nodes.{has_room, one_copied}
 use Rattle.hashlink_table.proofs.table.Table.insert_chained.Goals as goal
 
--- the first elements of a list, where one more comes last
+-- the first elements of a list, and one more at the end
 next_of : {X : Type 0} (xs : List X) (i : ℕ) (x : X) → i < length xs → x ≡ slice_index_or xs i x
     → take (i + 1) xs ≡ take i xs ++ x ∷ []
 next_of xs i x low is = take_more xs i x low ∙ ap (λ y. take i xs ++ y ∷ []) (sym is)

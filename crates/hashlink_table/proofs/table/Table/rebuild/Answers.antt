@@ -4,7 +4,7 @@ use Rattle.hashlink_table.proofs.Names.{IsPermutation-trans, length_permutation,
 use Rattle.hashlink_table.proofs.Names.{nodes_in}
 use Rattle.hashlink_table.proofs.table.Table.rebuild.Goals as goal
 
--- some nodes were put into an empty table
+-- nodes were inserted into an empty table
 into_empty : {N : Type 0} (empty : Contents N) (room : ℕ) (ks now : List (Hashed N))
     → empty ≡ record { nodes = []; room = room } → IsPermutation (empty.nodes ++ ks) now
     → IsPermutation ks now

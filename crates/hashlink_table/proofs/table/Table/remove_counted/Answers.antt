@@ -31,7 +31,7 @@ returns-in-None-clause-cost g c =
 pub take-requires-clause-arranged : goal.take-requires-clause-arranged
 take-requires-clause-arranged g c = rw c.deref_mut.ensures.value c.self.invariant.arranged
 
--- the node that was found is gone
+-- the node that was found is removed
 gone : (g : given.Over) (c : After-take g)
     → IsPermutation (nodes_in c.self.inside.slots ++ nodes_in c.self.inside.overflow.items)
     (record { hash = c.args.hash; node = c.in-Some.found.node }

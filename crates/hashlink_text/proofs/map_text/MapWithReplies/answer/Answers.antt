@@ -14,7 +14,7 @@ use Rattle.hashlink_text.specs.Transcript.{Shows, Itself, ended, form_of, replie
 use Rattle.hashlink_run.proofs.AnyCommand.{step-wider}
 use Rattle.hashlink_text.proofs.map_text.MapWithReplies.answer.Goals as goal
 
--- a command that was read is answered by its replies, the steps of a cursor among them
+-- the answer to a command that was read is its replies, including the replies to a cursor's steps
 shows-command : {S : Type 0} (old new : MapState ℕ ℕ S) (command : Command ℕ ℕ)
     (replies : List (Reply ℕ ℕ (ℕ × ℕ))) → Step nat_eq Itself IsEven old command replies new
     → Shows old (Some (said (Do command))) (replies_shown (form_of command) replies) new

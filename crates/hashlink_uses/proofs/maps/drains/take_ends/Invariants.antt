@@ -3,7 +3,7 @@ use Rattle.hashlink.specs.MapDrain.{drained_map}
 use Rattle.hashlink_uses.proofs.Common.{◌≡◌, state_of}
 use Rattle.hashlink_uses.proofs.maps.drains.take_ends.Given as goal
 
--- the same map, of which only entries that were there at the start are left
+-- the same map, and each entry left was there at the start
 abbrev pub invariant-loop : goal.invariant-loop
 invariant-loop g l =
     ((drained_map l.drain).ghost_name ≡ (drained_map l.initial.drain).ghost_name)

@@ -1,5 +1,5 @@
 use Rattle.std.proofs.lemmas.List.{length-map}
-use Rattle.hashlink_uses.proofs.Counting.{removes_first, without_first-keys}
+use Rattle.hashlink.proofs.Counting.{removes_first, without_first-keys}
 use Rattle.hashlink_uses.proofs.Common.{◌%◌, ◌∙◌, ap, arith, nat_eq, rules, keys_of}
 use Rattle.hashlink_uses.proofs.maps.retains.take_even.Goals as goal
 

@@ -1,5 +1,5 @@
 use Rattle.std.proofs.Common.{arith, nat_eq, rules}
-use Rattle.hashlink_uses.proofs.Counting.{removes_first}
+use Rattle.hashlink.proofs.Counting.{removes_first}
 use Rattle.hashlink_uses.proofs.maps.retains.take_zeros.Goals as goal
 
 pub overflow_sub-result : goal.overflow_sub-result

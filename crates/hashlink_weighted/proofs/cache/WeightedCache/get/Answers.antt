@@ -10,7 +10,7 @@ pub invariant_of-self-2 : goal.invariant_of-self-2
 invariant_of-self-2 g c =
     moves_total _ _ _ _ _ _ c.move_last.ensures.moves c.self.invariant
 
--- of an absent key there is no value
+-- an absent key has no value
 no_value : {V : Type 0} (o : Option (V × ℕ)) → is_some o ≡ false → None ≡ without_weight o
 no_value None n = refl
 no_value (Some w) n = absurd (true≢false n)

@@ -35,7 +35,7 @@ loop-others-preserved g c =
       room = refl;
     }
 
--- the loop ends only where the others fit
+-- the loop ends only if the other entries fit
 ended : (g : _) (c : Left-loop-others g)
     → (c.loop-others.others ≤ c.args.budget - c.args.weight) × (c.loop-others-test.map ≡ c.loop-others.map)
 ended g c = elim c.loop-others-test.branch [

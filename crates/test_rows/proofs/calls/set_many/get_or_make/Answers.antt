@@ -1,4 +1,4 @@
--- What is made for an absent element is equal to it, and so absent.
+-- An element that is made for an absent one is equal to it, and so absent.
 use Rattle.std.proofs.Common.{◌≡◌, nat_eq, Bool, true, false, List, [], ◌∷◌, Option, Some, None, cond, ◌||◌}
 use Rattle.std.proofs.Common.{ℕ}
 use Rattle.std.proofs.Common.{is_some, refl, sym, ap, ◌∙◌}

@@ -1,4 +1,4 @@
--- `current` lends the pair at its place, where there is one, and the cursor follows it.
+-- `current` lends the pair at its place, if there is one, and the cursor follows it.
 use Rattle.hashlink_map.specs.contracts.cursor.methods.CursorMut+K+V+S.current as f
 use Rattle.hashlink_map.proofs.CursorPairs.{Cursor, at_place}
 use Rattle.hashlink_map.proofs.LendAtPlace.{steps_and_lends}

@@ -1,4 +1,4 @@
--- `pair_at` lends the value beside the key, where there is one, and the cursor follows it.
+-- `pair_at` lends the value beside the key, if there is one, and the cursor follows it.
 use Rattle.hashlink_map.specs.contracts.cursor.methods.CursorMut+K+V+S.pair_at as f
 use Rattle.hashlink_map.proofs.CursorPairs.{Cursor, at_node}
 use Rattle.hashlink_map.proofs.LendAtPlace.{lends_at_place}

@@ -1,4 +1,4 @@
--- `peek_next` lends the pair at the next place, where there is one, and the cursor follows it.
+-- `peek_next` lends the pair at the next place, if there is one, and the cursor follows it.
 use Rattle.hashlink_model.specs.Cursor.{place_next}
 use Rattle.hashlink_map.specs.contracts.cursor.methods.CursorMut+K+V+S.peek_next as f
 use Rattle.hashlink_map.proofs.CursorPairs.{Cursor, at_place}

@@ -1,4 +1,4 @@
--- `peek_prev` lends the pair at the place before, where there is one, and the cursor follows it.
+-- `peek_prev` lends the pair at the previous place, if there is one, and the cursor follows it.
 use Rattle.hashlink_model.specs.Cursor.{place_previous}
 use Rattle.hashlink_map.specs.contracts.cursor.methods.CursorMut+K+V+S.peek_prev as f
 use Rattle.hashlink_map.proofs.CursorPairs.{Cursor, at_place}

@@ -1,7 +1,7 @@
 use Rattle.hashlink_map.proofs.Names.{ap, rules, cursor_node, IsPlace-prop}
 use Rattle.hashlink_map.proofs.cursor.methods.CursorMut+K+V+S.with_next.Goals as goal
 
--- whatever shows that its place is still of the list
+-- whatever proves that its place is still in the list
 pub returns : goal.returns
 returns g c =
     let s = c.args.self.now in (

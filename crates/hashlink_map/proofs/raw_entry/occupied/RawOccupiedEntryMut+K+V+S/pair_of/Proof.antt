@@ -1,4 +1,4 @@
--- `pair_of` lends the pair of an entry that is there, and hands the other on.
+-- `pair_of` lends the pair of an entry, or hands the error on.
 use Rattle.hashlink_map.proofs.Names
 use Names.{◌≡◌, List, [], ◌∷◌, ◌++◌, refl, sym, ap, subst, ◌∙◌, lit<, SProp, ent, id⊢, via, emp, ftrue, flft}
 use Names.{fsep, a_type, dcons, dnil, inst_fn, Val, of_list, vstruct, WpFn, Wp, after_seq, sem, live, vrt}

@@ -1,4 +1,4 @@
--- `insert` lends the pair of the entry that `insert_entry` answers.
+-- `insert` lends the pair of the entry that `insert_entry` returns.
 use Rattle.hashlink_map.proofs.Names.{[], ◌∷◌, refl, ftrue, fsep, via, sem, of_opd, and_then, no_more}
 use Rattle.hashlink_map.proofs.Names.{returns, enter, alloc_all, pass_all, free_all, look_at, get, sets}
 use Rattle.hashlink_map.proofs.Names.{lands_as, Lfts, tables, no, param, param_laws, plain, nothing}

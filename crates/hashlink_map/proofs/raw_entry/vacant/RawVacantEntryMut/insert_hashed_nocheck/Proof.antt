@@ -1,4 +1,4 @@
--- `insert_hashed_nocheck` lends the pair of the entry that `insert_entry_hashed_nocheck` answers.
+-- `insert_hashed_nocheck` lends the pair of the entry that `insert_entry_hashed_nocheck` returns.
 use Rattle.hashlink_map.proofs.Names.{[], ◌∷◌, refl, ftrue, fsep, sep, via, w64, vint, sem, of_opd, and_then}
 use Rattle.hashlink_map.proofs.Names.{no_more, returns, enter, alloc_all, pass_all, free_all, look_at, get}
 use Rattle.hashlink_map.proofs.Names.{sets, lands_as, Lfts, tables, u64, no, yes, param, param_laws, plain}

@@ -1,4 +1,4 @@
--- `insert_with_hasher` lends the pair of the entry that `insert_entry_with_hasher` answers.
+-- `insert_with_hasher` lends the pair of the entry that `insert_entry_with_hasher` returns.
 use Rattle.hashlink_map.proofs.Names
 use Names.{[], ◌∷◌, refl, ftrue, fsep, sep, via, w64, vint, sem, of_opd, and_then, no_more, returns, enter}
 use Names.{alloc_all, pass_all, free_all, look_at, get, sets, lands_as, ◌⊑◌, Lfts, fact, tables, u64, no, yes}

@@ -1,4 +1,4 @@
--- Each cell is doubled in its turn, and the lists keep their lengths.
+-- Each cell is doubled in turn, and the lists keep their lengths.
 use Rattle.hashlink_table.proofs.Names.{◌≡◌, ◌*◌, length, replicate, length-replicate, refl, sym, ◌∙◌, subst}
 use Rattle.hashlink_table.proofs.Names.{arith, IsPowerOfTwo, with_items, with_items_is, bare_cell}
 use Rattle.hashlink_table.proofs.Storing.{sizes}
@@ -44,7 +44,7 @@ loop-at-preserved g c = record {
       c.loop-at.invariant.halves);
 }
 
--- what the lists are then
+-- the lists afterwards
 module _ (g : given.Over) (c : goal.After-self-in-loop-at-2-1 g) where
   tags : (with_items c.self.inside.tags c.loop-at.tags).items ≡ c.loop-at.tags
   tags =

@@ -2,7 +2,7 @@ use Rattle.hashlink_table.proofs.Names.{cells_in, IsTagged}
 use Rattle.hashlink_table.proofs.Doubling.{IsDoubledTo}
 use Rattle.hashlink_table.proofs.store.slots.Slots.double.Given as goal
 
--- the first so many cells are doubled
+-- the cells so far are doubled
 abbrev pub invariant-loop-at : goal.invariant-loop-at
 invariant-loop-at g l = record {
   tagged : IsTagged l.tags l.nodes l.rests;

@@ -1,10 +1,10 @@
--- Each list grows by as many.
+-- Each list grows by the same number of elements.
 use Rattle.hashlink_table.proofs.Names.{◌++◌, replicate, refl, length-replicate, bare_cell}
 use Rattle.hashlink_table.proofs.Storing.{bare_cells, more_cells, AreCells}
 use Rattle.hashlink_table.proofs.store.slots.Slots.widen.Given as given
 use Rattle.hashlink_table.proofs.store.slots.Slots.widen.Goals as goal
 
--- what the lists are then
+-- the lists afterwards
 wider : (g : given.Over) (c : goal.After-add_repeated-3 g)
     → AreCells c.add_repeated-3.new.list.items c.add_repeated-2.new.list.items c.add_repeated.new.list.items
     (c.args.self.now ++ replicate c.args.count bare_cell)
