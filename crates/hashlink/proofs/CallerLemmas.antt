@@ -7,7 +7,7 @@ use Rattle.std.proofs.Common.{sym, ap, subst, ◌∙◌, lt-ltb, map, ◌⊎◌,
 use Rattle.std.proofs.Common.{nat_le, le_refl, zero-le, max}
 use Rattle.std.specs.Prelude.{All, IsSome, OnOk, insert, remove, slice_get, unwrap_or, MatchOption}
 use Rattle.std.specs.Prelude.{MatchResult, fold}
-use Rattle.std.specs.Option.{option_map, option_map_or, option_or, option_to_list}
+use Rattle.std.specs.Option.{UnwrapsOrElse, option_map, option_map_or, option_or, option_to_list}
 use Rattle.std.specs.Cmp.{IsEquivalence}
 use Rattle.std.specs.Iterator.{DrainsIf, Yields, YieldsThen}
 use Rattle.std.specs.List.{AllPass, list_any}
@@ -31,7 +31,7 @@ use Rattle.hashlink_model.specs.Cache.{last_entries}
 use Rattle.hashlink_model.specs.Entries.{IsEntries, place_left, place_of, place_without, place_or_end}
 use Rattle.hashlink_model.specs.Entries.{moved_at, moved_match, put, set_key_at, stored_key, without}
 use Rattle.hashlink_model.specs.Entry.{EntryState, entry_of, key_at, value_at}
-use Rattle.hashlink_model.specs.Lookups.{Updates}
+use Rattle.hashlink_model.specs.Lookups.{Updates, UpdatesLast}
 use Rattle.hashlink_model.specs.Many.{AcceptsAll, StopsAt}
 use Rattle.hashlink_model.specs.MapState.{MapState, Inserts}
 use Rattle.hashlink_model.specs.Retain.{KeepsInOrder, RetainsInOrder}
@@ -156,6 +156,19 @@ module _ {K V : Type 0} (P : K × V → Type 0) where
   All-found test es v l a =
       let at = place_from_lookup test es v l in
       (at.1, All-at es at.0 (at.1, v) at.2 a, at.3)
+
+  -- goal: P of what a use found or made, as by `get_or_insert_with`, at a key that equals only itself
+  pub All-found_or_made : (test : K → Bool) (es : List (K × V)) (k : K) → ((q : K) → test q ≡ true → k ≡ q)
+      → All P es → (Makes : V → Type 0) → ((v : V) → Makes v → P (k, v)) → (v : V)
+      → UnwrapsOrElse (lookup test es) Makes v
+      → P (k, v)
+  All-found_or_made test es k only a Makes made v got = by (lookup test es) refl got
+    where
+      by : (o : Option V) → lookup test es ≡ o → UnwrapsOrElse o Makes v → P (k, v)
+      by None l m = made v m
+      by (Some w) l is =
+          let found = All-found test es w l a in
+          subst P (λ i. (sym (only found.0 found.2) i, sym is i)) found.1
 
   -- goal: `All P (moved_match test es b)`, so `All P (moved eq es k b)`, as after a move or a hit of a
   -- cache's `get`
@@ -332,6 +345,14 @@ module _ {K V : Type 0} (eq : K → K → Bool) where
       updates-inserts eq old new k w laws d (length old.entries) (Ok (lookup (eq k) old.entries))
       (subst (λ x. PutsLast eq x.map new x.key w) is s)
 
+  -- goal: the look-ups once w was written through what `get_or_insert_with` of a map lent
+  pub updates-got : {S : Type 0} (old new : MapState K V S) (k : K) (w : V) → UpdatesLast eq old.entries k
+      → PutsLast eq old new k w
+      → Updates eq old.entries new.entries k (Some w)
+  updates-got old new k w lent s =
+      let is = inserts_entries eq old new k w (length old.entries) (lookup (eq k) old.entries) s in
+      subst (λ zs. Updates eq old.entries zs k (Some w)) (sym is.0) (lent w)
+
 -- ---- lists of entries, written out
 
 -- goal: a list by its first item, as `front` and `peek_lru` return it
@@ -343,7 +364,7 @@ by_first (y ∷ xs) None is = absurd (none-some y is)
 by_first (y ∷ xs) (Some x) is = ap (λ z. z ∷ xs) (same_Some y x (sym is))
 
 module _ {X : Type 0} where
-  -- goal: an item of a list with one more at its end, and that one
+  -- goal: an item of a list to which one is added at its end, and the added item
   pub slice_get-push : (xs : List X) (x y : X) (k : ℕ) → slice_get (xs ++ x ∷ []) k ≡ Some y
       → (slice_get xs k ≡ Some y) ⊎ ((k ≡ length xs) × (y ≡ x))
   slice_get-push [] x y zero at = inr (refl, same_Some y x (sym at))
@@ -519,7 +540,7 @@ module _ {K V : Type 0} (eq : K → K → Bool) (laws : IsEquivalence eq) (q : K
 
 module _ {K V S : Type 0} (eq : K → K → Bool) (old new : CacheState K V S) (k : K) (v : V) where
   -- what a use leaves, by what was found: a key that was there is last with v, and an absent one is put last
-  -- with v, after which the last `cap` entries stay, or that one at capacity 0
+  -- with v, after which the last `cap` entries stay, or at capacity 0 the new one
   abbrev pub used_by : Option V → List (K × V)
   used_by o =
       let es = old.map.entries in
@@ -576,8 +597,8 @@ first_evicted (x ∷ xs) (suc zero) le = refl
 first_evicted (x ∷ xs) (suc (suc n)) le = absurd (omega arith)
 
 module _ {K V : Type 0} (eq : K → K → Bool) (es : List (K × V)) (cap : ℕ) (k : K) (v : V) where
-  -- goal: what a push of an absent key hands out and what it leaves, of a cache that is within its capacity:
-  -- the entries that were there and the new pair, at capacity 0 too
+  -- goal: what a push of an absent key returns and what it leaves, if the cache is within its capacity: the
+  -- old entries and the new pair, at capacity 0 too
   pub pushed_absent : lookup (eq k) es ≡ None → length es ≤ cap
       → option_to_list (pushed_out eq es cap k v) ++ cache_put eq es cap k v ≡ es ++ (k, v) ∷ []
   pushed_absent none within =
@@ -590,7 +611,7 @@ module _ {K V : Type 0} (eq : K → K → Bool) (es : List (K × V)) (cap : ℕ)
       ∙ first_evicted zs (length zs - cap) one in
       ap (λ xs. xs ++ cache_put eq es cap k v) out ∙ take-append-drop (length zs - cap) zs ∙ is
 
--- ---- what came out of a container that is given by value, or of its iterator
+-- ---- what a container that is passed by value, or its iterator, has returned
 
 module _ {X State A : Type 0} (step : State → State → X → Result A X → Type 0) (es : List X)
     (old new : State) where
@@ -623,7 +644,7 @@ module _ {I X : Type 0} (steps : I → Option X → I → Type 0) (rest : I → 
       let end = ran.2 w in
       given_front i xs ran.0 ran.1 ∙ ap (λ ys. xs ++ ys) (takes ran.0 None end.0 end.1).0 ∙ append-nil xs
 
--- ---- a retain whose closure captures: `Holds` says what it holds to, as which time it compares with
+-- ---- a retain whose closure captures: `Holds` states what was captured, such as a time
 
 module _ {F K V : Type 0} (T : F → K → V → Bool → V → F → Type 0) (Holds : F → Type 0)
     (passes : K × V → Bool) where

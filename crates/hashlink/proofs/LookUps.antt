@@ -95,13 +95,13 @@ module _ {A V : Type 0} where
       → lookup (is_text text) es ≡ lookup (string_eq key) es
   lookup-text key text same es = ap (λ t. lookup (is_text t) es) (sym same)
 
-  -- goal: a text finds a value exactly where it is among the texts of the keys
+  -- goal: a text finds a value if and only if it is among the texts of the keys
   pub is_some-lookup_text : (text : List ℕ) (es : List (String A × V))
       → is_some (lookup (is_text text) es) ≡ is_member bytes_eq (map string_bytes (keys_of es)) text
   is_some-lookup_text text [] = refl
   is_some-lookup_text text (e ∷ es) = grind (arith, is_some-lookup_text text es)
 
-  -- goal: where the pair stands whose value a text finds, and its key, which has these bytes
+  -- goal: the index of the pair whose value a text finds, and its key, which has the bytes of the text
   pub place-from_text : (text : List ℕ) (es : List (String A × V)) (v : V) → lookup (is_text text) es ≡ Some v
       → (i : ℕ) × (key : String A) × (slice_get es i ≡ Some (key, v)) × (string_bytes key ≡ text)
   place-from_text text es v found =
@@ -137,7 +137,7 @@ module _ {A V : Type 0} where
 
 module _ {A V B : Type 0} (f : Option V → B) (text : List ℕ) (old new : List (String A × V))
     (w : Option V) (updates : UpdatesBy string_eq (is_text text) old new w) where
-  -- goal: what is read at any text, by f, after a change at a text, where it is b
+  -- goal: what f reads at any text after a change at one text, at which f reads b
   pub read-text_updated : {b : B} → f w ≡ b → (other : List ℕ)
       → f (lookup (is_text other) new) ≡ cond (bytes_eq text other) b (f (lookup (is_text other) old))
   read-text_updated {b} is other =

@@ -1,5 +1,6 @@
 -- The definitions that the contracts of the containers use, passed on. If two crates have files of the same
 -- name, the name here begins with that of the container, such as `MapLends`.
+pub mod Joined
 pub mod Texts
 pub mod WithoutFirst
 pub use Rattle.hashlink_model.specs.Algebra

@@ -57,7 +57,7 @@ module _ {K L : Type 0} (f : K → L) (eq : K → K → Bool) (seen : L → L �
   zip-map (x ∷ xs) (y ∷ ys) z = (sym (same x y) ∙ z.0, zip-map xs ys z.1)
 
   pub Counted-map : (used : List K) (s : CurveState K) → Counted eq used s
-      → Counted seen (map f used) (record { keys = map f s.keys; reuses = s.reuses })
+      → Counted seen (map f used) (record { keys = map f s.keys; reuses = s.reuses; reserved = s.reserved })
   Counted-map used s h =
       record {
         keys = subst (AllZip (λ a b. seen a b ≡ true) (map f s.keys)) (unique_keys-map used)

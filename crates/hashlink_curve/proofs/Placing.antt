@@ -9,6 +9,7 @@ use Rattle.std.proofs.lemmas.List.{nil_from_length, append-nil, map-append, leng
 use Rattle.std.specs.Map.{lookup, values_of, set_value}
 use Rattle.std.proofs.lemmas.Map.{NonePasses}
 use Rattle.std.proofs.lemmas.Option.{same_Some}
+use Rattle.std.proofs.lemmas.Bool.{true≢false}
 use Rattle.hashlink_model.specs.Entries.{put, stored_key, without}
 use Rattle.hashlink_model.specs.MapState.{MapState}
 use Rattle.hashlink_model.specs.Steps.{MovesMatchAndWrites, PopsFront}
@@ -18,8 +19,11 @@ use Rattle.hashlink_model.proofs.Splits.{set_value-here}
 use Rattle.hashlink_model.proofs.ByPlace.{moved-there}
 use Rattle.hashlink_model.proofs.Finds.{stored_key-equal}
 use Rattle.hashlink_model.proofs.Puts.{none_without, put_back, put_back_here}
-use Rattle.hashlink_curve.specs.Recency.{Rises, IsPlaced, MovesLast}
+use Rattle.hashlink_curve.specs.Recency.{RecencyState, Rises, IsPlaced, MovesLast}
 use Rattle.hashlink_curve.proofs.Sums.{count_by-middle, count_by-cons}
+
+pub same_keys : {K : Type 0} {s t : RecencyState K} → s ≡ t → s.keys ≡ t.keys
+same_keys same = ap (λ s. s.keys) same
 
 module _ {K : Type 0} where
   -- ---- rising places
@@ -87,6 +91,12 @@ module _ {K : Type 0} where
       → list_any test (keys_of es) ≡ false
   list_any-keys test [] n = refl
   list_any-keys test (e ∷ es) n = ap₂ (λ a b. a || b) n.0 (list_any-keys test es n.1)
+
+  -- a key that is not found is not among the keys
+  pub none_found : (test : K → Bool) (es : List (K × ℕ)) → lookup test es ≡ None
+      → list_any test (keys_of es) ≡ true → ⊥
+  none_found test es none there =
+      true≢false (sym there ∙ list_any-keys test es (none_from_lookup test es none))
 
   -- a mark at the place of one more entry
   marked_last : (es : List (K × ℕ)) (k : K) (n : ℕ) (row after : List ℕ)

@@ -1,16 +1,24 @@
 -- What a miss curve has counted for a history.
 use Rattle.std.specs.Prelude.{◌≡◌, ℕ, ◌+◌, ◌-◌, ◌^◌, ◌<◌, ◌≤◌, Bool, true, false, nat_eq, List, [], ◌∷◌, ◌++◌}
 use Rattle.std.specs.Prelude.{length, drop, sum, All, AllPairs, Contains, IsTrue, Option, None, Some}
-use Rattle.std.specs.Prelude.{if◌then◌else◌, set, slice_index, Vec, vec_len, vec_capacity}
+use Rattle.std.specs.Prelude.{if◌then◌else◌, nat_lt, set, slice_index, Vec, vec_len, vec_capacity}
 use Rattle.std.specs.declared.alloc.Global.{Global}
 use Rattle.std.specs.List.{AllZip, list_any}
 use Rattle.std.specs.Set.{is_member, unique_keys}
 use Rattle.hashlink_history.specs.History.{reuse_distance, cache_misses}
 
--- the keys in the order of their last uses, each once, and the number of uses at each distance
+-- the keys in the order of their last uses, each once; the number of uses at each distance; and the number of
+-- further uses of these keys for which memory is reserved
 pub record CurveState (K : Type 0) : Type 0 where
   pub keys : List K
   pub reuses : List ℕ
+  pub reserved : ℕ
+
+-- the counts are the same, and memory is reserved for no fewer uses
+pub record KeepsCounts {K : Type 0} (old new : CurveState K) : Type 0 where
+  pub keys : new.keys ≡ old.keys
+  pub reuses : new.reuses ≡ old.reuses
+  pub reserved : old.reserved ≤ new.reserved
 
 -- the misses of a cache of capacity c: the first use of each key, and each later use at a distance of c or
 -- more
@@ -51,10 +59,10 @@ module _ {K : Type 0} (eq : K → K → Bool) where
   Counts used old new k distance =
       Counted used old → Counted (used ++ k ∷ []) new × (distance ≡ distance_of used k)
 
-  -- a use of the key that passes the test, by its result: either no key passes and nothing changed, or one
+  -- a use of the key that passes the test, by its result: either no key passes and no count changed, or one
   -- does, and a use of it was counted
   abbrev pub CountsMatch : (K → Bool) → CurveState K → CurveState K → Option ℕ → Type 0
-  CountsMatch test old new None = (list_any test old.keys ≡ false) × (new ≡ old)
+  CountsMatch test old new None = (list_any test old.keys ≡ false) × KeepsCounts old new
   CountsMatch test old new (Some others) =
       IsTrue (list_any test new.keys)
       × ((used : List K) (k : K) → IsTrue (test k) → Counts used old new k (Some others))
@@ -69,6 +77,10 @@ pub record IsTallied {K : Type 0} (keys : List K) (reuses : List ℕ) (accesses 
 abbrev pub tallied : Option ℕ → List ℕ → List ℕ
 tallied None reuses = reuses ++ 0 ∷ []
 tallied (Some d) reuses = set reuses d (slice_index reuses d + 1)
+
+-- the uses for which memory is reserved: one for each free place, if there is room for one more count
+abbrev pub reserved_uses : Vec ℕ Global → ℕ → ℕ
+reserved_uses reuses free = if nat_lt (vec_len reuses) (vec_capacity reuses) then free else 0
 
 -- there is room for one more count, or the distance has a count that may grow
 abbrev pub CanCount : Option ℕ → Vec ℕ Global → Type 0

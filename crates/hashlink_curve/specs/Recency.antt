@@ -8,6 +8,11 @@ use Rattle.std.specs.Set.{is_member}
 use Rattle.hashlink_model.specs.Entries.{IsEntries, put}
 use Rattle.hashlink_curve.specs.Marks.{Marked}
 
+-- the keys in the order of their last uses, and the number of free places after theirs
+pub record RecencyState (K : Type 0) : Type 0 where
+  pub keys : List K
+  pub free : ℕ
+
 -- the places rise from `low` on, and each is below `next`
 abbrev pub Rises : {K : Type 0} → ℕ → List (K × ℕ) → ℕ → Type 0
 Rises low [] next = low ≤ next
@@ -46,6 +51,11 @@ module _ {K : Type 0} where
   pub record PassesNone (test : K → Bool) (old new : List K) : Type 0 where
     pub absent : list_any test old ≡ false
     pub unchanged : new ≡ old
+
+  -- the keys are the same, and no place fewer is free
+  pub record KeepsKeys (old new : RecencyState K) : Type 0 where
+    pub keys : new.keys ≡ old.keys
+    pub free : old.free ≤ new.free
 
   -- a use of the key that passes the test, if one does, by its result
   abbrev pub TouchesMatch : (K → Bool) → List K → List K → Option ℕ → Type 0

@@ -1,11 +1,11 @@
 //! The miss curve.
-ghost use Rattle.std.specs.Prelude.{◌≡◌, ◌≤◌, ◌<◌, ◌^◌, ℕ, List, [], length, drop, sum, Ok, IfOk, IsOk};
-ghost use Rattle.std.specs.Prelude.{IfErr, OnErr, OnOk, IsTrue};
+ghost use Rattle.std.specs.Prelude.{◌≡◌, ◌≤◌, ◌<◌, ◌+◌, ◌-◌, ◌^◌, ℕ, List, [], length, drop, sum, Ok, IfOk};
+ghost use Rattle.std.specs.Prelude.{IfErr, IsOk, OnErr, OnOk, IsTrue, vec_capacity};
 ghost use Rattle.std.specs.List.{list_any};
 ghost use Rattle.std.specs.Set.{distinct_count, is_member};
 ghost use Rattle.hashlink_history.specs.History.{cache_misses};
 ghost use Rattle.hashlink_curve.specs.Curve.{Counted, Counts, CountsMatch, CanMakeMatch, misses_at};
-ghost use Rattle.hashlink_curve.specs.Curve.{falls_from, ListsFalls, CanCount, tallied};
+ghost use Rattle.hashlink_curve.specs.Curve.{falls_from, ListsFalls, CanCount, KeepsCounts, tallied};
 
 use crate::falls::Falls;
 use crate::recency::Recency;
@@ -25,13 +25,17 @@ pub struct MissCurve<K: Eq + Hash, S: BuildHasher = DefaultHashBuilder> {
 }
 
 impl<K: Eq + Hash, S: BuildHasher> Model for MissCurve<K, S> {
-    ghost use Rattle.hashlink_curve.specs.Curve.{CurveState, IsTallied};
+    ghost use Rattle.hashlink_curve.specs.Curve.{CurveState, IsTallied, reserved_uses};
 
     ghost Value = { CurveState K };
 
-    ghost view = { λ c. record { keys = c.recency; reuses = c.reuses.items } };
+    ghost view = { λ c. record {
+      keys = c.recency.keys;
+      reuses = c.reuses.items;
+      reserved = reserved_uses c.reuses c.recency.free;
+    } };
 
-    ghost invariant = { λ c. IsTallied c.recency c.reuses.items c.accesses };
+    ghost invariant = { λ c. IsTallied c.recency.keys c.reuses.items c.accesses };
 }
 
 impl<K: Eq + Hash> MissCurve<K, DefaultHashBuilder> {
@@ -61,19 +65,27 @@ impl<K: Eq + Hash, S: BuildHasher> MissCurve<K, S> {
     /// first use.
     ///
     /// It takes logarithmic time on average. If memory runs out, or after 2 to the power of 64 less 1 uses,
-    /// it returns the key in `Err` and nothing changes.
+    /// it returns the key in `Err` and no count changes. A key that is recorded already needs no memory if
+    /// `reserved` is not 0.
     pub fn record(&mut self, key: K) -> Result<Option<usize>, K>
     where
         K: Drop,
         ensures counted { IfOk result (λ distance. (used : List K)
             → Counts K.eq used self.old self.new key distance) }
         ensures there { OnOk result (IsTrue (is_member K.eq self.new.keys key)) }
+        ensures again { IsTrue (is_member K.eq self.old.keys key) → 0 < self.old.reserved
+            → misses_at self.old 0 < 2 ^ 64 - 1 → IsOk result }
+        ensures reserved { IsTrue (is_member K.eq self.old.keys key)
+            → self.old.reserved ≤ self.new.reserved + 1 }
         ensures handed_back { IfErr result (λ k. k ≡ key) }
-        ensures unchanged { OnErr result (self.new ≡ self.old) }
+        ensures unchanged { OnErr result (KeepsCounts self.old self.new) }
     {
-        if self.accesses == u64::MAX || self.reuses.reserve(1).is_err() {
+        if self.accesses == u64::MAX {
             return Err(key);
         }
+        let Ok(()) = self.reuses.reserve(1) else {
+            return Err(key);
+        };
         let distance = self.recency.touch(key)?;
         count_use(&mut self.reuses, distance);
         self.accesses += 1;
@@ -84,7 +96,7 @@ impl<K: Eq + Hash, S: BuildHasher> MissCurve<K, S> {
     /// to be callable, and is called once. The key that it returns has to match the query, and is recorded.
     ///
     /// It takes as long as `record`, and hashes the key a second time if it is a new one. If memory runs out,
-    /// if `make` fails, or after 2 to the power of 64 less 1 uses, it returns `AllocError` and nothing
+    /// if `make` fails, or after 2 to the power of 64 less 1 uses, it returns `AllocError` and no count
     /// changes.
     pub fn record_with<Q: Equivalent<K>, F: FnOnce() -> Result<K, AllocError>>(
         &mut self,
@@ -98,7 +110,11 @@ impl<K: Eq + Hash, S: BuildHasher> MissCurve<K, S> {
         ensures counted { IfOk result (λ distance. (used : List K) (key : K) → IsTrue (Q.matches query key)
             → Counts K.eq used self.old self.new key distance) }
         ensures there { OnOk result (IsTrue (list_any (Q.matches query) self.new.keys)) }
-        ensures unchanged { OnErr result (self.new ≡ self.old) }
+        ensures again { IsTrue (list_any (Q.matches query) self.old.keys) → 0 < self.old.reserved
+            → misses_at self.old 0 < 2 ^ 64 - 1 → IsOk result }
+        ensures reserved { IsTrue (list_any (Q.matches query) self.old.keys)
+            → self.old.reserved ≤ self.new.reserved + 1 }
+        ensures unchanged { OnErr result (KeepsCounts self.old self.new) }
     {
         if let Some(others) = self.record_match(query)? {
             return Ok(Some(others));
@@ -116,7 +132,9 @@ impl<K: Eq + Hash, S: BuildHasher> MissCurve<K, S> {
     where
         K: Drop,
         ensures counted { IfOk result (CountsMatch K.eq (Q.matches query) self.old self.new) }
-        ensures unchanged { OnErr result (self.new ≡ self.old) }
+        ensures again { 0 < self.old.reserved → misses_at self.old 0 < 2 ^ 64 - 1 → IsOk result }
+        ensures reserved { self.old.reserved ≤ self.new.reserved + 1 }
+        ensures unchanged { OnErr result (KeepsCounts self.old self.new) }
     {
         if self.accesses == u64::MAX {
             return Err(AllocError);
@@ -127,6 +145,18 @@ impl<K: Eq + Hash, S: BuildHasher> MissCurve<K, S> {
         count_use(&mut self.reuses, Some(others));
         self.accesses += 1;
         Ok(Some(others))
+    }
+
+    /// Returns the number of further uses of recorded keys for which memory is reserved. Until the number of
+    /// uses reaches 2 to the power of 64 less 1, they cannot fail. It takes constant time.
+    pub fn reserved(&self) -> usize
+        ensures { result ≡ self.now.reserved }
+    {
+        if self.reuses.len() < self.reuses.capacity() {
+            self.recency.free()
+        } else {
+            0
+        }
     }
 
     /// Returns how many of the recorded uses miss in a cache of this capacity that is empty at first. It
@@ -193,7 +223,8 @@ pub fn miss_curve<K: Eq + Hash + Copy>(
 /// Counts a use at this distance. A new key has no distance, and adds a count for one more distance.
 fn count_use(reuses: &mut Vec<u64>, distance: Option<usize>)
     requires countable { CanCount distance reuses.old }
-    ensures { reuses.new.items ≡ tallied distance reuses.old.items }
+    ensures counts { reuses.new.items ≡ tallied distance reuses.old.items }
+    ensures capacity { vec_capacity reuses.new ≡ vec_capacity reuses.old }
 {
     match distance {
         Some(others) => reuses[others] += 1,

@@ -1,9 +1,11 @@
 //! Keys in the order of their last uses.
-ghost use Rattle.std.specs.Prelude.{◌≡◌, ◌<◌, [], length, IfOk, IfErr, OnOk, OnErr, OnSome, IfNone};
+ghost use Rattle.std.specs.Prelude.{◌≡◌, ◌+◌, ◌-◌, ◌<◌, ◌≤◌, [], length, IfOk, IfErr, IsOk, OnOk, OnErr};
+ghost use Rattle.std.specs.Prelude.{OnSome, IfNone, IsTrue};
 ghost use Rattle.std.specs.Map.{keys_of, lookup};
+ghost use Rattle.std.specs.Set.{is_member};
 ghost use Rattle.hashlink_core.specs.Keyed.{entries_of};
 ghost use Rattle.hashlink_model.specs.Entries.{IsEntries};
-ghost use Rattle.hashlink_curve.specs.Recency.{Touches, TouchesMatch, IsPlaced, MovesLast};
+ghost use Rattle.hashlink_curve.specs.Recency.{Touches, TouchesMatch, IsPlaced, KeepsKeys, MovesLast};
 
 use crate::marks::Marks;
 use hashlink_map::{Equivalent, LinkedHashMap};
@@ -22,14 +24,14 @@ pub(crate) struct Recency<K: Eq + Hash, S: BuildHasher> {
 }
 
 impl<K: Eq + Hash, S: BuildHasher> Model for Recency<K, S> {
-    ghost use Rattle.std.specs.Prelude.{List};
+    ghost use Rattle.std.specs.Prelude.{◌-◌, length};
     ghost use Rattle.std.specs.Map.{keys_of};
     ghost use Rattle.hashlink_core.specs.Keyed.{entries_of};
-    ghost use Rattle.hashlink_curve.specs.Recency.{IsPlaced};
+    ghost use Rattle.hashlink_curve.specs.Recency.{RecencyState, IsPlaced};
 
-    ghost Value = { List K };
+    ghost Value = { RecencyState K };
 
-    ghost view = { λ r. keys_of (entries_of r.places) };
+    ghost view = { λ r. record { keys = keys_of (entries_of r.places); free = length r.marks - r.next } };
 
     ghost invariant = { λ r. IsPlaced K.eq (entries_of r.places) r.marks r.next };
 }
@@ -37,7 +39,7 @@ impl<K: Eq + Hash, S: BuildHasher> Model for Recency<K, S> {
 impl<K: Eq + Hash, S: BuildHasher> Recency<K, S> {
     /// Creates an empty list, whose map hashes with `hash_builder`. It does not allocate.
     pub(crate) fn with_hasher(alloc: Global, hash_builder: S) -> Self
-        ensures { result ≡ [] }
+        ensures { result.keys ≡ [] }
     {
         Recency {
             places: LinkedHashMap::with_hasher(alloc, hash_builder),
@@ -49,22 +51,31 @@ impl<K: Eq + Hash, S: BuildHasher> Recency<K, S> {
 
     /// Returns the number of keys.
     pub(crate) fn len(&self) -> usize
-        ensures { result ≡ length self.now }
+        ensures { result ≡ length self.now.keys }
     {
         self.places.len()
+    }
+
+    /// Returns the number of free places after those of the keys.
+    pub(crate) fn free(&self) -> usize
+        ensures { result ≡ self.now.free }
+    {
+        self.marks.width() - self.next
     }
 
     /// Makes the key the last. Returns how many keys were used since its last use, or `None` at its first
     /// use.
     ///
-    /// It takes logarithmic time, except that from time to time each key gets a new place. If memory runs
-    /// out, it returns the key in `Err` and nothing changes.
+    /// It takes logarithmic time, except that if no place is free, each key gets a new place. It allocates
+    /// only then, or if the key is absent. If memory runs out, it returns the key in `Err` and no key moves.
     pub(crate) fn touch(&mut self, key: K) -> Result<Option<usize>, K>
     where
         K: Drop,
-        ensures touched { IfOk result (Touches K.eq self.old self.new key) }
+        ensures touched { IfOk result (Touches K.eq self.old.keys self.new.keys key) }
+        ensures certain { IsTrue (is_member K.eq self.old.keys key) → 0 < self.old.free → IsOk result }
+        ensures free { self.old.free ≤ self.new.free + 1 }
         ensures handed_back { IfErr result (λ k. k ≡ key) }
-        ensures unchanged { OnErr result (self.new ≡ self.old) }
+        ensures unchanged { OnErr result (KeepsKeys self.old self.new) }
     {
         let Ok(()) = free_place(
             self.alloc,
@@ -93,15 +104,18 @@ impl<K: Eq + Hash, S: BuildHasher> Recency<K, S> {
     /// Makes the key that the query matches the last, if it is present, and returns how many keys were used
     /// since its last use. It returns `None` if no key matches.
     ///
-    /// It takes as long as `touch`. If memory runs out, nothing changes.
+    /// It takes as long as `touch`, and allocates only if no place is free. If memory runs out, no key moves.
     pub(crate) fn touch_match<Q: Equivalent<K>>(
         &mut self,
         query: Q,
     ) -> Result<Option<usize>, AllocError>
     where
         K: Drop,
-        ensures touched { IfOk result (TouchesMatch (Q.matches query) self.old self.new) }
-        ensures unchanged { OnErr result (self.new ≡ self.old) }
+        ensures touched { IfOk result (TouchesMatch (Q.matches query) self.old.keys self.new.keys) }
+        ensures absent { IfOk result (λ others. IfNone others (KeepsKeys self.old self.new)) }
+        ensures certain { 0 < self.old.free → IsOk result }
+        ensures free { self.old.free ≤ self.new.free + 1 }
+        ensures unchanged { OnErr result (KeepsKeys self.old self.new) }
     {
         free_place(
             self.alloc,
@@ -151,6 +165,8 @@ fn free_place<K: Eq + Hash + Drop, S: BuildHasher>(
     requires { IsPlaced K.eq (entries_of places.old) marks.old next.old }
     ensures placed { IsPlaced K.eq (entries_of places.new) marks.new next.new }
     ensures free { OnOk result (next.new < length marks.new) }
+    ensures more { length marks.old - next.old ≤ length marks.new - next.new }
+    ensures certain { next.old < length marks.old → IsOk result }
     ensures keys { keys_of (entries_of places.new) ≡ keys_of (entries_of places.old) }
 {
     if *next < marks.width() {

@@ -1,14 +1,50 @@
--- What a look-up finds after a value that a use lent was written.
-use Rattle.std.specs.Prelude.{◌≡◌, Bool, max, length, Option, None, Some, MatchOption}
+-- What a look-up finds after evictions, and after a value that a use lent was written.
+use Rattle.std.specs.Prelude.{◌≡◌, ◌⊎◌, ℕ, Bool, List, ◌++◌, max, length, take, drop, Option, None, Some}
+use Rattle.std.specs.Prelude.{MatchOption}
 use Rattle.std.specs.Cmp.{IsEquivalence}
-use Rattle.std.specs.Map.{lookup, set_value}
-use Rattle.std.proofs.Common.{refl, ap, sym, subst, ◌∙◌, is_some, inr, arith}
+use Rattle.std.specs.Map.{lookup, lookup_entry, set_value}
+use Rattle.std.specs.Option.{option_map}
+use Rattle.std.proofs.Common.{refl, ap, sym, subst, ◌∙◌, is_some, inl, inr, arith}
+use Rattle.std.proofs.Math.Path.{fun_ext}
+use Rattle.std.proofs.lemmas.List.{take-append-drop}
+use Rattle.std.proofs.lemmas.Map.{NonePasses}
 use Rattle.hashlink_model.specs.Cache.{CacheState, CacheGetsAndWrites, last_entries}
-use Rattle.hashlink_model.specs.Entries.{IsEntries, moved_match}
+use Rattle.hashlink_model.specs.Entries.{IsEntries, IsKeyTest, moved_match}
 use Rattle.hashlink_model.specs.Lookups.{UpdatesFitting}
 use Rattle.hashlink_model.proofs.CacheUpdates.{updates-pushed}
+use Rattle.hashlink_model.proofs.Finds.{lookup_is}
+use Rattle.hashlink_model.proofs.Remaining.{found_in_end}
+use Rattle.hashlink_model.proofs.Splits.{Stands, splits, lookup-none}
 use Rattle.hashlink_model.proofs.Updates.{updates-lent_moved}
 use Rattle.hashlink_lru.specs.Cached.{PutsNewIn, UpdatesUsed}
+use Rattle.hashlink_lru.specs.Evicted.{EvictsSome}
+
+-- ---- evictions from the front
+
+module _ {K V : Type 0} (eq : K → K → Bool) (laws : IsEquivalence eq) (n : ℕ) (es new : List (K × V))
+    (d : IsEntries eq es) (is : new ≡ drop n es) where
+  abbrev IsLeft : (K → Bool) → Type 0
+  IsLeft test = (lookup test new ≡ None) ⊎ (lookup test new ≡ lookup test es)
+
+  left_by : (q : K) (o : Option (K × V)) → lookup_entry (eq q) new ≡ o → IsLeft (eq q)
+  left_by q None l = inl (lookup_is (eq q) new ∙ ap (option_map (λ e. e.1)) l)
+  left_by q (Some e) l =
+      let all : take n es ++ new ≡ es = ap (λ zs. take n es ++ zs) is ∙ take-append-drop n es in
+      let whole = found_in_end eq laws q e (take n es) new (subst (IsEntries eq) (sym all) d) l in
+      inr (lookup_is (eq q) new ∙ ap (option_map (λ e. e.1)) (l ∙ sym whole)
+      ∙ sym (lookup_is (eq q) (take n es ++ new)) ∙ ap (lookup (eq q)) all)
+
+  pub evicts-some : EvictsSome eq es new
+  evicts-some =
+      (λ q. left_by q (lookup_entry (eq q) new) refl, λ test tells. by test tells (splits test new))
+    where
+      by : (test : K → Bool) → IsKeyTest eq test → NonePasses test new ⊎ Stands test new → IsLeft test
+      by test tells (inl none) = inl (lookup-none test new none)
+      by test tells (inr s) =
+          subst IsLeft (sym (fun_ext (λ x. tells s.1.0 x s.3.passes)))
+          (left_by s.1.0 (lookup_entry (eq s.1.0) new) refl)
+
+-- ---- a use
 
 module _ {K V S : Type 0} (eq : K → K → Bool) (laws : IsEquivalence eq) (old new : CacheState K V S) (k : K)
     (w : V) (d : IsEntries eq old.map.entries) where

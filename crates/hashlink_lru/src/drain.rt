@@ -13,9 +13,9 @@ use std::hash::{BuildHasher, Hash};
 use std::iter::FusedIterator;
 
 /// An iterator that removes the entries of a cache and returns them, from front to back: the least recently
-/// used comes first. When it is dropped, exhausted or not, the cache is empty and every node is spare.
+/// used first. When it is dropped, exhausted or not, the cache is empty and every node is free.
 ///
-/// If it is forgotten (`mem::forget`), the cache is empty too, with its room and without spare nodes. The
+/// If it is forgotten (`mem::forget`), the cache is empty too, with its room and without free nodes. The
 /// entries that were left are then never dropped, and no node is freed.
 pub struct Drain<
     'a,

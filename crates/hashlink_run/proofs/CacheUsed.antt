@@ -1,4 +1,4 @@
--- A use of a cache by an entry of its map, which evicts where the pair is new.
+-- A use of a cache by an entry of its map, which evicts if the pair is new.
 use Rattle.hashlink_run.proofs.Names.{◌≡◌, Bool, [], ◌∷◌, length, None, Some, Result, Ok, Err}
 use Rattle.hashlink_run.proofs.Names.{refl, sym, ap, ◌∙◌, subst, inl, inr, lookup, lookup_entry, place_of}
 use Rattle.hashlink_run.proofs.Names.{CacheState, MapState, Seen}
@@ -22,7 +22,7 @@ use Rattle.hashlink_run.proofs.Moved.{by_key}
 
 module _ {K V B S : Type 0} (eq : K → K → Bool) (Says : K → V → B → Type 0) (old : CacheState K V S) (k : K)
     (v : V) (mid : MapState K V S) (new : CacheState K V S) (cap : new.cap ≡ old.cap) where
-  -- what is done where there are more entries now, and where there are not
+  -- what is done if there are more entries now, and if there are not
   abbrev pub Fits : Type 0
   Fits = ((length old.map.entries < length mid.entries) × KeepsLast mid new.map old.cap)
       ⊎ ((length mid.entries ≤ length old.map.entries) × (new.map ≡ mid))

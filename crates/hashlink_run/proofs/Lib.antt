@@ -4,6 +4,7 @@ pub mod AtEntry
 pub mod CursorProgress
 pub mod Kept
 pub mod Moved
+pub mod MovedToEnd
 pub mod Said
 pub mod Wider
 pub mod AnyCommand

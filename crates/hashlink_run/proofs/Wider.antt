@@ -1,6 +1,6 @@
 -- If `Q` allows each value that `P` allows a closure to return for a pair, then steps of a map by `P` are
 -- steps by `Q`.
-use Rattle.hashlink_run.proofs.Names.{ℕ, ◌≡◌, Bool, List, [], ◌∷◌, slice_get, Option, None, Some, MatchOption}
+use Rattle.hashlink_run.proofs.Names.{ℕ, Bool, List, [], ◌∷◌, slice_get, Option, None, Some, MatchOption}
 use Rattle.hashlink_run.proofs.Names.{CursorState, place_of, MapState, CursorStep, EntryStep, Reply}
 use Rattle.hashlink_run.proofs.Names.{CursorStepped, CursorWalks, first_place, OccupiedStep, VacantStep}
 use Rattle.hashlink_run.proofs.Names.{EntrySteps, Replies}

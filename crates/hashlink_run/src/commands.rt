@@ -188,12 +188,14 @@ where
         Command::RemoveEntry(key) => replies.push_reserved(Reply::Pair(map.remove_entry(&key))),
         Command::PopFront => replies.push_reserved(Reply::Pair(map.pop_front())),
         Command::PopBack => replies.push_reserved(Reply::Pair(map.pop_back())),
-        Command::ToFront(key) => {
-            replies.push_reserved(reply_of_entry(map, key, EntryStep::ToFront, says));
-        }
-        Command::ToBack(key) => {
-            replies.push_reserved(reply_of_entry(map, key, EntryStep::ToBack, says));
-        }
+        Command::ToFront(key) => match map.to_front(&key) {
+            Some(_value) => replies.push_reserved(Reply::Seen(said_of(map.front(), says))),
+            None => replies.push_reserved(Reply::Seen(None)),
+        },
+        Command::ToBack(key) => match map.to_back(&key) {
+            Some(_value) => replies.push_reserved(Reply::Seen(said_of(map.back(), says))),
+            None => replies.push_reserved(Reply::Seen(None)),
+        },
         Command::Front => replies.push_reserved(Reply::Seen(said_of(map.front(), says))),
         Command::Back => replies.push_reserved(Reply::Seen(said_of(map.back(), says))),
         Command::Len => replies.push_reserved(Reply::Length(map.len())),

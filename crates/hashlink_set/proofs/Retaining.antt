@@ -1,8 +1,15 @@
 -- The calls of a closure at pairs, compared with those of the closure that it calls at each element.
-use Rattle.hashlink_set.proofs.Names.{◌≡◌, Bool, List, [], ◌∷◌, ◌∙◌, ap, subst, sym, RetainsInOrder, SetState}
+use Rattle.hashlink_set.proofs.Names.{◌≡◌, Bool, true, false, cond, List, [], ◌∷◌, Option, None, Some}
+use Rattle.hashlink_set.proofs.Names.{◌∙◌, ap, subst, sym, refl, is_some, is_some-lookup, option_map}
+use Rattle.hashlink_set.proofs.Names.{keys_of, is_member, RetainsInOrder, SetState}
 use Rattle.std.specs.List.{FoldsTo}
+use Rattle.std.specs.Map.{lookup, lookup_entry}
 use Rattle.std.specs.Map.Calls.{CallableOnEachPair, SomeCallAtPair}
+use Rattle.std.specs.Prelude.{MatchOption}
+use Rattle.hashlink_model.specs.Lookups.{AsAnswered, UpdatesKept}
 use Rattle.hashlink_model.specs.Retain.{KeepsInOrder}
+use Rattle.hashlink_set.proofs.Lookups.{element-found}
+use Rattle.hashlink_set.specs.Called.{HasAnswered, SetUpdatesKept}
 
 module _ {C F T : Type 0} (see : C → F) (P : C → T → Unit {0} → Bool → Unit {0} → C → Type 0)
     (Q : F → T → Unit {0} → Bool → Unit {0} → F → Type 0)
@@ -33,6 +40,41 @@ module _ {C F T : Type 0} (see : C → F) (P : C → T → Unit {0} → Bool →
     at = λ before after d t v e calls. serves d t
         (h.at before after (see d) t v e (folds_seen c before d calls));
   }
+
+-- what a look-up of an element finds after a retain of the pairs
+none_found : {X : Type 0} (o : Option X) → is_some o ≡ false → o ≡ None
+none_found None n = refl
+none_found (Some x) n = absurd (cc)
+
+module _ {C F T : Type 0} (see : C → F) (P : C → T → Unit {0} → Bool → Unit {0} → C → Type 0)
+    (U : F → T → Bool → F → Type 0)
+    (says : (c : C) (t : T) (b : Bool) (d : C) → P c t tt b tt d → U (see c) t b (see d)) where
+  as_answer : (b : Bool) (w : Unit {0}) → is_some (cond b (Some w) None) ≡ b
+  as_answer true w = refl
+  as_answer false w = refl
+
+  element_seen : (o : Option (T × Unit {0})) (r : Option (Unit {0}))
+      → MatchOption o (r ≡ None) (AsAnswered P r)
+      → MatchOption (option_map (λ e. e.0) o) (is_some r ≡ false) (HasAnswered U (is_some r))
+  element_seen None r n = ap is_some n
+  element_seen (Some e) r a =
+      let b : is_some r ≡ a.1 = ap is_some a.5 ∙ as_answer a.1 a.2 in
+      (see a.0, see a.3, subst (λ c. U (see a.0) e.0 c (see a.3)) (sym b) (says a.0 e.0 a.1 a.3 a.4))
+
+  -- goal: the look-ups after a retain
+  pub updates_seen : (eq : T → T → Bool) (old new : List (T × Unit {0})) → UpdatesKept P eq old new
+      → SetUpdatesKept U eq (keys_of old) (keys_of new)
+  updates_seen eq old new u = (
+    λ q.
+        let seen = element_seen (lookup_entry (eq q) old) (lookup (eq q) new) (u.0 q) in
+        subst (λ o. MatchOption o (is_member eq (keys_of new) q ≡ false)
+        (HasAnswered U (is_member eq (keys_of new) q))) (element-found old (eq q))
+        (subst (λ b. MatchOption (option_map (λ e. e.0) (lookup_entry (eq q) old)) (b ≡ false)
+        (HasAnswered U b)) (is_some-lookup (eq q) new) seen),
+    λ test none.
+        sym (is_some-lookup test new)
+        ∙ ap is_some (u.1 test (none_found (lookup test old) (is_some-lookup test old ∙ none))),
+  )
 
 -- if no call changes a part of a closure, such as the reference that it holds, then all calls together do not
 module _ {C N T : Type 0} (name : C → N) (P : C → T → Unit {0} → Bool → Unit {0} → C → Type 0)

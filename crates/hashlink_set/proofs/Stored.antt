@@ -18,7 +18,7 @@ last_of-end xs x =
     let n : length (xs ++ x ∷ []) - 1 ≡ length xs = omega (arith, length-append xs (x ∷ [])) in
     rw (n, slice_get_here xs x []) refl
 
-is_some-find : {T : Type 0} (eq : T → T → Bool) (t : T) (ts : List T) → is_some (find (eq t) ts)
+pub is_some-find : {T : Type 0} (eq : T → T → Bool) (t : T) (ts : List T) → is_some (find (eq t) ts)
     ≡ is_member eq ts t
 is_some-find eq t [] = refl
 is_some-find eq t (x ∷ ts) = grind (arith, is_some-find eq t ts)

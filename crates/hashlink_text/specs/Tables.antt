@@ -24,3 +24,10 @@ three_at_most (k ∷ []) = Some (One k)
 three_at_most (k ∷ v ∷ []) = Some (Two k v)
 three_at_most (k ∷ v ∷ w ∷ []) = Some (Three k v w)
 three_at_most (k ∷ v ∷ w ∷ n ∷ ns) = None
+
+-- these numbers in order
+abbrev pub list_of : Numbers → List ℕ
+list_of Nothing = []
+list_of (One k) = k ∷ []
+list_of (Two k v) = k ∷ v ∷ []
+list_of (Three k v w) = k ∷ v ∷ w ∷ []

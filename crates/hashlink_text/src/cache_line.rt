@@ -1,15 +1,13 @@
 ghost use Rattle.std.specs.Prelude.{◌≡◌, [], ◌∷◌};
 ghost use Rattle.std.specs.Map.{lookup};
 ghost use Rattle.std.specs.Str.{bytes_eq};
-ghost use Rattle.hashlink_text.specs.Cuts.{parts_left};
-ghost use Rattle.hashlink_text.specs.Lines.{words_of};
-ghost use Rattle.hashlink_text.specs.Reading.{by_name, read_in, read_words};
+ghost use Rattle.hashlink_text.specs.Reading.{by_name};
 ghost use Rattle.hashlink_text.specs.Spelling.{cache_lines, cache_spelled};
-ghost use Rattle.hashlink_text.specs.Tables.{tokens};
 
-use crate::numbers::{Numbers, read_numbers};
+use crate::named::{Named, meaning_of};
+use crate::numbers::Numbers;
 use crate::tables::said_by;
-use crate::words::{Words, is};
+use crate::words::is;
 use hashlink_run::CacheCommand;
 
 /// What a line to a cache means.
@@ -31,30 +29,27 @@ impl CacheLine {
     pub fn parse(text: &[u8]) -> Option<CacheLine>
         ensures { Says cache_spelled text.now result }
     {
-        line_of(text)
+        meaning_of(text)
     }
 }
 
-// Returns the line of the text's words.
-fn line_of(text: &[u8]) -> Option<CacheLine>
-    ensures { result ≡ read_words cache_spelled cache_lines (tokens (words_of text.now)) }
-{
-    let mut words = Words::new(text);
-    let name = words.next()?;
-    said_of_name(name, words)
-}
+impl Named for CacheLine {
+    ghost use Rattle.std.specs.Prelude.{refl};
 
-// Returns the line that the name and the words after it mean.
-fn said_of_name(name: &[u8], words: Words<'_>) -> Option<CacheLine>
-    ensures { result ≡ read_in cache_spelled cache_lines name.now
-        (tokens (parts_left 32 words.entry.rest)) }
-{
-    match read_numbers(words)? {
-        Numbers::Nothing => said_alone(name),
-        Numbers::One(number) => said_of_number(name, number),
-        Numbers::Two(key, value) => said_of_pair(name, key, value),
-        Numbers::Three(..) => None,
+    ghost spelled = { cache_spelled };
+
+    ghost among = { cache_lines };
+
+    fn meaning(name: &[u8], numbers: Numbers) -> Option<CacheLine> {
+        match numbers {
+            Numbers::Nothing => said_alone(name),
+            Numbers::One(number) => said_of_number(name, number),
+            Numbers::Two(key, value) => said_of_pair(name, key, value),
+            Numbers::Three(..) => None,
+        }
     }
+
+    ghost three_at_most = { λ k v w n ns. refl };
 }
 
 // Returns the line that the name means without a word after it.

@@ -10,6 +10,7 @@ mod line;
 mod lines;
 mod map_text;
 mod modes;
+mod named;
 mod numbers;
 mod pair_line;
 mod pair_text;

@@ -1,15 +1,13 @@
 ghost use Rattle.std.specs.Prelude.{◌≡◌, [], ◌∷◌};
 ghost use Rattle.std.specs.Map.{lookup};
 ghost use Rattle.std.specs.Str.{bytes_eq};
-ghost use Rattle.hashlink_text.specs.Cuts.{parts_left};
-ghost use Rattle.hashlink_text.specs.Lines.{words_of};
-ghost use Rattle.hashlink_text.specs.Reading.{by_name, read_in, read_words};
+ghost use Rattle.hashlink_text.specs.Reading.{by_name};
 ghost use Rattle.hashlink_text.specs.Spelling.{modes, Says, mode_spelled};
-ghost use Rattle.hashlink_text.specs.Tables.{tokens};
 
-use crate::numbers::{Numbers, read_numbers};
+use crate::named::{Named, meaning_of};
+use crate::numbers::Numbers;
 use crate::tables::said_by;
-use crate::words::{Words, is};
+use crate::words::is;
 
 /// The container on which the lines after the first are run.
 #[derive(Clone, Copy)]
@@ -29,29 +27,26 @@ pub enum Mode {
 pub fn mode_of(line: &[u8]) -> Option<Mode>
     ensures { Says mode_spelled line.now result }
 {
-    mode_of_words(line)
+    meaning_of(line)
 }
 
-// Returns the mode of the line's words.
-fn mode_of_words(line: &[u8]) -> Option<Mode>
-    ensures { result ≡ read_words mode_spelled modes (tokens (words_of line.now)) }
-{
-    let mut words = Words::new(line);
-    let name = words.next()?;
-    mode_of_name(name, words)
-}
+impl Named for Mode {
+    ghost use Rattle.std.specs.Prelude.{refl};
 
-// Returns the mode that the name and the words after it mean.
-fn mode_of_name(name: &[u8], words: Words<'_>) -> Option<Mode>
-    ensures { result ≡ read_in mode_spelled modes name.now
-        (tokens (parts_left 32 words.entry.rest)) }
-{
-    match read_numbers(words)? {
-        Numbers::Nothing => said_by(name, &[(b"map", Mode::Map)]),
-        Numbers::One(number) => mode_of_number(name, number),
-        Numbers::Two(small, large) => mode_of_two(name, small, large),
-        Numbers::Three(..) => None,
+    ghost spelled = { mode_spelled };
+
+    ghost among = { modes };
+
+    fn meaning(name: &[u8], numbers: Numbers) -> Option<Mode> {
+        match numbers {
+            Numbers::Nothing => said_by(name, &[(b"map", Mode::Map)]),
+            Numbers::One(number) => mode_of_number(name, number),
+            Numbers::Two(small, large) => mode_of_two(name, small, large),
+            Numbers::Three(..) => None,
+        }
     }
+
+    ghost three_at_most = { λ k v w n ns. refl };
 }
 
 // Returns the mode that the name means before a capacity or a budget.

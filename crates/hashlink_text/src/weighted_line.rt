@@ -1,15 +1,12 @@
 ghost use Rattle.std.specs.Prelude.{◌≡◌, [], ◌∷◌};
 ghost use Rattle.std.specs.Map.{lookup};
 ghost use Rattle.std.specs.Str.{bytes_eq};
-ghost use Rattle.hashlink_text.specs.Cuts.{parts_left};
-ghost use Rattle.hashlink_text.specs.Lines.{words_of};
-ghost use Rattle.hashlink_text.specs.Reading.{by_name, read_in, read_words};
+ghost use Rattle.hashlink_text.specs.Reading.{by_name};
 ghost use Rattle.hashlink_text.specs.Spelling.{weighted_lines, weighted_spelled};
-ghost use Rattle.hashlink_text.specs.Tables.{tokens};
 
-use crate::numbers::{Numbers, read_numbers};
+use crate::named::{Named, meaning_of};
+use crate::numbers::Numbers;
 use crate::tables::said_by;
-use crate::words::Words;
 use hashlink_run::WeightedCommand;
 
 /// The meaning of a line to a cache with a budget.
@@ -33,30 +30,27 @@ impl WeightedLine {
     pub fn parse(text: &[u8]) -> Option<WeightedLine>
         ensures { Says weighted_spelled text.now result }
     {
-        line_of(text)
+        meaning_of(text)
     }
 }
 
-// Returns the line of the text's words.
-fn line_of(text: &[u8]) -> Option<WeightedLine>
-    ensures { result ≡ read_words weighted_spelled weighted_lines (tokens (words_of text.now)) }
-{
-    let mut words = Words::new(text);
-    let name = words.next()?;
-    said_of_name(name, words)
-}
+impl Named for WeightedLine {
+    ghost use Rattle.std.specs.Prelude.{refl};
 
-// Returns the line that the name and the words after it mean.
-fn said_of_name(name: &[u8], words: Words<'_>) -> Option<WeightedLine>
-    ensures { result ≡ read_in weighted_spelled weighted_lines name.now
-        (tokens (parts_left 32 words.entry.rest)) }
-{
-    match read_numbers(words)? {
-        Numbers::Nothing => said_alone(name),
-        Numbers::One(key) => said_of_key(name, key),
-        Numbers::Two(..) => None,
-        Numbers::Three(key, value, weight) => said_of_entry(name, key, value, weight),
+    ghost spelled = { weighted_spelled };
+
+    ghost among = { weighted_lines };
+
+    fn meaning(name: &[u8], numbers: Numbers) -> Option<WeightedLine> {
+        match numbers {
+            Numbers::Nothing => said_alone(name),
+            Numbers::One(key) => said_of_key(name, key),
+            Numbers::Two(..) => None,
+            Numbers::Three(key, value, weight) => said_of_entry(name, key, value, weight),
+        }
     }
+
+    ghost three_at_most = { λ k v w n ns. refl };
 }
 
 // Returns the line that the name means without a word after it.

@@ -1,13 +1,53 @@
-//! A memo of a computation that may fail. Its type states that each entry is right. So a caller that locks a
-//! memo, and knows only what its type states, knows what the memo returns.
-ghost use Rattle.std.specs.Prelude.{◌≡◌, ◌≤◌, ◌^◌, ◌↔◌, All, Err, IfOk};
-ghost use Rattle.hashlink.specs.Cached.{entries_of};
-ghost use Rattle.hashlink_uses.specs.declared.memo.CubeError.TheVariants.{TooLarge};
+//! Memos. A type states that each of its entries is right. So a caller that locks a memo, and knows only what
+//! its type states, knows what the memo returns.
+ghost use Rattle.std.specs.Prelude.{◌≡◌, ◌≤◌, ◌<◌, ◌^◌, ◌*◌, ◌↔◌, All, Err, IfOk, IfSome, Ok, Some, nat_eq};
+ghost use Rattle.std.specs.Map.{lookup};
+ghost use Rattle.hashlink.specs.Cached.{entries_of, state_of};
+ghost use Rattle.hashlink_uses.specs.declared.memo.CubeError.TheVariants.{Memory, TooLarge};
 
 use hashlink::LruCache;
 use hashlink::linked_hash_map::TryInsertError;
 use std::alloc::Global;
 use std::sync::Mutex;
+
+/// Squares of the numbers that were asked for last.
+#[derive(Drop)]
+pub struct Squares {
+    cache: LruCache<u32, u64>,
+    ghost right: { All (λ e. e.1 ≡ e.0 * e.0) (entries_of cache) },
+}
+
+impl Squares {
+    /// Creates a memo of up to so many squares.
+    pub fn new(alloc: Global, capacity: usize) -> Self {
+        Squares {
+            cache: LruCache::new(alloc, capacity),
+        }
+    }
+
+    /// Returns the square of a number, which is computed only if it is not remembered. If memory runs out, it
+    /// is not remembered.
+    pub fn get(&mut self, number: u32) -> u64
+        ensures { result ≡ number * number }
+    {
+        let square = || u64::from(number) * u64::from(number);
+        match self.cache.get_or_insert_with(number, square) {
+            Ok(square) => *square,
+            Err((_, square)) => square,
+        }
+    }
+}
+
+/// Returns the square of a number from a memo behind a lock. If another holds the lock, it computes the
+/// square.
+pub fn shared_square(memo: &Mutex<Squares>, number: u32) -> u64
+    ensures { result ≡ number * number }
+{
+    match memo.try_lock() {
+        Some(mut squares) => squares.get(number),
+        None => u64::from(number) * u64::from(number),
+    }
+}
 
 /// Why there is no cube: it has more than 64 bits, or there is no memory to remember it.
 #[derive(Clone, Copy, Debug, PartialEq, Eq, Drop)]
@@ -20,7 +60,7 @@ pub enum CubeError {
 #[derive(Drop)]
 pub struct Cubes {
     cache: LruCache<u64, u64>,
-    ghost right: { All (λ e. e.1 ≡ e.0 ^ 3) (entries_of cache) },
+    ghost right: { All (λ e. (e.1 ≡ e.0 ^ 3) × (e.1 < 2 ^ 64)) (entries_of cache) },
 }
 
 impl Cubes {
@@ -31,10 +71,16 @@ impl Cubes {
         }
     }
 
-    /// Returns the cube of a number, which is computed only if it is not remembered.
+    /// Returns the cube of a number, which is computed only if it is not remembered, and is remembered from
+    /// then on. It returns `Memory` only if a cube that is not remembered needs a new node.
     pub fn get(&mut self, number: u64) -> Result<u64, CubeError>
         ensures right { IfOk result (λ cube. cube ≡ number ^ 3) }
-        ensures too_large { result ≡ Err TooLarge → 2 ^ 64 ≤ number ^ 3 }
+        ensures too_large { (result ≡ Err TooLarge) ↔ (2 ^ 64 ≤ number ^ 3) }
+        ensures known { IfSome (lookup (nat_eq number) (entries_of self.old.cache))
+            (λ cube. result ≡ Ok cube) }
+        ensures memory { result ≡ Err Memory → (state_of self.old.cache).map.spare ≡ 0 }
+        ensures remembered { IfOk result
+            (λ cube. lookup (nat_eq number) (entries_of self.new.cache) ≡ Some cube) }
     {
         let made = self
             .cache
@@ -47,13 +93,17 @@ impl Cubes {
     }
 }
 
-/// Returns the cube of a number from a memo behind a lock. If another holds the lock, it computes the cube.
+/// Returns the cube of a number from a memo behind a lock. If another holds the lock, or there is no memory
+/// to remember the cube, it computes the cube.
 pub fn shared_cube(memo: &Mutex<Cubes>, number: u64) -> Result<u64, CubeError>
     ensures right { IfOk result (λ cube. cube ≡ number ^ 3) }
-    ensures too_large { result ≡ Err TooLarge → 2 ^ 64 ≤ number ^ 3 }
+    ensures too_large { (result ≡ Err TooLarge) ↔ (2 ^ 64 ≤ number ^ 3) }
+    ensures fits { number ^ 3 < 2 ^ 64 → result ≡ Ok (number ^ 3) }
 {
-    match memo.try_lock() {
-        Some(mut cubes) => cubes.get(number),
-        None => number.checked_pow(3).ok_or(CubeError::TooLarge),
+    if let Some(mut cubes) = memo.try_lock() {
+        if let Ok(cube) = cubes.get(number) {
+            return Ok(cube);
+        }
     }
+    number.checked_pow(3).ok_or(CubeError::TooLarge)
 }

@@ -1,14 +1,16 @@
 //! A cache of two segments. What is inserted is on probation, and what is used there is protected from then
 //! on, so keys that are used once do not push out those that are used again.
-ghost use Rattle.std.specs.Prelude.{◌≡◌, ◌+◌, ◌≤◌, ◌<◌, ◌++◌, ◌∷◌, ◌⊎◌, [], IfErr, IfOk, IfSome, IsSome};
-ghost use Rattle.std.specs.Prelude.{MatchOption, None, Ok, OnOk, Some, length};
-ghost use Rattle.std.specs.Map.{lookup, set_value};
+ghost use Rattle.std.specs.Prelude.{◌≡◌, ◌≤◌, ◌<◌, ◌++◌, ◌∷◌, [], IfErr, IfOk, IfSome, MatchOption};
+ghost use Rattle.std.specs.Prelude.{None, Ok, OnOk, Some, cond, length};
+ghost use Rattle.std.specs.Map.{lookup, lookup_entry, set_value};
 ghost use Rattle.std.specs.Option.{option_to_list};
 ghost use Rattle.std.proofs.Props.{props};
-ghost use Rattle.hashlink.specs.Cache.{cache_put};
-ghost use Rattle.hashlink.specs.Cached.{entries_of, state_of};
-ghost use Rattle.hashlink.specs.Entries.{IsEntries, moved};
+ghost use Rattle.hashlink.specs.Cache.{IsWithin, cache_get, cache_put};
+ghost use Rattle.hashlink.specs.Cached.{StaysWithin, entries_of, state_of};
+ghost use Rattle.hashlink.specs.Entries.{IsEntries, moved, without};
 ghost use Rattle.hashlink.specs.Evicted.{pushed_out};
+ghost use Rattle.hashlink.specs.Joined.{AreParts, ShareNoKey};
+ghost use Rattle.hashlink.specs.MapState.{MayRefuse};
 
 use hashlink::LruCache;
 use std::alloc::Global;
@@ -20,9 +22,9 @@ use std::mem;
 pub struct SegmentedCache<K: Eq + Hash, V> {
     probation: LruCache<K, V>,
     protected: LruCache<K, V>,
-    ghost on_probation: { length (entries_of probation) ≤ (state_of probation).cap },
-    ghost fits: { length (entries_of protected) ≤ (state_of protected).cap },
-    ghost apart: { IsEntries K.eq (entries_of probation ++ entries_of protected) } by { Prim.hlevel props },
+    ghost on_probation: { IsWithin (state_of probation) 0 },
+    ghost fits: { IsWithin (state_of protected) 0 },
+    ghost apart: { ShareNoKey K.eq (entries_of probation) (entries_of protected) } by { Prim.hlevel props },
 }
 
 impl<K: Eq + Hash + Drop, V: Copy> SegmentedCache<K, V> {
@@ -38,32 +40,46 @@ impl<K: Eq + Hash + Drop, V: Copy> SegmentedCache<K, V> {
         }
     }
 
-    /// Returns the value of a key. One on probation is then protected; what has to leave for it is on
-    /// probation again. If memory runs out, the key stays on probation.
-    pub fn get(&mut self, key: &K) -> Option<V>
-        ensures found { result
-            ≡ lookup (K.eq key.now) (entries_of self.old.probation ++ entries_of self.old.protected) }
+    /// Returns the value of a key. A key that is protected is then the last one there. An entry on probation
+    /// is inserted into the protected segment, and the entry that this evicts is last on probation. If memory
+    /// runs out, the key stays on probation, where it is then last, and its value is returned in `Err`.
+    #[tactic(auto, using(hashlink::proofs::Joined::two_lists))]
+    pub fn get(&mut self, key: &K) -> Result<Option<V>, V>
+        ensures found { IfOk result (λ value. value
+            ≡ lookup (K.eq key.now) (entries_of self.old.probation ++ entries_of self.old.protected)) }
         ensures kept { (q : K)
             → lookup (K.eq q) (entries_of self.new.probation ++ entries_of self.new.protected)
             ≡ lookup (K.eq q) (entries_of self.old.probation ++ entries_of self.old.protected) }
-        ensures used { (entries_of self.new.probation ++ entries_of self.new.protected
-            ≡ moved K.eq (entries_of self.old.probation ++ entries_of self.old.protected) key.now
-            (length (entries_of self.old.probation ++ entries_of self.old.protected)))
-            ⊎ ((entries_of self.new.protected ≡ entries_of self.old.protected)
-            × (entries_of self.new.probation ≡ moved K.eq (entries_of self.old.probation) key.now
-            (length (entries_of self.old.probation)))) }
-        ensures protected { IsSome result → 0 < (state_of self.old.protected).cap
-            → (lookup (K.eq key.now) (entries_of self.new.protected) ≡ result)
-            ⊎ (entries_of self.new.protected ≡ entries_of self.old.protected) }
+        ensures protected { IfSome (lookup (K.eq key.now) (entries_of self.old.protected))
+            (λ value. (result ≡ Ok (Some value))
+            × (entries_of self.new.protected ≡ cache_get K.eq (entries_of self.old.protected) key.now)
+            × (entries_of self.new.probation ≡ entries_of self.old.probation)) }
+        ensures promoted { lookup (K.eq key.now) (entries_of self.old.protected) ≡ None → OnOk result
+            (MatchOption (lookup_entry (K.eq key.now) (entries_of self.old.probation))
+            ((entries_of self.new.protected ≡ entries_of self.old.protected)
+            × (entries_of self.new.probation ≡ entries_of self.old.probation))
+            (λ e. (entries_of self.new.protected ≡ cache_put K.eq (entries_of self.old.protected)
+            (state_of self.old.protected).cap e.0 e.1)
+            × (entries_of self.new.probation ≡ without K.eq (entries_of self.old.probation) key.now
+            ++ option_to_list (pushed_out K.eq (entries_of self.old.protected)
+            (state_of self.old.protected).cap e.0 e.1)))) }
+        ensures refused { IfErr result (λ value. ((state_of self.old.protected).map.spare ≡ 0)
+            × (lookup (K.eq key.now) (entries_of self.old.probation) ≡ Some value)
+            × (entries_of self.new.protected ≡ entries_of self.old.protected)
+            × (entries_of self.new.probation ≡ without K.eq (entries_of self.old.probation) key.now
+            ++ option_to_list (lookup_entry (K.eq key.now) (entries_of self.old.probation)))) }
         ensures capacities { ((state_of self.new.probation).cap ≡ (state_of self.old.probation).cap)
             × ((state_of self.new.protected).cap ≡ (state_of self.old.protected).cap) }
     {
+        if let Some(value) = touch(&mut self.protected, key) {
+            return Ok(Some(value));
+        }
         let Some((key, value)) = self.probation.remove_entry(key) else {
-            return self.protected.get(key).copied();
+            return Ok(None);
         };
-        let demoted = protect(&mut self.protected, key, value);
+        let (answer, demoted) = protect(&mut self.protected, key, value);
         demote(&mut self.probation, demoted);
-        Some(value)
+        answer
     }
 
     /// Inserts a pair on probation, or sets the value of a key that is protected. Returns what leaves: the
@@ -87,53 +103,92 @@ impl<K: Eq + Hash + Drop, V: Copy> SegmentedCache<K, V> {
             → IfOk result (λ left. option_to_list left ++ entries_of self.new.probation
             ≡ entries_of self.old.probation ++ (key, value) ∷ []) }
         ensures refused { IfErr result (λ pair. (pair ≡ (key, value))
+            × MayRefuse K.eq (state_of self.old.probation).map key
             × (entries_of self.new.probation ≡ entries_of self.old.probation)) }
         ensures capacities { ((state_of self.new.probation).cap ≡ (state_of self.old.probation).cap)
             × ((state_of self.new.protected).cap ≡ (state_of self.old.protected).cap) }
     {
-        if let Some(stored) = self.protected.get_mut(&key) {
-            let old = mem::replace(stored, value);
+        if let Some(old) = renew(&mut self.protected, &key, value) {
             return Ok(Some((key, old)));
         }
         self.probation.push(key, value)
     }
 }
 
-/// Inserts what was on probation in the protected segment. Returns what has to be on probation again: what
-/// had to leave for it, or the pair itself if memory runs out.
-#[tactic(auto, using(hashlink::proofs::CallerLemmas::pushed_absent))]
-fn protect<K: Eq + Hash + Drop, V: Drop>(
+/// Returns the value of a key, whose entry is then the last one.
+fn touch<K: Eq + Hash, V: Copy>(cache: &mut LruCache<K, V>, key: &K) -> Option<V>
+    ensures value { result ≡ lookup (K.eq key.now) (entries_of cache.old) }
+    ensures entries { entries_of cache.new ≡ cache_get K.eq (entries_of cache.old) key.now }
+    ensures lookups { (q : K)
+        → lookup (K.eq q) (entries_of cache.new) ≡ lookup (K.eq q) (entries_of cache.old) }
+    ensures absent { result ≡ None → state_of cache.new ≡ state_of cache.old }
+    ensures distinct { IsEntries K.eq (entries_of cache.old) }
+    ensures within { StaysWithin (state_of cache.old) (state_of cache.new) }
+    ensures capacity { (state_of cache.new).cap ≡ (state_of cache.old).cap }
+{
+    cache.get(key).copied()
+}
+
+/// Sets the value of a key, whose entry is then the last one, and returns the old value.
+fn renew<K: Eq + Hash, V: Copy>(cache: &mut LruCache<K, V>, key: &K, value: V) -> Option<V>
+    ensures old { result ≡ lookup (K.eq key.now) (entries_of cache.old) }
+    ensures written { IfSome result (λ _. entries_of cache.new
+        ≡ set_value (K.eq key.now) (cache_get K.eq (entries_of cache.old) key.now) value) }
+    ensures lookups { IfSome result (λ _. (q : K) → lookup (K.eq q) (entries_of cache.new)
+        ≡ cond (K.eq key.now q) (Some value) (lookup (K.eq q) (entries_of cache.old))) }
+    ensures absent { result ≡ None → state_of cache.new ≡ state_of cache.old }
+    ensures within { StaysWithin (state_of cache.old) (state_of cache.new) }
+    ensures capacity { (state_of cache.new).cap ≡ (state_of cache.old).cap }
+{
+    match cache.get_mut(key) {
+        Some(stored) => Some(mem::replace(stored, value)),
+        None => None,
+    }
+}
+
+/// Inserts what was on probation into the protected segment. Returns its value, in `Err` if memory runs out,
+/// and what has to be on probation again: what is evicted, or the pair itself if memory runs out.
+fn protect<K: Eq + Hash + Drop, V: Copy>(
     protected: &mut LruCache<K, V>,
     key: K,
     value: V,
-) -> Option<(K, V)>
+) -> (Result<Option<V>, V>, Option<(K, V)>)
     requires absent { lookup (K.eq key) (entries_of protected.old) ≡ None }
-    requires within { length (entries_of protected.old) ≤ (state_of protected.old).cap }
-    ensures moved { (option_to_list result ++ entries_of protected.new
-        ≡ entries_of protected.old ++ (key, value) ∷ [])
-        ⊎ ((result ≡ Some (key, value)) × (entries_of protected.new ≡ entries_of protected.old)) }
-    ensures there { (0 < (state_of protected.old).cap
-        → lookup (K.eq key) (entries_of protected.new) ≡ Some value)
-        ⊎ (entries_of protected.new ≡ entries_of protected.old) }
-    ensures fits { length (entries_of protected.new) ≤ (state_of protected.new).cap }
+    requires within { IsWithin (state_of protected.old) 0 }
+    requires distinct { IsEntries K.eq (entries_of protected.old) }
+    ensures protected { IfOk result.0 (λ found. (found ≡ Some value)
+        × (result.1 ≡ pushed_out K.eq (entries_of protected.old) (state_of protected.old).cap key value)
+        × (entries_of protected.new
+        ≡ cache_put K.eq (entries_of protected.old) (state_of protected.old).cap key value)) }
+    ensures refused { IfErr result.0 (λ found. (found ≡ value) × (result.1 ≡ Some (key, value))
+        × ((state_of protected.old).map.spare ≡ 0)
+        × (entries_of protected.new ≡ entries_of protected.old)) }
+    ensures parts { AreParts K.eq (option_to_list result.1) (entries_of protected.new)
+        ((key, value) ∷ entries_of protected.old) }
+    ensures fits { IsWithin (state_of protected.new) 0 }
     ensures capacity { (state_of protected.new).cap ≡ (state_of protected.old).cap }
 {
     match protected.push(key, value) {
-        Ok(left) => left,
-        Err(pair) => Some(pair),
+        Ok(left) => (Ok(Some(value)), left),
+        Err(pair) => (Err(value), Some(pair)),
     }
 }
 
 /// Inserts on probation what was protected, in the node of an entry that was removed.
+#[tactic(auto, using(hashlink::proofs::Joined::two_lists))]
 fn demote<K: Eq + Hash + Drop, V: Drop>(probation: &mut LruCache<K, V>, demoted: Option<(K, V)>)
     requires absent { IfSome demoted (λ e. lookup (K.eq e.0) (entries_of probation.old) ≡ None) }
     requires room { length (entries_of probation.old) < (state_of probation.old).cap }
     requires node { 1 ≤ (state_of probation.old).map.spare }
     ensures entries { entries_of probation.new ≡ entries_of probation.old ++ option_to_list demoted }
-    ensures within { length (entries_of probation.new) ≤ (state_of probation.new).cap }
+    ensures within { IsWithin (state_of probation.new) 0 }
     ensures capacity { (state_of probation.new).cap ≡ (state_of probation.old).cap }
 {
-    if let Some((key, value)) = demoted {
-        let _ = probation.insert(key, value);
+    let Some((key, value)) = demoted else {
+        return;
+    };
+    match probation.push(key, value) {
+        Ok(_) => {}
+        Err(_) => unreachable!(), // there is a free node
     }
 }

@@ -37,7 +37,7 @@ module _ {A : Type 0} where
 
   -- the curve of lists of bytes
   abbrev pub of_bytes : CurveState (Vec ℕ A) → CurveState (List ℕ)
-  of_bytes s = record { keys = map (λ k. k.items) s.keys; reuses = s.reuses }
+  of_bytes s = record { keys = map (λ k. k.items) s.keys; reuses = s.reuses; reserved = s.reserved }
 
   -- the curve has counted the lines of the trace that are in the part that is read
   abbrev pub CountsTrace : ℕ → List ℕ → CurveState (Vec ℕ A) → Type 0

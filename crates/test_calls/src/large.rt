@@ -27,6 +27,24 @@ fn a_large_map_takes_each_pair(rt: HostRuntime) -> ExitCode {
     passes(takes_each_pair(&mut map_of(rt.alloc(), &[])))
 }
 
+/// Whether each of thousands is found until it is removed, and each of the others then too.
+fn removals_leave_the_others(map: &mut Map) -> bool {
+    fill(map, 8_000);
+    let mut all = true;
+    for key in 0..4_000u64 {
+        all &= map.remove(&key) == Some(key);
+    }
+    for key in 4_000..8_000u64 {
+        all &= is_value(map.get(&key), key);
+    }
+    all
+}
+
+#[test]
+fn a_map_of_thousands_keeps_what_is_not_removed(rt: HostRuntime) -> ExitCode {
+    passes(removals_leave_the_others(&mut map_of(rt.alloc(), &[])))
+}
+
 /// Whether the clone of a map of thousands is equal to it.
 fn thousands_are_cloned(map: &mut Map) -> bool {
     fill(map, 5_000);

@@ -136,7 +136,7 @@ fn under<'f>(
     }
 }
 
-/// Runs a list of commands on an empty container, of the capacity that is the next word if it has one. After
+/// Runs a list of commands on an empty container. Its capacity, if it has one, is the next word. After
 /// the word `whole` it is a single run.
 fn list<'f, C: Listed + Stands + Drop>(
     row: Row<'f>,
@@ -159,7 +159,7 @@ fn whole<'f>(is_right: Result<bool, Stop>) -> Result<Option<Wrong<'f>>, Stop> {
     Ok(if is_right? { None } else { Some(Wrong::Row) })
 }
 
-/// Makes the calls on two empty containers, of the capacity that is the next word if they have one.
+/// Makes the calls on two empty containers. Their capacity, if they have one, is the next word.
 fn speak<'f, C: Spoken + Stands + Drop>(
     row: Row<'f>,
     line: &mut Line<'f>,
@@ -295,7 +295,7 @@ impl<C: Spoken + Stands> Speech<C> {
             .saturating_add(self.second.count_items())
     }
 
-    /// Makes the call that the words name, of the first container or, after `other`, of the second.
+    /// Makes the call that the words name on the first container or, after `other`, on the second.
     /// `is_answered` is whether the line has its answer.
     fn call(&mut self, is_answered: bool, line: &mut Line<'_>) -> Result<(), Stop> {
         if line.words.has("other") {

@@ -3,6 +3,7 @@ ghost use Rattle.std.specs.Prelude.{◌≡◌, OnOk};
 ghost use Rattle.hashlink_model.specs.Cache.{CacheInserts, EvictsFront, IsWithin, OnMap};
 ghost use Rattle.hashlink_model.specs.Entries.{IsEntries};
 ghost use Rattle.hashlink_model.specs.Lookups.{UpdatesWithin};
+ghost use Rattle.hashlink_lru.specs.Evicted.{EvictsSome};
 
 use super::LruCache;
 use std::hash::{BuildHasher, Hash};
@@ -49,6 +50,7 @@ impl<K: Eq + Hash, V, S: BuildHasher> LruCache<K, V, S> {
         V: Drop,
         ensures evicts { OnMap (λ a b. EvictsFront a b (state_of self.old).cap) (state_of self.old)
             (state_of self.new) }
+        ensures updates { EvictsSome K.eq (entries_of self.old) (entries_of self.new) }
         ensures distinct { IsEntries K.eq (entries_of self.new) }
         ensures within { StaysWithin (state_of self.old) (state_of self.new) }
     {

@@ -99,8 +99,8 @@ impl<K: Eq + Hash, V, S: BuildHasher> LruCache<K, V, S> {
         self.first_other(key)
     }
 
-    /// Returns the first entry that is not the key's.
-    #[inline(always)]
+    /// Returns the first entry that is not the key's. Only a cache beyond its capacity needs it.
+    #[inline(never)]
     fn first_other<Q: Equivalent<K>>(&self, key: Q) -> Option<(&K, &V)>
         ensures { option_map deref_pair result
             ≡ first_of (remove_entry (Q.matches key) (entries_of self.now)) }

@@ -9,6 +9,7 @@ ghost use Rattle.hashlink_model.specs.Entries.{IsEntries};
 ghost use Rattle.hashlink_model.specs.Lookups.{UpdatesBy, UpdatesKept, UpdatesPopped};
 ghost use Rattle.hashlink_model.specs.Retain.{RetainsInOrder};
 ghost use Rattle.hashlink_model.specs.Steps.{RemovesMatch, PopsFront, Clears};
+ghost use Rattle.hashlink_lru.specs.Evicted.{EvictsSome};
 
 use super::LruCache;
 use hashlink_map::Equivalent;
@@ -80,6 +81,7 @@ impl<K: Eq + Hash, V, S: BuildHasher> LruCache<K, V, S> {
         K: Drop,
         V: Drop,
         ensures sets { SetsCapacity (state_of self.old) (state_of self.new) capacity }
+        ensures updates { EvictsSome K.eq (entries_of self.old) (entries_of self.new) }
         ensures distinct { IsEntries K.eq (entries_of self.new) }
         ensures fits { IsWithin (state_of self.new) 0 }
     {
@@ -93,6 +95,7 @@ impl<K: Eq + Hash, V, S: BuildHasher> LruCache<K, V, S> {
         K: Drop,
         V: Drop,
         ensures keeps { OnMap (λ a b. KeepsLast a b count) (state_of self.old) (state_of self.new) }
+        ensures updates { EvictsSome K.eq (entries_of self.old) (entries_of self.new) }
         ensures distinct { IsEntries K.eq (entries_of self.new) }
     {
         for _ in count..self.map.len() {

@@ -60,6 +60,8 @@ impl<T: Eq + Hash, S: BuildHasher> LinkedHashSet<T, S> {
     pub fn replace(&mut self, value: T) -> Result<Option<T>, T>
         ensures replaces { SetReplaces T.eq self.old self.new value result }
         ensures elements { OnOk result (elements_of self.new ≡ replaced T.eq (elements_of self.old) value) }
+        ensures updates { OnOk result
+            (SetUpdates T.eq (elements_of self.old) (elements_of self.new) value true) }
         ensures old { IfOk result (λ old. old ≡ find (T.eq value) (elements_of self.old)) }
         ensures distinct { IsDistinct T.eq (elements_of self.new) }
     {
@@ -98,6 +100,7 @@ impl<T: Eq + Hash, S: BuildHasher> LinkedHashSet<T, S> {
     /// It allocates only if the element is absent and no node is free. If the table is also full, it grows
     /// first, in linear time in the new capacity. If an allocation fails, it returns the element that `f`
     /// returned in `Err`, and changes no element; the room may have grown.
+    #[inline(always)]
     pub fn get_or_insert_with<F: FnOnce(&T) -> T>(&mut self, value: &T, f: F) -> Result<&T, T>
     where
         T: Drop,
@@ -136,6 +139,7 @@ impl<T: Eq + Hash, S: BuildHasher> LinkedHashSet<T, S> {
     }
 
     /// Does the same as `move_or_make`, and returns the set and the element that was not inserted, if any.
+    #[inline(always)]
     fn put_or_make<F: FnOnce(&T) -> T>(&mut self, value: &T, f: F) -> (&mut Self, Option<T>)
     where
         T: Drop,
@@ -165,6 +169,7 @@ impl<T: Eq + Hash, S: BuildHasher> LinkedHashSet<T, S> {
     }
 
     /// Does the same as `get_or_insert_with`, and returns no reference.
+    #[inline(always)]
     fn move_or_make<F: FnOnce(&T) -> T>(&mut self, value: &T, f: F) -> Result<(), T>
     where
         T: Drop,
@@ -178,10 +183,21 @@ impl<T: Eq + Hash, S: BuildHasher> LinkedHashSet<T, S> {
         if self.to_back(value) {
             return Ok(());
         }
-        match self.insert(f(value)) {
+        match self.insert_made(f(value)) {
             Ok(_) => Ok(()),
             Err(made) => Err(made),
         }
+    }
+
+    /// Does the same as `insert`.
+    // It is not inlined, since only an element that was absent needs it.
+    #[inline(never)]
+    fn insert_made(&mut self, made: T) -> Result<bool, T>
+    where
+        T: Drop,
+        ensures inserts { SetInserts T.eq self.old self.new made result }
+    {
+        self.insert(made)
     }
 }
 

@@ -19,7 +19,10 @@ impl<T: Eq + Hash, S: BuildHasher> LinkedHashSet<T, S> {
         ensures moves { MovesMatch (Q.matches value) self.old self.new 0 (as_value result) }
         ensures keeps { SetKeepsLookups T.eq (Q.matches value) (elements_of self.old) (elements_of self.new) }
     {
-        self.find_to_front(value).is_some()
+        match self.map.to_front(value) {
+            Some(_) => true,
+            None => false,
+        }
     }
 
     /// Moves the equal element to the back, and returns whether it is present. If it is absent, nothing
@@ -30,26 +33,9 @@ impl<T: Eq + Hash, S: BuildHasher> LinkedHashSet<T, S> {
             (as_value result) }
         ensures keeps { SetKeepsLookups T.eq (Q.matches value) (elements_of self.old) (elements_of self.new) }
     {
-        self.find_to_back(value).is_some()
-    }
-
-    /// Does the same as `to_front`, and returns `Some(())` if the element is present.
-    #[inline(always)]
-    fn find_to_front<Q: Equivalent<T>>(&mut self, value: Q) -> Option<()>
-        ensures moves { MovesMatch (Q.matches value) self.old self.new 0 result }
-        ensures keeps { SetKeepsLookups T.eq (Q.matches value) (elements_of self.old) (elements_of self.new) }
-    {
-        self.map.to_front(value)?;
-        Some(())
-    }
-
-    /// Does the same as `to_back`, and returns `Some(())` if the element is present.
-    #[inline(always)]
-    fn find_to_back<Q: Equivalent<T>>(&mut self, value: Q) -> Option<()>
-        ensures moves { MovesMatch (Q.matches value) self.old self.new (length self.old.entries) result }
-        ensures keeps { SetKeepsLookups T.eq (Q.matches value) (elements_of self.old) (elements_of self.new) }
-    {
-        self.map.to_back(value)?;
-        Some(())
+        match self.map.to_back(value) {
+            Some(_) => true,
+            None => false,
+        }
     }
 }

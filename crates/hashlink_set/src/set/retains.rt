@@ -4,10 +4,11 @@ ghost use Rattle.std.specs.Fn.{CalledAt};
 ghost use Rattle.std.specs.List.{IsDistinct};
 ghost use Rattle.std.specs.Map.Calls.{CallableOnEachPair, CalledAtPair, TakesPair};
 ghost use Rattle.hashlink_model.specs.Entries.{IsEntries};
+ghost use Rattle.hashlink_model.specs.Lookups.{UpdatesKept};
 ghost use Rattle.hashlink_model.specs.Retain.{RetainsInOrder};
 ghost use Rattle.hashlink_model.specs.Sets.{elements_of, at_element};
 ghost use Rattle.hashlink_core.specs.Keyed.{entries_of, state_of};
-ghost use Rattle.hashlink_set.specs.Called.{CallableOnEachElement};
+ghost use Rattle.hashlink_set.specs.Called.{CallableOnEachElement, SetUpdatesKept};
 
 use super::LinkedHashSet;
 use hashlink_map::LinkedHashMap;
@@ -23,6 +24,8 @@ impl<T: Eq + Hash, S: BuildHasher> LinkedHashSet<T, S> {
         requires { CallableOnEachElement F.FnMut keep self.old }
         ensures retained { (end : F) × RetainsInOrder (at_element (CalledAt F.FnMut)) keep
             self.old self.new end }
+        ensures updates { SetUpdatesKept (CalledAt F.FnMut) T.eq (elements_of self.old)
+            (elements_of self.new) }
         ensures distinct { IsDistinct T.eq (elements_of self.new) }
     {
         self.retain_from(&mut keep);
@@ -37,6 +40,8 @@ impl<T: Eq + Hash, S: BuildHasher> LinkedHashSet<T, S> {
         requires { CallableOnEachElement F.FnMut keep self.old }
         ensures retained { (end : F) × RetainsInOrder (at_element (CalledAt F.FnMut)) keep
             self.old self.new end }
+        ensures updates { SetUpdatesKept (CalledAt F.FnMut) T.eq (elements_of self.old)
+            (elements_of self.new) }
         ensures distinct { IsDistinct T.eq (elements_of self.new) }
     {
         self.retain_from(&mut keep);
@@ -52,6 +57,8 @@ impl<T: Eq + Hash, S: BuildHasher> LinkedHashSet<T, S> {
         requires { CallableOnEachElement F.FnMut keep.old self.old }
         ensures retained { RetainsInOrder (at_element (CalledAt F.FnMut)) keep.old self.old self.new
             keep.new }
+        ensures updates { SetUpdatesKept (CalledAt F.FnMut) T.eq (elements_of self.old)
+            (elements_of self.new) }
         ensures distinct { IsDistinct T.eq (elements_of self.new) }
     {
         retain_in_map(&mut self.map, keep);
@@ -68,6 +75,8 @@ where
     requires { CallableOnEachElement F.FnMut keep.old (state_of map.old) }
     ensures retained { RetainsInOrder (at_element (CalledAt F.FnMut)) keep.old (state_of map.old)
         (state_of map.new) keep.new }
+    ensures updates { SetUpdatesKept (CalledAt F.FnMut) T.eq (elements_of (state_of map.old))
+        (elements_of (state_of map.new)) }
     ensures distinct { IsDistinct T.eq (elements_of (state_of map.new)) }
 {
     retain_by(
@@ -88,6 +97,7 @@ fn retain_by<K: Eq + Hash + Drop, V: Drop, S: BuildHasher, F: FnMut(&K, &mut V) 
         (entries_of map.old) }
     ensures retained { RetainsInOrder (CalledAtPair F.FnMut) keep.old (state_of map.old) (state_of map.new)
         keep.new }
+    ensures updates { UpdatesKept (CalledAtPair F.FnMut) K.eq (entries_of map.old) (entries_of map.new) }
     ensures distinct { IsEntries K.eq (entries_of map.new) }
 {
     map.retain_from(keep);

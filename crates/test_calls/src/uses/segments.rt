@@ -15,11 +15,11 @@ fn outlives(cache: &mut SegmentedCache<u32, u32>) -> bool {
     let demoted = [cache.get(&4), cache.get(&3), cache.get(&1), cache.get(&9)];
     let again = cache.insert(5, 50);
     (inserted == [Ok(None), Ok(None)])
-        & (promoted == Some(10))
+        & (promoted == Ok(Some(10)))
         & (pushed_out == [Ok(None), Ok(Some((2, 20))), Ok(Some((1, 10)))])
-        & (demoted == [Some(40), Some(30), Some(11), None])
+        & (demoted == [Ok(Some(40)), Ok(Some(30)), Ok(Some(11)), Ok(None)])
         & (again == Ok(Some((4, 40))))
-        & (cache.get(&3) == Some(30))
+        & (cache.get(&3) == Ok(Some(30)))
 }
 
 #[test]
@@ -34,7 +34,7 @@ fn nothing_is_protected_without_room(rt: HostRuntime) -> ExitCode {
     let found = cache.get(&1);
     passes(
         (inserted == [Ok(None), Ok(None)])
-            & (found == Some(10))
+            & (found == Ok(Some(10)))
             & (cache.insert(3, 30) == Ok(Some((2, 20)))),
     )
 }

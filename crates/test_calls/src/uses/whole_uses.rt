@@ -1,8 +1,8 @@
-//! Names, settings, lines, tasks and cubes.
+//! Names, settings, lines, tasks, squares and cubes.
 use crate::few::{is_pair, passes};
 use hashlink::{LinkedHashMap, LinkedHashSet, LruCache};
 use hashlink_uses::lines::distinct_lines;
-use hashlink_uses::memo::{CubeError, Cubes, shared_cube};
+use hashlink_uses::memo::{CubeError, Cubes, Squares, shared_cube, shared_square};
 use hashlink_uses::names::{Answer, address_of, learn, sweep};
 use hashlink_uses::settings::merge;
 use hashlink_uses::tasks::RoundRobin;
@@ -173,6 +173,25 @@ fn have_their_turns(tasks: &mut RoundRobin<u32>) -> bool {
 #[test]
 fn each_task_has_its_turn(rt: HostRuntime) -> ExitCode {
     passes(have_their_turns(&mut RoundRobin::new(rt.alloc())))
+}
+
+#[test]
+fn a_square_is_found_again(rt: HostRuntime) -> ExitCode {
+    let mut squares = Squares::new(rt.alloc(), 1);
+    let found = [
+        squares.get(3),
+        squares.get(3),
+        squares.get(u32::MAX),
+        squares.get(3),
+    ];
+    passes(found == [9, 9, 18_446_744_065_119_617_025, 9])
+}
+
+#[test]
+fn a_square_is_found_behind_a_lock(rt: HostRuntime) -> ExitCode {
+    let memo = Mutex::new(Squares::new(rt.alloc(), 1));
+    let found = [shared_square(&memo, 4), shared_square(&memo, 4)];
+    passes(found == [16, 16])
 }
 
 /// Whether cubes are found, anew and again, and one that is too large is not.

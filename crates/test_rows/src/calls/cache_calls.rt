@@ -21,7 +21,7 @@ impl Spoken for Cache {
     }
 }
 
-/// Makes the call that a line says.
+/// Makes the call that a line names.
 fn call_cache(cache: &mut Cache, line: &mut Line<'_>) -> Result<(), Stop> {
     let name = line.words.word();
     let word = match name {

@@ -70,13 +70,13 @@ fn take(cache: &mut Cache, alloc: Global) -> Cache {
     mem::replace(cache, empty)
 }
 
-/// Makes the call, given by the words, of the entry of a key.
+/// Makes the call that the words name on the entry of a key.
 fn call_entry_of(cache: &mut Cache, line: &mut Line<'_>) -> Result<(), Stop> {
     let (key, call) = EntryCall::of_key(line)?;
     call_entry(cache.entry(key), call, line)
 }
 
-/// Makes the call, given by the words, of a raw entry.
+/// Makes the call that the words name on a raw entry.
 fn call_raw(cache: &mut Cache, line: &mut Line<'_>) -> Result<(), Stop> {
     let _way = line.words.word();
     let (key, call) = RawCall::of_key(line)?;

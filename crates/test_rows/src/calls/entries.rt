@@ -10,7 +10,7 @@ use hashlink_map::{Entry, TryInsertError};
 
 type InHand<'m> = Entry<'m, Item, Item, Hashing>;
 
-/// Makes the call, given by the words, of the entry of a map's key.
+/// Makes the call that the words name on the entry of a map's key.
 pub fn call_entry_of(map: &mut Map, line: &mut Line<'_>) -> Result<(), Stop> {
     let (key, call) = EntryCall::of_key(line)?;
     call_entry(map.entry(key), call, line)

@@ -9,7 +9,7 @@ use hashlink_map::LinkedHashMap;
 
 pub type Map = LinkedHashMap<Item, Item, Hashing>;
 
-/// Makes the call that a line says.
+/// Makes the call that a line names.
 pub fn call_map(map: &mut Map, line: &mut Line<'_>) -> Result<(), Stop> {
     let name = line.words.word();
     let word = match name {

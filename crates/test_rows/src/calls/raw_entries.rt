@@ -85,7 +85,7 @@ fn raw_of_test<'m>(map: &'m mut Map, way: Way, key: &Item) -> Raw<'m> {
     }
 }
 
-/// Makes the call, given by the words, of a raw entry of a map: the way, the key and the call. A call that
+/// Makes the call of a raw entry of a map that the words name: the way, the key and the call. A call that
 /// inserts an absent key has another name than one that needs an entry.
 pub fn call_raw(map: &mut Map, line: &mut Line<'_>) -> Result<(), Stop> {
     let way = line.words.named(&WAYS)?;

@@ -9,7 +9,7 @@ use hashlink_set::LinkedHashSet;
 
 pub type Set = LinkedHashSet<Item, Hashing>;
 
-/// Makes the call that a line says.
+/// Makes the call that a line names.
 pub fn call_set(set: &mut Set, line: &mut Line<'_>) -> Result<(), Stop> {
     let name = line.words.word();
     let word = match name {

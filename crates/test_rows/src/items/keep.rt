@@ -27,7 +27,7 @@ impl Keep {
         }
     }
 
-    /// How many words it may say of so many entries.
+    /// How many words it may return for so many entries.
     pub fn room(self, len: usize) -> usize {
         match self {
             Keep::Others | Keep::WithoutOdd => len,

@@ -7,7 +7,8 @@ pub returns : goal.returns
 returns g c =
     let same = c.deref.ensures.value in
     let sums = ap sum same in
-    let cold : c.self.inside.accesses - sum c.deref.result.now ≡ length c.self.inside.recency = omega arith in
+    let cold : c.self.inside.accesses - sum c.deref.result.now ≡ length c.self.inside.recency.keys
+    = omega arith in
     let exact = c.new.ensures ∙ ap₂ (λ n ns. falls_from n 0 ns) cold same
     ∙ ap (λ (s : CurveState g.row.K.Denot). falls_from (length s.keys) 0 s.reuses) c.self.view_is in
     record {

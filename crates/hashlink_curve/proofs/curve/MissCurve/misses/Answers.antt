@@ -21,6 +21,6 @@ returns-clause-falls g c n l =
     let reuses = c.self.inside.reuses.items in
     let same = ap (λ ns. sum (drop c.args.capacity ns)) c.deref.ensures.value in
     let less = sum-drop-falls n c.args.capacity reuses l in
-    let view : length c.self.inside.recency + sum (drop n reuses) ≡ misses_at c.args.self.now n
+    let view : length c.self.inside.recency.keys + sum (drop n reuses) ≡ misses_at c.args.self.now n
     = ap (λ (s : CurveState g.row.K.Denot). misses_at s n) c.self.view_is in
     omega arith

@@ -8,9 +8,9 @@ use Rattle.hashlink_curve.proofs.curve.MissCurve.record_match.Goals as goal
 -- the use can be counted, and leaves this
 touched : (g : given.Over) (c : In-Some g)
     → CanCount (Some c.in-Some.others) c.self.inside.reuses
-    × IsTallied c.touch_match.new.self (tallied (Some c.in-Some.others) c.self.inside.reuses.items)
+    × IsTallied c.touch_match.new.self.keys (tallied (Some c.in-Some.others) c.self.inside.reuses.items)
     (c.self.inside.accesses + 1)
-    × (list_any (g.Q.Equivalent.matches c.args.query) c.touch_match.new.self ≡ true)
+    × (list_any (g.Q.Equivalent.matches c.args.query) c.touch_match.new.self.keys ≡ true)
 touched g c =
     MovesPast-next (g.Q.Equivalent.matches c.args.query) _ _ _ c.self.inside.reuses _
     (rw c.in-Some.is at c.in_ok-others.ensures.touched) c.self.invariant (omega arith)
@@ -20,7 +20,8 @@ count_use-requires g c = record { countable = (touched g (goal.at.count_use-requ
 
 pub invariant_of-self-2 : goal.invariant_of-self-2
 invariant_of-self-2 g c =
-    subst (λ ns. IsTallied c.touch_match.new.self ns (c.self.inside.accesses + 1)) (sym c.count_use.ensures)
+    subst (λ ns. IsTallied c.touch_match.new.self.keys ns (c.self.inside.accesses + 1))
+    (sym c.count_use.ensures.counts)
     (touched g (goal.at.invariant_of-self-2 g c).In-Some).1
 
 pub returns-clause-counted : goal.returns-clause-counted
@@ -30,8 +31,8 @@ returns-clause-counted g c =
       (touched g (goal.at.returns-clause-counted g c).In-Some).2,
       λ used k passes h.
           Counted-next g.K.PartialEq.eq g.met.K.Eq.laws used _ _ k (Some c.in-Some.others)
-          (subst (λ t. MovesPast t c.self.inside.recency c.touch_match.new.self c.in-Some.others)
+          (subst (λ t. MovesPast t c.self.inside.recency.keys c.touch_match.new.self.keys c.in-Some.others)
           (test_is g.K.PartialEq.eq g.met.K.Eq.laws _ tells k passes) moved)
-          c.self.invariant.distances c.count_use.ensures
+          c.self.invariant.distances c.count_use.ensures.counts
           (subst (Counted g.K.PartialEq.eq used) (sym c.self.view_is) h),
     )

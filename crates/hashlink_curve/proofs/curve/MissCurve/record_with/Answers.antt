@@ -1,5 +1,5 @@
-use Rattle.hashlink_curve.proofs.Names.{sym, ap, ◌∙◌, subst, list_any, Counts, CurveState}
-use Rattle.hashlink_curve.proofs.Histories.{Counts-alike, test_is}
+use Rattle.hashlink_curve.proofs.Names.{sym, ap, ◌∙◌, list_any}
+use Rattle.hashlink_curve.proofs.Histories.{Counted-kept, Counts-alike, test_is}
 use Rattle.hashlink_curve.proofs.curve.MissCurve.record_with.Goals as goal
 
 pub returns-clause-counted : goal.returns-clause-counted
@@ -12,9 +12,7 @@ returns-clause-counted g c used k passes =
     let made = (c.requires none.0).1 c.in_ok-key.key c.in_ok-key.ensures in
     Counts-alike eq laws used c.args.self.now c.record.new.self c.in_ok-key.key k c.in-Ok.distance
     (ap (λ t. t k) (sym (test_is eq laws test tells c.in_ok-key.key made)) ∙ passes)
-    (subst (λ (s : CurveState g.row.K.Denot). Counts eq used s c.record.new.self c.in_ok-key.key
-    c.in-Ok.distance)
-    none.1 (c.in-Ok.ensures.counted used))
+    (λ h. c.in-Ok.ensures.counted used (Counted-kept eq laws used _ _ none.1 h))
 
 pub returns-clause-there : goal.returns-clause-there
 returns-clause-there g c =

@@ -1,7 +1,7 @@
-use Rattle.hashlink_curve.proofs.Names.{◌<◌, ◌-◌, length, ◌∙◌, subst, arith, rules, keys_of, entries_of}
+use Rattle.hashlink_curve.proofs.Names.{◌-◌, ◌∙◌, ap, subst, arith, keys_of, entries_of, list_any}
 use Rattle.hashlink_curve.proofs.Names.{MovesPast, GoesLast}
-use Rattle.hashlink_curve.proofs.Placing.{Found, found, found_moves, found_placed, free_at}
-use Rattle.hashlink_curve.proofs.Placing.{absent_last, placed_last}
+use Rattle.hashlink_curve.proofs.Placing.{same_keys, none_found, Found, found, found_moves, found_placed}
+use Rattle.hashlink_curve.proofs.Placing.{absent_last, free_at, placed_last}
 use Rattle.hashlink_curve.proofs.recency.Recency.touch.Goals.{In-Ok-Some}
 use Rattle.hashlink_curve.proofs.recency.Recency.touch.Given as given
 use Rattle.hashlink_curve.proofs.recency.Recency.touch.Goals as goal
@@ -61,7 +61,7 @@ returns-in-Ok-Some-clause-touched g c =
     let new = entries_of c.insert.new.self in
     let past = c.len-count.result - 1 - c.move_mark.result in
     subst (λ ks. MovesPast (g.K.PartialEq.eq c.args.key) ks (keys_of new) past)
-    (c.free_place.ensures.keys ∙ c.self.view_is)
+    (c.free_place.ensures.keys ∙ same_keys c.self.view_is)
     (found_moves g.K.PartialEq.eq g.met.K.Eq.laws _ _ _ _ _ c.free_place.ensures.placed f new past
     puts.puts.entries (omega arith))
 
@@ -69,6 +69,13 @@ pub returns-in-Ok-None-clause-touched : goal.returns-in-Ok-None-clause-touched
 returns-in-Ok-None-clause-touched g c =
     let adds = rw c.in-Ok-None.field-0-is at c.in-Ok-None.ensures.inserts in
     subst (λ ks. GoesLast g.K.PartialEq.eq ks (keys_of (entries_of c.insert.new.self)) c.args.key)
-    (c.free_place.ensures.keys ∙ c.self.view_is)
+    (c.free_place.ensures.keys ∙ same_keys c.self.view_is)
     (absent_last g.K.PartialEq.eq g.met.K.Eq.laws _ _ _ _ adds.absent
     (c.in-Ok-None.ensures.added adds.absent))
+
+pub returns-in-Err-clause-certain : goal.returns-in-Err-clause-certain
+returns-in-Err-clause-certain g c there free =
+    let refuses = rw c.in-Err.is at c.insert.ensures.inserts in
+    let same = c.free_place.ensures.keys ∙ same_keys c.self.view_is in
+    absurd (none_found (g.K.PartialEq.eq c.args.key) (entries_of c.free_place.new.places)
+    refuses.may_refuse.absent (ap (list_any _) same ∙ there))

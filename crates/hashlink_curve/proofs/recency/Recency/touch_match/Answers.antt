@@ -1,7 +1,7 @@
 use Rattle.hashlink_curve.proofs.Names.{◌<◌, ◌-◌, length, sym, ap, ◌∙◌, subst, arith, rules, list_any}
 use Rattle.hashlink_curve.proofs.Names.{keys_of, entries_of, MovesPast, IsEntries, none_from_lookup}
 use Rattle.hashlink_model.proofs.Puts.{IsEntries-put}
-use Rattle.hashlink_curve.proofs.Placing.{Found, found_match, found_moves, found_placed, free_at}
+use Rattle.hashlink_curve.proofs.Placing.{same_keys, Found, found_match, found_moves, found_placed, free_at}
 use Rattle.hashlink_curve.proofs.Placing.{list_any-keys}
 use Rattle.hashlink_curve.proofs.recency.Recency.touch_match.Goals.{In-Some}
 use Rattle.hashlink_curve.proofs.recency.Recency.touch_match.Given as given
@@ -10,7 +10,7 @@ use Rattle.hashlink_curve.proofs.recency.Recency.touch_match.Goals as goal
 pub returns-in_default-clause-touched : goal.returns-in_default-clause-touched
 returns-in_default-clause-touched g c =
     let es = entries_of c.free_place.new.places in
-    let old = c.free_place.ensures.keys ∙ c.self.view_is in
+    let old = c.free_place.ensures.keys ∙ same_keys c.self.view_is in
     let test = g.Q.Equivalent.matches c.args.query in
     let none = none_from_lookup test es (sym c.in_default.ensures.found) in
     record {
@@ -61,6 +61,6 @@ returns-clause-touched g c =
     let past = c.len-count.result - c.move_mark.result - 1 in
     let new = entries_of c.move_last.new.places in
     subst (λ ks. MovesPast (g.Q.Equivalent.matches c.args.query) ks (keys_of new) past)
-    (c.free_place.ensures.keys ∙ c.self.view_is) (rw m.tells
+    (c.free_place.ensures.keys ∙ same_keys c.self.view_is) (rw m.tells
     (found_moves g.K.PartialEq.eq g.met.K.Eq.laws _ _ _ _ _ c.free_place.ensures.placed f new past m.entries
     (omega arith)))

@@ -2,6 +2,7 @@ use Rattle.std.proofs.Common.{◌≡◌, ◌-◌, ◌+◌, length, drop, subst, 
 use Rattle.hashlink_model.specs.Steps.{KeepsOnly}
 use Rattle.hashlink_core.specs.Keyed.{state_of, entries_of}
 use Rattle.hashlink_lru.proofs.Dropping.{drops_more}
+use Rattle.hashlink_lru.proofs.Updating.{evicts-some}
 use Rattle.hashlink_lru.proofs.cache.LruCache.keep_last.Goals as goal
 
 pub loop-preserved : goal.loop-preserved
@@ -30,3 +31,9 @@ returns-clause-keeps g c =
       map = subst (λ n. KeepsOnly (state_of old) (state_of new) (drop n (entries_of old))) all i.0;
       cap = i.5;
     }
+
+pub returns-clause-updates : goal.returns-clause-updates
+returns-clause-updates g c =
+    evicts-some g.K.PartialEq.eq g.met.K.Eq.laws (c.loop.counter - c.args.count)
+    (entries_of c.args.self.now.map) (entries_of c.loop.self.map) c.len-end.ensures.distinct
+    c.loop.invariant.0.entries

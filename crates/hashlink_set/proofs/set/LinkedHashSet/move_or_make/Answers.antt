@@ -21,7 +21,7 @@ f-requires g c =
 pub returns-in-Err-clause-refused : goal.returns-in-Err-clause-refused
 returns-in-Err-clause-refused g c =
     let none = unmoved g.T.PartialEq.eq _ _ c.args.value.now _ _ c.if-to_back.false c.to_back.ensures.moves in
-    made_refused g.T.PartialEq.eq c.args.self.now c.insert.new.self c.args.value.now c.f.result
+    made_refused g.T.PartialEq.eq c.args.self.now c.insert_made.new.self c.args.value.now c.f.result
     (FnOnceReturnsAt g.F.FnOnce c.args.f c.args.value.now) none.0 (c.args.value, c.f.ensures, refl)
     c.in-Err.made (rw none.1 at c.in-Err.ensures.inserts)
 
@@ -32,6 +32,7 @@ returns-in-Ok-clause-moved g c =
     let x = c.f.result in
     let none = unmoved eq _ _ c.args.value.now _ _ c.if-to_back.false c.to_back.ensures.moves in
     let made : FnOnceReturnsAt g.F.FnOnce c.args.f t x = (c.args.value, c.f.ensures, refl) in
-    made_gets eq c.args.self.now c.insert.new.self t x (FnOnceReturnsAt g.F.FnOnce c.args.f t) none.0 made
-    (inserts_absent eq c.args.self.now c.insert.new.self x ((c.requires none.0).1 x made) c.in-Ok.field-0
+    let new = c.insert_made.new.self in
+    made_gets eq c.args.self.now new t x (FnOnceReturnsAt g.F.FnOnce c.args.f t) none.0 made
+    (inserts_absent eq c.args.self.now new x ((c.requires none.0).1 x made) c.in-Ok.field-0
     (rw none.1 at c.in-Ok.ensures.inserts))

@@ -1,7 +1,7 @@
 use Rattle.hashlink_set.proofs.Names.{rules, state_of, RetainsInOrder}
 use Rattle.std.specs.Fn.{CalledAt}
 use Rattle.hashlink_model.specs.Sets.{at_element}
-use Rattle.hashlink_set.proofs.Retaining.{callable_seen, retains_seen, name_kept, back}
+use Rattle.hashlink_set.proofs.Retaining.{callable_seen, retains_seen, updates_seen, name_kept, back}
 use Rattle.hashlink_set.proofs.set.retains.retain_in_map.Goals as goal
 
 pub retain_by-requires : goal.retain_by-requires
@@ -26,3 +26,11 @@ returns-clause-retained g c =
     name_kept (λ f. f.0.ghost_name) _ (λ f t b d call. search (rules, call.called)) _ _ _ _ r.calls in
     back (RetainsInOrder Called c.args.keep.now (state_of c.args.map.now) (state_of c.retain_by.new.map))
     c.keep-1.given.1 name seen
+
+pub returns-clause-updates : goal.returns-clause-updates
+returns-clause-updates g c =
+    updates_seen (λ f. f.0.now) _ (CalledAt g.F.FnMut) (λ f t b d call. record {
+      shown = call.key;
+      shows = call.shows.0;
+      called = search (rules, call.called);
+    }) _ _ _ c.retain_by.ensures.updates

@@ -5,7 +5,7 @@ use Rattle.hashlink.specs.Entries.{put}
 use Rattle.hashlink.specs.WithoutFirst.{without_first}
 use Rattle.hashlink.proofs.Counting.{filter-without_first, removes_first}
 use Rattle.hashlink_uses.specs.Recent.{with_last}
-use Rattle.hashlink_uses.proofs.Common.{ap, entries_of, length, lookup, ◌∙◌, ◌≡◌}
+use Rattle.hashlink_uses.proofs.Common.{ap, entries_of, length, ◌∙◌, ◌≡◌}
 use Rattle.hashlink_uses.proofs.recent.RecentFiles.open.Goals as goal
 
 pub returns : goal.returns

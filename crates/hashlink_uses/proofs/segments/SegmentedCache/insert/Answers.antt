@@ -1,26 +1,20 @@
-use Rattle.std.proofs.Common.{arith, length, subst, sym, ◌++◌, ◌≤◌}
-use Rattle.hashlink.specs.Cached.{entries_of}
-use Rattle.hashlink.specs.Entries.{IsEntries}
-use Rattle.hashlink.proofs.Joined.{IsEntries-got_behind, IsEntries-pushed_before}
+use Rattle.std.proofs.Common.{ap, is_some, sym}
+use Rattle.hashlink.proofs.Joined.{apart-pushed, apart-written}
 use Rattle.hashlink_uses.proofs.segments.SegmentedCache.insert.Goals as goal
 
 pub invariant_of-self : goal.invariant_of-self
-invariant_of-self g c =
-    let set = c.get_mut.follows.holds c.replace-old.new.dest in
-    record {
-      on_probation = c.args.self.now.on_probation;
-      fits = omega (arith, set.2 0 (omega (arith, c.args.self.now.fits)));
-      apart = IsEntries-got_behind _ g.met.K.Eq.laws _ _ _ c.args.key _ c.replace-old.new.dest
-          c.in-Some.ensures.value set.1 c.args.self.now.apart;
-    }
+invariant_of-self g c = record {
+  on_probation = c.args.self.now.on_probation;
+  fits = c.renew.ensures.within 0 c.args.self.now.fits;
+  apart = apart-written g.met.K.Eq.laws _ _ _ c.args.key _ c.args.self.now.apart
+      (ap is_some (sym c.in-Some.ensures.old)) c.in-Some.ensures.lookups;
+}
 
 pub invariant_of-self-2 : goal.invariant_of-self-2
-invariant_of-self-2 g c =
-    let same = c.get_mut.follows.holds-at-none in
-    record {
-      on_probation = omega (arith, c.push.ensures.within 0 (omega (arith, c.args.self.now.on_probation)));
-      fits = subst (λ s. length s.map.entries ≤ s.cap) (sym same) c.args.self.now.fits;
-      apart = subst (λ s. IsEntries g.K.PartialEq.eq (entries_of c.push.new.self ++ s.map.entries)) (sym same)
-          (IsEntries-pushed_before _ g.met.K.Eq.laws _ _ _ c.args.key c.args.value _ c.push.ensures.pushes
-          (sym c.in_default.ensures.value) c.args.self.now.apart);
-    }
+invariant_of-self-2 g c = record {
+  on_probation = c.push.ensures.within 0 c.args.self.now.on_probation;
+  fits = c.renew.ensures.within 0 c.args.self.now.fits;
+  apart = rw (ap (λ s. s.map.entries) (c.renew.ensures.absent c.in_default.is))
+      (apart-pushed g.met.K.Eq.laws _ _ _ c.args.key c.args.value _ c.args.self.now.apart
+      c.push.ensures.pushes c.push.ensures.updates (sym c.in_default.ensures.old));
+}
