@@ -63,7 +63,7 @@ module _ {K V : Type 0} {eq : K → K → Bool} (laws : IsEquivalence eq) where
       → EvictsOthers eq xs xs1 k
       → ShareNoKey eq xs1 ys
   apart-inserted xs ys xs1 k apart none others q h =
-      grind (arith, h, apart q, others q, none, lookup-equal eq laws k q ys)
+      grind (arith, h, apart q, others.0 q, none, lookup-equal eq laws k q ys)
 
   -- goal: the same after a push into the cache that has the first
   pub apart-pushed : {S : Type 0} (old new : CacheState K V S) (ys : List (K × V)) (k : K) (v : V)

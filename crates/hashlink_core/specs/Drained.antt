@@ -1,11 +1,17 @@
 -- The nodes that a drain took out of a keyed list, as contracts see them.
-use Rattle.std.specs.Prelude.{◌≡◌, ℕ, ◌+◌, ◌≤◌, List, [], ◌∷◌, ◌++◌, length, Option, MatchOption}
+use Rattle.std.specs.Prelude.{◌≡◌, ℕ, ◌+◌, ◌≤◌, List, [], ◌∷◌, ◌++◌, length, Option, None, IfSome}
+use Rattle.std.specs.Prelude.{MatchOption}
 use Rattle.hashlink_nodes.specs.declared.node.Node.{Node}
-use Rattle.hashlink_nodes.specs.Ring.{Ring}
-use Rattle.std.specs.Map.{values_of}
+use Rattle.hashlink_nodes.specs.Ring.{Ring, next_place, prev_place}
+use Rattle.std.specs.Map.{keys_of, values_of}
 use Rattle.hashlink_model.specs.MapState.{MapState, map_state}
 use Rattle.hashlink_core.specs.Keyed.{Keyed, keyed, nodes_of}
 use denote.Struct.Props.{props}
+
+-- the first and the last node of a ring, if it has any
+pub record HasEnds {X : Type 0} (es : List (Node × X)) (first last : Node) : Type 0 where
+  pub first_is : IfSome (next_place (keys_of es) None) (λ n. first ≡ n)
+  pub last_is : IfSome (prev_place (keys_of es) None) (λ n. last ≡ n)
 
 -- the pairs with their nodes, the number of free nodes, and how many links were stored
 pub record Drained (K V : Type 0) : Type 0 where

@@ -4,7 +4,7 @@ ghost use Rattle.std.specs.Map.{values_of};
 ghost use Rattle.hashlink_core.specs.Drained.{GivesFirst, GivesLast};
 
 use crate::iter::Iter;
-use hashlink_nodes::Nodes;
+use hashlink_nodes::{Node, Nodes};
 use std::marker::Model;
 
 /// The nodes that were taken out of a keyed list, with their entries, and the free nodes. Contracts see the
@@ -12,14 +12,19 @@ use std::marker::Model;
 #[derive(Drop)]
 pub struct DrainedNodes<K, V> {
     pub(crate) nodes: Nodes<K, V>,
+    // The first and the last node. If there is none, they mean nothing.
+    pub(crate) first: Node,
+    pub(crate) last: Node,
 }
 
 impl<K, V> Model for DrainedNodes<K, V> {
-    ghost use Rattle.hashlink_core.specs.Drained.{Drained, drained_as};
+    ghost use Rattle.hashlink_core.specs.Drained.{Drained, drained_as, HasEnds};
 
     ghost Value = { Drained K V };
 
     ghost view = { λ d. drained_as d.nodes };
+
+    ghost invariant = { λ d. HasEnds d.nodes.entries d.first d.last };
 }
 
 impl<K, V> DrainedNodes<K, V> {
@@ -38,24 +43,28 @@ impl<K, V> DrainedNodes<K, V> {
     }
 
     /// Removes the first entry and returns it, or returns `None` if there is none. Its node is then free.
-    #[inline]
+    #[inline(always)]
     pub fn pop_front(&mut self) -> Option<(K, V)>
         ensures { GivesFirst self.old self.new result }
     {
         if self.nodes.len() == 0 {
             return None;
         }
-        Some(self.nodes.spare_first())
+        let node = self.first;
+        self.first = self.nodes.after(node);
+        Some(self.nodes.detach_into_free(node))
     }
 
     /// Removes the last entry and returns it, or returns `None` if there is none. Its node is then free.
-    #[inline]
+    #[inline(always)]
     pub fn pop_back(&mut self) -> Option<(K, V)>
         ensures { GivesLast self.old self.new result }
     {
         if self.nodes.len() == 0 {
             return None;
         }
-        Some(self.nodes.spare_last())
+        let node = self.last;
+        self.last = self.nodes.before(node);
+        Some(self.nodes.detach_into_free(node))
     }
 }

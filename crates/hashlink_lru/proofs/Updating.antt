@@ -11,7 +11,7 @@ use Rattle.std.proofs.lemmas.Map.{NonePasses}
 use Rattle.hashlink_model.specs.Cache.{CacheState, CacheGetsAndWrites, last_entries}
 use Rattle.hashlink_model.specs.Entries.{IsEntries, IsKeyTest, moved_match}
 use Rattle.hashlink_model.specs.Lookups.{UpdatesFitting}
-use Rattle.hashlink_model.proofs.CacheUpdates.{updates-pushed}
+use Rattle.hashlink_model.proofs.CacheUpdates.{evicts-others, updates-pushed}
 use Rattle.hashlink_model.proofs.Finds.{lookup_is}
 use Rattle.hashlink_model.proofs.Remaining.{found_in_end}
 use Rattle.hashlink_model.proofs.Splits.{Stands, splits, lookup-none}
@@ -63,7 +63,8 @@ module _ {K V S : Type 0} (eq : K → K → Bool) (laws : IsEquivalence eq) (old
       let is : new.map.entries ≡ set_value (eq k) moved w
       = ap (λ m. m.entries) s.map.writes ∙ ap (λ zs. set_value (eq k) zs w) s.map.moves.entries in
       let u = updates-lent_moved eq laws (eq k) (laws.congr k) es (length es) d (ap is_some at) w in
-      subst (λ zs. UpdatesFitting eq es zs k w) (sym is) (u.1, λ q n. inr (u.2 q n))
+      subst (λ zs. UpdatesFitting eq es zs k w) (sym is)
+      (u.1, evicts-others eq es (set_value (eq k) moved w) k (λ q n. inr (u.2 q n)))
 
   by_answer : (o : Option V) → lookup (eq k) old.map.entries ≡ o
       → MatchOption o (PutsNewIn eq old new k w) (λ _. CacheGetsAndWrites eq old new k w)

@@ -4,10 +4,13 @@ use Rattle.hashlink_model.proofs.Names.{Option, None, Some, inl, inr, refl, sym,
 use Rattle.hashlink_model.proofs.Names.{append_assoc, take-append-drop, option_map, IsEquivalence, lookup}
 use Rattle.hashlink_model.proofs.Names.{lookup_entry, IsEntries, put, cache_put, last_entries, without}
 use Rattle.hashlink_model.proofs.Names.{stored_key}
+use Rattle.hashlink_model.proofs.Names.{false, IsKeyTest, NonePasses}
+use Rattle.std.specs.Map.{AreApart}
 use Rattle.std.proofs.Common.{⊎_elim}
-use Rattle.hashlink_model.specs.Lookups.{Updates, UpdatesFitting, UpdatesWithin}
+use Rattle.std.proofs.Math.Path.{fun_ext}
+use Rattle.hashlink_model.specs.Lookups.{EvictsOthers, Updates, UpdatesFitting, UpdatesWithin}
 use Rattle.hashlink_model.specs.Weights.{fitting}
-use Rattle.hashlink_model.proofs.Splits.{lookup-here}
+use Rattle.hashlink_model.proofs.Splits.{Stands, splits, lookup-here, lookup-none}
 use Rattle.hashlink_model.proofs.Distinct.{each-right}
 use Rattle.hashlink_model.proofs.Finds.{lookup_is, stored_key-equal}
 use Rattle.hashlink_model.proofs.Places.{none_before}
@@ -15,8 +18,23 @@ use Rattle.hashlink_model.proofs.Puts.{put_back, IsEntries-put}
 use Rattle.hashlink_model.proofs.Afterwards.{length-put}
 use Rattle.hashlink_model.proofs.Caches.{last_entries-end, length-last_entries, cache_put-with_a_place}
 use Rattle.hashlink_model.proofs.Remaining.{last_stays, found_in_end}
-use Rattle.hashlink_model.proofs.Updates.{updates-put}
+use Rattle.hashlink_model.proofs.Updates.{fails_apart, updates-put}
 use Rattle.hashlink_model.proofs.Weighted.{fitting-end, length-weighted_put}
+
+module _ {K V : Type 0} (eq : K → K → Bool) (old new : List (K × V)) (k : K) where
+  abbrev IsLeft : (K → Bool) → Type 0
+  IsLeft test = (lookup test new ≡ None) ⊎ (lookup test new ≡ lookup test old)
+
+  -- goal: what holds for each key but k holds for each query apart from k
+  pub evicts-others : ((q : K) → eq k q ≡ false → IsLeft (eq q)) → EvictsOthers eq old new k
+  evicts-others each = (each, λ test tells apart. by test tells apart (splits test new))
+    where
+      by : (test : K → Bool) → IsKeyTest eq test → AreApart (eq k) test
+          → NonePasses test new ⊎ Stands test new → IsLeft test
+      by test tells apart (inl none) = inl (lookup-none test new none)
+      by test tells apart (inr s) =
+          subst IsLeft (sym (fun_ext (λ x. tells s.1.0 x s.3.passes)))
+          (each s.1.0 (fails_apart (eq k) test apart s.1.0 s.3.passes))
 
 module _ {K V : Type 0} (eq : K → K → Bool) (laws : IsEquivalence eq) where
   -- in an end of the list, a lookup finds nothing, or what it finds in the whole list
@@ -60,7 +78,8 @@ module _ {K V : Type 0} (eq : K → K → Bool) (laws : IsEquivalence eq) where
       let few = length-last_entries zs cap in (
         λ some. last_here es k v (take (length zs - cap) zs) (last_entries zs cap) d
             (sym (last_entries-end zs cap)) (omega (arith, some, more, few)),
-        λ q n. ⊎_elim (λ e. inl e) (λ e. inr (e ∙ u.2 q n)) (in_the_end q (length zs - cap) zs d),
+        evicts-others eq es (last_entries zs cap) k (λ q n.
+            ⊎_elim (λ e. inl e) (λ e. inr (e ∙ u.2 q n)) (in_the_end q (length zs - cap) zs d)),
         λ room. subst (λ ys. Updates eq es ys k (Some v)) (sym (cache_put-with_a_place eq es cap k v room)) u,
       )
 
@@ -96,6 +115,7 @@ updates-fitted eq laws es mid new budget k v weight put_last d u light kept =
     subst (λ ys. UpdatesFitting eq es ys k (v, weight)) (sym kept) (
       last_here eq laws es k (v, weight) s.0 (fitting mid budget) (subst (IsEntries eq) put_last d)
           (sym put_last ∙ s.1) some,
-      λ q n. ⊎_elim (λ e. inl e) (λ e. inr (e ∙ ap (lookup (eq q)) (sym s.1) ∙ u.2 q n))
-          (by_found eq laws q s.0 (fitting mid budget) whole (lookup_entry (eq q) (fitting mid budget)) refl),
+      evicts-others eq es (fitting mid budget) k (λ q n.
+          ⊎_elim (λ e. inl e) (λ e. inr (e ∙ ap (lookup (eq q)) (sym s.1) ∙ u.2 q n))
+          (by_found eq laws q s.0 (fitting mid budget) whole (lookup_entry (eq q) (fitting mid budget)) refl)),
     )

@@ -23,7 +23,7 @@ use Rattle.hashlink_model.proofs.Afterwards.{lookup-put, lookup-put_same, lookup
 use Rattle.hashlink_model.proofs.Retains.{none_kept}
 
 -- a key that a query finds fails each test that is apart from the query
-fails_apart : {K : Type 0} (test other : K → Bool) → AreApart test other → (k : K) → other k ≡ true
+pub fails_apart : {K : Type 0} (test other : K → Bool) → AreApart test other → (k : K) → other k ≡ true
     → test k ≡ false
 fails_apart test other apart k y =
     ⊎_elim (λ t. absurd (true≢false (sym y ∙ apart k t))) (λ n. n) (cases_Bool (test k))

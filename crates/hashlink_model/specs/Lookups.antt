@@ -2,10 +2,10 @@
 use Rattle.std.specs.Prelude.{◌≡◌, ◌⊎◌, ℕ, ◌<◌, Bool, false, cond, List, length, Option, Some, None, IfSome}
 use Rattle.std.specs.Prelude.{MatchOption}
 use Rattle.std.specs.List.{list_any}
-use Rattle.std.specs.Map.{lookup, lookup_entry, set_value, KeepsOthers}
+use Rattle.std.specs.Map.{AreApart, lookup, lookup_entry, set_value, KeepsOthers}
 use Rattle.std.specs.Set.{is_member}
 use Rattle.std.specs.Set.{KeepsOthers as KeepsOtherElements}
-use Rattle.hashlink_model.specs.Entries.{put}
+use Rattle.hashlink_model.specs.Entries.{IsKeyTest, put}
 
 module _ {K V : Type 0} (eq : K → K → Bool) where
   -- the keys that pass the test have the value w now, or are absent if w is `None`; lookups of other keys are
@@ -42,10 +42,13 @@ module _ {K V : Type 0} (eq : K → K → Bool) where
   abbrev pub UpdatesPopped : List (K × V) → List (K × V) → Option (K × V) → Type 0
   UpdatesPopped old new popped = IfSome popped (λ e. UpdatesBy eq (eq e.0) old new None)
 
-  -- a lookup of each key but k is unchanged, or finds nothing, since the key was evicted
+  -- a lookup of each key but k is unchanged, or finds nothing, since the key was evicted. The two parts are
+  -- for every key, and for every query apart from k
   abbrev pub EvictsOthers : List (K × V) → List (K × V) → K → Type 0
   EvictsOthers old new k =
-      (q : K) → eq k q ≡ false → (lookup (eq q) new ≡ None) ⊎ (lookup (eq q) new ≡ lookup (eq q) old)
+      ((q : K) → eq k q ≡ false → (lookup (eq q) new ≡ None) ⊎ (lookup (eq q) new ≡ lookup (eq q) old))
+      × ((test : K → Bool) → IsKeyTest eq test → AreApart (eq k) test
+      → (lookup test new ≡ None) ⊎ (lookup test new ≡ lookup test old))
 
   -- an insert into a cache with the capacity `cap`: the key has v now, unless `cap` is 0. Lookups of other
   -- keys are unchanged, or the keys were evicted; none was evicted if there were fewer entries than `cap`

@@ -1,7 +1,7 @@
 -- Lemmas for the calls of a ring, each from the ring as it is opened to the ring as it is closed.
 use Rattle.hashlink_nodes.proofs.Names
 use Names.{◌≡◌, ℕ, ◌+◌, ◌-◌, ◌^◌, ◌<◌, [], ◌∷◌, ◌++◌, length, Option, Some, None, refl, sym, ap, ◌∙◌, subst}
-use Names.{arith, keys_of, unwrap_or, remove_entry, set_value, option_map, append-nil, length-append}
+use Names.{arith, keys_of, unwrap_or, remove_entry, set_value, option_map, append-nil}
 use Names.{append_assoc, is_some, lookup, same_node-refl, Holds, IsDistinct, IsDistinct-head}
 use Names.{length-drop, length-set_value, Node, Inside, same_node, state_of, Ring, ring, Held, IsRing}
 use Names.{IsSound, SoundAt, ring_of, State, GuardIs, attached, detached, hold, store_next, Adds, Drops}
@@ -10,7 +10,7 @@ use Rattle.std.proofs.Common.{drop}
 use Rattle.hashlink_nodes.specs.declared.pool.Pool.{Pool}
 use Rattle.hashlink_nodes.proofs.Paths.{head_or, last_or, Off, IsOff, all_left, to_front}
 use Rattle.hashlink_nodes.proofs.Cuts.{Gap, before_place, after_place, same_some}
-use Rattle.hashlink_nodes.proofs.Rings.{Linked, linked, attach, Entries, InRing, in_ring, detach, held_out}
+use Rattle.hashlink_nodes.proofs.Rings.{Linked, linked, attach, Entries, detach, held_out}
 use Rattle.hashlink_nodes.proofs.Rings.{holds_now, held_now, added, dropped, spared, take_spare, renew, Taken}
 use Rattle.hashlink_nodes.proofs.Rings.{guarded, held_anew, keys-append}
 use Rattle.hashlink_nodes.proofs.Opening.{length-gap, Leaves, NodeAt, Opened, leaves, length-removed, opened}
@@ -119,6 +119,13 @@ module _ {K V : Type 0} where
         leaves at.is (spared (holds_now (taken_out is₁) None is₂) (held_now s₁ is₂) is₃)
         (omega (arith, length-removed v.entries at.cut, at.whole.is_len)) (omega (arith, at.whole.is_spare))
 
+    -- or its block is freed
+    pub gone : {s₁ s₂ s₃ : State K V} → s₁ ≡ detached n s → s₂ ≡ hold n None s₁ → Drops n s₂ s₃
+        → Leaves s₃ guard first (len - 1) spare (ring rest v.free (v.link_writes + 2))
+    gone is₁ is₂ drops =
+        leaves at.is (dropped (holds_now (taken_out is₁) None is₂) drops)
+        (omega (arith, length-removed v.entries at.cut, at.whole.is_len)) at.whole.is_spare
+
     -- or it can be inserted elsewhere
     pub ready_moved : {s₁ : State K V} → s₁ ≡ detached n s
         → Ready s₁ n g first at.cut.value len spare (ring rest v.free (v.link_writes + 2))
@@ -214,6 +221,10 @@ module _ {K V : Type 0} where
     pub found_there : Holds es n
     found_there = ap is_some (ap (lookup (same_node n)) is ∙ (found_here xs n h ys off).0)
 
+    pub value_found : {x : Held K V} → lookup (same_node n) es ≡ Some x → h ≡ x
+    value_found found =
+        same_some (sym (ap (lookup (same_node n)) is ∙ (found_here xs n h ys off).0) ∙ found)
+
     pub pair_found : {p : K × V} → option_map pair_of (lookup (same_node n) es) ≡ Some p → pair_of h ≡ p
     pair_found found = same_some (ap (option_map pair_of)
         (sym (ap (lookup (same_node n)) is ∙ (found_here xs n h ys off).0)) ∙ found)
@@ -240,23 +251,6 @@ module _ {K V : Type 0} where
     front =
         subst (λ k. FirstIs k v.entries) (sym (is_m ∙ (linked begun.ring [] v.entries refl).on))
         (first_of g v.entries some)
-
-    pub front_in : InRing (state_of n.pool) m front.value
-    front_in = in_ring begun.ring [] m front.value front.after front.is
-
-    pub front_bare : {s₁ s₂ : State K V} → s₁ ≡ detached m (state_of n.pool) → s₂ ≡ hold m None s₁
-        → IsRing s₂ (m ∷ []) g n.first_spare (ring front.after v.free (v.link_writes + 2))
-    front_bare {s₁} is₁ is₂ =
-        let first = n.first_spare in let s = state_of n.pool in
-        let r = subst (λ es. IsRing s [] g first (ring es v.free v.link_writes)) front.is begun.ring in
-        holds_now (detach front.value [] front.after r is₁) None is₂
-
-    pub front_gone : {s₁ s₂ s₃ : State K V} → s₁ ≡ detached m (state_of n.pool) → s₂ ≡ hold m None s₁
-        → Drops m s₂ s₃
-        → Leaves s₃ n.guard n.first_spare (n.len - 1) n.spare (ring front.after v.free (v.link_writes + 2))
-    front_gone is₁ is₂ drops =
-        leaves is (dropped (front_bare is₁ is₂) drops)
-        (omega (arith, begun.is_len, ap length front.is)) begun.is_spare
 
   -- the last node of the ring
   pub record LastIs (s : State K V) (n : Node) (es : Entries K V) : Type 0 where
@@ -285,9 +279,6 @@ module _ {K V : Type 0} where
         (sym (is_m ∙ (linked o.ring v.entries [] (sym (append-nil v.entries))).back))
         (last_of (state_of n.pool) g v.entries some)
 
-    pub last_in : InRing (state_of n.pool) m last.value
-    last_in = in_ring o.ring last.before m last.value [] last.is
-
     -- the last node is none of those before it
     pub last_off : IsOff m (keys_of last.before)
     last_off =
@@ -296,22 +287,6 @@ module _ {K V : Type 0} where
         ∙ ap (λ ns. ns ++ v.free) (keys-append last.before ((m, last.value) ∷ []))
         ∙ append_assoc ks (m ∷ []) v.free) (known sound view).differ in
         all_left (Off m) ks v.free (IsDistinct-head same_node m (ks ++ v.free) (to_front ks m v.free d))
-
-    pub last_bare : {s₁ s₂ : State K V} → s₁ ≡ detached m (state_of n.pool) → s₂ ≡ hold m None s₁
-        → IsRing s₂ (m ∷ []) g n.first_spare (ring last.before v.free (v.link_writes + 2))
-    last_bare {s₁} {s₂} is₁ is₂ =
-        let first = n.first_spare in let s = state_of n.pool in
-        let r = subst (λ es. IsRing s [] g first (ring es v.free v.link_writes)) last.is o.ring in
-        subst (λ es. IsRing s₂ (m ∷ []) g first (ring es v.free (v.link_writes + 2))) (append-nil last.before)
-        (holds_now (detach last.value last.before [] r is₁) None is₂)
-
-    pub last_gone : {s₁ s₂ s₃ : State K V} → s₁ ≡ detached m (state_of n.pool) → s₂ ≡ hold m None s₁
-        → Drops m s₂ s₃
-        → Leaves s₃ n.guard n.first_spare (n.len - 1) n.spare (ring last.before v.free (v.link_writes + 2))
-    last_gone is₁ is₂ drops =
-        leaves is (dropped (last_bare is₁ is₂) drops)
-        (omega (arith, o.is_len, ap length last.is, length-append last.before ((m, last.value) ∷ [])))
-        o.is_spare
 
   -- the guard's block is freed last
   pub guard_gone : {s s' : State K V} {g first : Node} {len spare : ℕ} {v : Ring K V} →

@@ -159,8 +159,9 @@ module _ {K V : Type 0} where
     pub guard_of : (m : Node) → Holds v.entries m → (g : Node) × (n.guard ≡ Some g)
     guard_of m there = guarded (λ is. cc (subst (λ (r : Ring K V). Holds r.entries m) (empty is) there))
 
-    pub not_empty : 0 < length v.entries → n.guard ≡ None → ⊥
-    not_empty some is = omega (arith, some, ap (λ (r : Ring K V). length r.entries) (empty is))
+    pub entry_guard : 0 < length v.entries → IsSome n.guard
+    entry_guard some =
+        is_there (guarded (λ is. omega (arith, some, ap (λ (r : Ring K V). length r.entries) (empty is)))).1
 
     pub spare_guard : 0 < length v.free → (g : Node) × (n.guard ≡ Some g)
     spare_guard some = guarded (λ is. omega (arith, some, ap (λ (r : Ring K V). length r.free) (empty is)))

@@ -141,6 +141,7 @@ impl<K, V> Nodes<K, V> {
 
     /// Removes the node's entry from the ring, and returns it. The node is the first free node then. It
     /// stores three links.
+    #[inline(always)]
     pub fn detach_into_free(&mut self, node: Node) -> (K, V)
         requires { Holds self.old.entries node }
         ensures pair { option_map pair_of (lookup (same_node node) self.old.entries) ≡ Some result }

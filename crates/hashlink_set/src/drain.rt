@@ -62,6 +62,7 @@ impl<'a, T: Eq + Hash + Drop, S: BuildHasher> Iterator for Drain<'a, T, S> {
 
     ghost remaining = { λ s. at_most (length (drain_rest s)) };
 
+    #[inline(always)]
     fn next(&mut self) -> Option<T> {
         let (element, ()) = self.drained.pop_front()?;
         Some(element)
@@ -82,6 +83,7 @@ impl<'a, T: Eq + Hash + Drop, S: BuildHasher> DoubleEndedIterator for Drain<'a, 
 
     ghost next_back_gives = { DrainStepsBack };
 
+    #[inline(always)]
     fn next_back(&mut self) -> Option<T> {
         let (element, ()) = self.drained.pop_back()?;
         Some(element)

@@ -6,7 +6,7 @@ ghost use Rattle.hashlink_core.specs.Drained.{with_drained, FitsBack};
 
 use super::KeyedList;
 use crate::drained::DrainedNodes;
-use hashlink_nodes::Nodes;
+use hashlink_nodes::{Node, Nodes};
 use std::hash::{BuildHasher, Hash};
 use std::mem;
 
@@ -20,8 +20,11 @@ impl<K: Eq + Hash, V, S: BuildHasher> KeyedList<K, V, S> {
     {
         self.table.clear();
         let own = Nodes::new(self.nodes.allocator());
+        let nodes = mem::replace(&mut self.nodes, own);
         DrainedNodes {
-            nodes: mem::replace(&mut self.nodes, own),
+            first: nodes.next(None).unwrap_or(Node::nowhere()),
+            last: nodes.prev(None).unwrap_or(Node::nowhere()),
+            nodes,
         }
     }
 
@@ -34,7 +37,11 @@ impl<K: Eq + Hash, V, S: BuildHasher> KeyedList<K, V, S> {
         requires { FitsBack (state_of self.old) drained }
         ensures { Drains (state_of (with_drained self.old drained)) (state_of self.new) }
     {
-        let DrainedNodes { mut nodes } = drained;
+        let DrainedNodes {
+            mut nodes,
+            first: _,
+            last: _,
+        } = drained;
         nodes.spare_all();
         self.nodes = nodes;
     }

@@ -1,10 +1,13 @@
 //! Calls that free blocks, and that remove entries at the ends.
-ghost use Rattle.std.specs.Prelude.{◌≡◌, ℕ, ◌+◌, ◌*◌, ◌<◌, [], ◌∷◌, ◌++◌, length, drop};
-ghost use Rattle.hashlink_nodes.specs.Ring.{held};
+ghost use Rattle.std.specs.Prelude.{◌≡◌, ℕ, ◌+◌, ◌*◌, ◌<◌, [], ◌∷◌, ◌++◌, length, drop, Some};
+ghost use Rattle.std.specs.Map.{lookup, remove_entry};
+ghost use Rattle.hashlink_nodes.specs.Node.{same_node};
+ghost use Rattle.hashlink_nodes.specs.Ring.{held, Holds};
 ghost use Rattle.hashlink_nodes.specs.declared.node.Node.{Node};
 
 use super::Nodes;
 use crate::held::Held;
+use crate::node::Node;
 
 impl<K, V> Nodes<K, V> {
     /// Frees the blocks of the free nodes.
@@ -53,17 +56,9 @@ impl<K, V> Nodes<K, V> {
         ensures free { self.new.free ≡ self.old.free }
         ensures link_writes { self.new.link_writes ≡ self.old.link_writes + 2 }
     {
-        let guard = match self.guard {
-            Some(guard) => guard,
-            None => unreachable!(),
-        };
+        let guard = self.guard.unwrap();
         let node = self.pool.next(guard);
-        self.pool.detach(node);
-        let number = self.pool.number(node);
-        let (key, value) = self.pool.take(node);
-        self.pool.give_back(node, self.alloc);
-        self.len -= 1;
-        Held { number, key, value }
+        self.give_back(node)
     }
 
     /// Removes the last entry, frees its block and returns what it held. It stores two links.
@@ -73,35 +68,26 @@ impl<K, V> Nodes<K, V> {
         ensures free { self.new.free ≡ self.old.free }
         ensures link_writes { self.new.link_writes ≡ self.old.link_writes + 2 }
     {
-        let guard = match self.guard {
-            Some(guard) => guard,
-            None => unreachable!(),
-        };
+        let guard = self.guard.unwrap();
         let node = self.pool.prev(guard);
+        self.give_back(node)
+    }
+
+    /// Removes the node's entry, frees its block and returns what it held. It stores two links.
+    #[inline]
+    fn give_back(&mut self, node: Node) -> Held<K, V>
+        requires { Holds self.old.entries node }
+        ensures held { lookup (same_node node) self.old.entries ≡ Some result }
+        ensures entries { self.new.entries ≡ remove_entry (same_node node) self.old.entries }
+        ensures free { self.new.free ≡ self.old.free }
+        ensures link_writes { self.new.link_writes ≡ self.old.link_writes + 2 }
+    {
         self.pool.detach(node);
         let number = self.pool.number(node);
         let (key, value) = self.pool.take(node);
         self.pool.give_back(node, self.alloc);
         self.len -= 1;
         Held { number, key, value }
-    }
-
-    /// Removes the first entry and returns its pair. Its node is the first free node then. It stores three
-    /// links.
-    #[inline]
-    pub fn spare_first(&mut self) -> (K, V)
-        requires { 0 < length self.old.entries }
-        ensures first { (node : Node) × (number : ℕ)
-            × (self.old.entries ≡ (node, held number result.0 result.1) ∷ self.new.entries) }
-        ensures free { length self.new.free ≡ length self.old.free + 1 }
-        ensures link_writes { self.new.link_writes ≡ self.old.link_writes + 3 }
-    {
-        let guard = match self.guard {
-            Some(guard) => guard,
-            None => unreachable!(),
-        };
-        let node = self.pool.next(guard);
-        self.detach_into_free(node)
     }
 
     /// Removes the last entry and returns its pair. Its node is the first free node then. It stores three
@@ -114,10 +100,7 @@ impl<K, V> Nodes<K, V> {
         ensures free { length self.new.free ≡ length self.old.free + 1 }
         ensures link_writes { self.new.link_writes ≡ self.old.link_writes + 3 }
     {
-        let guard = match self.guard {
-            Some(guard) => guard,
-            None => unreachable!(),
-        };
+        let guard = self.guard.unwrap();
         let node = self.pool.prev(guard);
         self.detach_into_free(node)
     }
