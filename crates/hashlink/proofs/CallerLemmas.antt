@@ -606,81 +606,89 @@ module _ {K V : Type 0} (eq : K → K → Bool) (es : List (K × V)) (cap : ℕ)
       let is : zs ≡ es ++ (k, v) ∷ [] = put_back_absent eq es k v (none_from_lookup (eq k) es none) in
       let more = length-put_absent eq es k v (length es) none in
       let one : length zs - cap ≤ 1 = omega (arith, more, within) in
+      let evicted = first_of (evicted_entries zs cap) in
       let out : option_to_list (pushed_out eq es cap k v) ≡ take (length zs - cap) zs
-      = ap (λ o. option_to_list (option_or (option_map (λ w. (k, w)) o) (first_of (evicted_entries zs cap)))) none
+      = ap (λ o. option_to_list (option_or (option_map (λ w. (k, w)) o) evicted)) none
       ∙ first_evicted zs (length zs - cap) one in
       ap (λ xs. xs ++ cache_put eq es cap k v) out ∙ take-append-drop (length zs - cap) zs ∙ is
 
 -- ---- what a container that is passed by value, or its iterator, has returned
 
-module _ {X State A : Type 0} (step : State → State → X → Result A X → Type 0) (es : List X)
-    (old new : State) where
-  -- goal: an `extend` or a `from_iter` read all items
-  pub extended_by_all : (it items rest : List X) × (it ≡ es)
-      × YieldsThen (TakesFirst (λ x. x)) it items None rest × AcceptsAll step old items new
-      → AcceptsAll step old es new
-  extended_by_all h = subst (λ xs. AcceptsAll step old xs new) (sym (taken_all h.0 h.1 h.2 h.4) ∙ h.3) h.5
+module _ {X State A : Type 0} (step : State → State → X → Result A X → Type 0) (es : List X) where
+  module _ (old new : State) where
+    -- goal: an `extend` or a `from_iter` read all items
+    pub extended_by_all : (it items rest : List X) × (it ≡ es)
+        × YieldsThen (TakesFirst (λ x. x)) it items None rest × AcceptsAll step old items new
+        → AcceptsAll step old es new
+    extended_by_all h = subst (λ xs. AcceptsAll step old xs new) (sym (taken_all h.0 h.1 h.2 h.4) ∙ h.3) h.5
 
-  -- goal: an `extend` read some items, and one of them was refused
-  pub extended_until : (taken : ℕ) (back : X) (items left : List X)
-      → Yields (TakesFirst (λ x. x)) es items left → StopsAt step old items new taken back []
-      → StopsAt step old es new taken back left
-  extended_until taken back items left y stops =
-      subst (λ xs. StopsAt step old xs new taken back left) (sym (taken_front es items left y))
-      (stops_before step old new items left taken back stops)
+    -- goal: an `extend` read some items, and one of them was refused
+    pub extended_until : (taken : ℕ) (back : X) (items left : List X)
+        → Yields (TakesFirst (λ x. x)) es items left → StopsAt step old items new taken back []
+        → StopsAt step old es new taken back left
+    extended_until taken back items left y stops =
+        subst (λ xs. StopsAt step old xs new taken back left) (sym (taken_front es items left y))
+        (stops_before step old new items left taken back stops)
 
 -- ---- an iterator that gives its list away, as a drain does: `rest` is what is left of it
 
-module _ {I X : Type 0} (steps : I → Option X → I → Type 0) (rest : I → List X)
-    (takes : (i : I) (o : Option X) (j : I) → steps i o j → TakesFirst (λ x. x) (rest i) o (rest j)) where
-  given_front : (i : I) (xs : List X) (j : I) → Yields steps i xs j → rest i ≡ xs ++ rest j
-  given_front i [] j y = ap rest y
-  given_front i (x ∷ xs) j y =
-      takes i (Some x) y.0 y.1 ∙ ap (λ ys. x ∷ ys) (given_front y.0 xs j y.2)
+module _ {I X : Type 0} (steps : I → Option X → I → Type 0) (rest : I → List X) where
+  -- each step returns the first of what is left, or nothing at its end
+  abbrev pub StepsTakeFirst : Type 0
+  StepsTakeFirst = (i : I) (o : Option X) (j : I) → steps i o j → TakesFirst (λ x. x) (rest i) o (rest j)
 
-  -- goal: what `drain().collect(alloc)` gave, by its clause `ran`
-  pub given_all : {W : Type 0} → W → (i : I) (xs : List X) → DrainsIf steps W i xs → rest i ≡ xs
-  given_all w i xs ran =
-      let end = ran.2 w in
-      given_front i xs ran.0 ran.1 ∙ ap (λ ys. xs ++ ys) (takes ran.0 None end.0 end.1).0 ∙ append-nil xs
+  module _ (takes : StepsTakeFirst) where
+    given_front : (i : I) (xs : List X) (j : I) → Yields steps i xs j → rest i ≡ xs ++ rest j
+    given_front i [] j y = ap rest y
+    given_front i (x ∷ xs) j y =
+        takes i (Some x) y.0 y.1 ∙ ap (λ ys. x ∷ ys) (given_front y.0 xs j y.2)
+
+    -- goal: what `drain().collect(alloc)` gave, by its clause `ran`
+    pub given_all : {W : Type 0} → W → (i : I) (xs : List X) → DrainsIf steps W i xs → rest i ≡ xs
+    given_all w i xs ran =
+        let end = ran.2 w in
+        given_front i xs ran.0 ran.1 ∙ ap (λ ys. xs ++ ys) (takes ran.0 None end.0 end.1).0 ∙ append-nil xs
 
 -- ---- a retain whose closure captures: `Holds` states what was captured, such as a time
 
-module _ {F K V : Type 0} (T : F → K → V → Bool → V → F → Type 0) (Holds : F → Type 0)
-    (passes : K × V → Bool) where
-  map-cond : {X Y : Type 0} (h : X → Y) (b : Bool) (x : X) (xs : List X)
-      → cond b (h x ∷ map h xs) (map h xs) ≡ map h (cond b (x ∷ xs) xs)
-  map-cond h true x xs = refl
-  map-cond h false x xs = refl
+module _ {F K V : Type 0} (T : F → K → V → Bool → V → F → Type 0) (Holds : F → Type 0) where
+  module _ (passes : K × V → Bool) where
+    -- a call returns whether the entry passes, and leaves `value` of it as its value. What holds still holds
+    abbrev pub CallsLeave : (K × V → V) → Type 0
+    CallsLeave value =
+        (f : F) (k : K) (v : V) (b : Bool) (w : V) (g : F) → Holds f → T f k v b w g
+        → (b ≡ passes (k, v)) × (w ≡ value (k, v)) × Holds g
 
-  module _ (value : K × V → V)
-      (call : (f : F) (k : K) (v : V) (b : Bool) (w : V) (g : F) → Holds f → T f k v b w g
-      → (b ≡ passes (k, v)) × (w ≡ value (k, v)) × Holds g) where
-    kept_writing : (f : F) (es kept : List (K × V)) (g : F) → Holds f → KeepsInOrder T f es kept g
-        → kept ≡ map (λ e. (e.0, value e)) (filter passes es)
-    kept_writing f [] kept g h r = r.0
-    kept_writing f (e ∷ es) kept g h r =
-        let c = call f e.0 e.1 r.0 r.1 r.2 h r.4 in
-        let rest = kept_writing r.2 es r.3 g c.2 r.5 in
-        r.6 ∙ (λ i. cond (c.0 i) ((e.0, c.1 i) ∷ rest i) (rest i))
-        ∙ map-cond (λ x. (x.0, value x)) (passes e) e (filter passes es)
+    map-cond : {X Y : Type 0} (h : X → Y) (b : Bool) (x : X) (xs : List X)
+        → cond b (h x ∷ map h xs) (map h xs) ≡ map h (cond b (x ∷ xs) xs)
+    map-cond h true x xs = refl
+    map-cond h false x xs = refl
 
-    -- goal: what a retain leaves if its closure returns `passes` and writes `value`. The step is
-    -- `c.retain.ensures.retained.1` for a map, and its field `map` for a cache
-    pub retained_writing : {S : Type 0} (f : F) → Holds f → (old new : MapState K V S) (g : F)
-        → RetainsInOrder T f old new g
-        → KeepsOnly old new (map (λ e. (e.0, value e)) (filter passes old.entries))
-    retained_writing f h old new g r =
-        subst (KeepsOnly old new) (kept_writing f old.entries r.kept g h r.calls) r.keeps
+    module _ (value : K × V → V) (call : CallsLeave value) where
+      kept_writing : (f : F) (es kept : List (K × V)) (g : F) → Holds f → KeepsInOrder T f es kept g
+          → kept ≡ map (λ e. (e.0, value e)) (filter passes es)
+      kept_writing f [] kept g h r = r.0
+      kept_writing f (e ∷ es) kept g h r =
+          let c = call f e.0 e.1 r.0 r.1 r.2 h r.4 in
+          let rest = kept_writing r.2 es r.3 g c.2 r.5 in
+          r.6 ∙ (λ i. cond (c.0 i) ((e.0, c.1 i) ∷ rest i) (rest i))
+          ∙ map-cond (λ x. (x.0, value x)) (passes e) e (filter passes es)
 
-  -- goal: the same if the closure writes nothing
-  pub retained_where : ((f : F) (k : K) (v : V) (b : Bool) (w : V) (g : F) → Holds f → T f k v b w g
-      → (b ≡ passes (k, v)) × (w ≡ v) × Holds g)
-      → {S : Type 0} (f : F) → Holds f → (old new : MapState K V S) (g : F) → RetainsInOrder T f old new g
-      → KeepsOnly old new (filter passes old.entries)
-  retained_where call f h old new g r =
-      subst (KeepsOnly old new) (map-id (filter passes old.entries))
-      (retained_writing (λ e. e.1) call f h old new g r)
+      -- goal: what a retain leaves if its closure returns `passes` and writes `value`. The step is
+      -- `c.retain.ensures.retained.1` for a map, and its field `map` for a cache
+      pub retained_writing : {S : Type 0} (f : F) → Holds f → (old new : MapState K V S) (g : F)
+          → RetainsInOrder T f old new g
+          → KeepsOnly old new (map (λ e. (e.0, value e)) (filter passes old.entries))
+      retained_writing f h old new g r =
+          subst (KeepsOnly old new) (kept_writing f old.entries r.kept g h r.calls) r.keeps
+
+    -- goal: the same if the closure writes nothing
+    pub retained_where : CallsLeave (λ e. e.1) → {S : Type 0} (f : F) → Holds f → (old new : MapState K V S)
+        (g : F) → RetainsInOrder T f old new g
+        → KeepsOnly old new (filter passes old.entries)
+    retained_where call f h old new g r =
+        subst (KeepsOnly old new) (map-id (filter passes old.entries))
+        (retained_writing (λ e. e.1) call f h old new g r)
 
 -- goal: the same for a set's elements
 pub set_retained_where : {F T S : Type 0} (U : F → T → Bool → F → Type 0) (Holds : F → Type 0)
@@ -848,8 +856,8 @@ module _ {K V : Type 0} (eq : K → K → Bool) (es : List (K × V)) (k : K) whe
 
 module _ {K V : Type 0} where
   -- goal: what any key finds once the key at a place was replaced by one that equals it
-  pub lookup-set_key_at : (eq : K → K → Bool) → IsEquivalence eq → (q : K) (es : List (K × V)) (j : ℕ) (k old : K)
-      → key_at es j ≡ Some old → eq old k ≡ true
+  pub lookup-set_key_at : (eq : K → K → Bool) → IsEquivalence eq → (q : K) (es : List (K × V)) (j : ℕ)
+      (k old : K) → key_at es j ≡ Some old → eq old k ≡ true
       → lookup (eq q) (set_key_at es j k) ≡ lookup (eq q) es
   lookup-set_key_at eq laws q [] j k old at same = refl
   lookup-set_key_at eq laws q (e ∷ es) zero k old at same =
@@ -895,49 +903,51 @@ second_of_two : {R : Type 0} {x y : R} (xs ys : List R) → xs ≡ x ∷ [] → 
     → slice_get (xs ++ (ys ++ [])) 1 ≡ Some y
 second_of_two xs ys p q = rw (p, q) refl
 
-module _ {K V B S : Type 0} (eq : K → K → Bool) (Says : K → V → B → Type 0) (Keeps : K → V → Bool → Type 0)
-    (old : MapState K V S) (g k : K) (v : V) where
-  abbrev removal : List (Command K V)
-  removal = Remove g ∷ []
+module _ {K V B S : Type 0} (eq : K → K → Bool) (Says : K → V → B → Type 0) where
+  module _ (Keeps : K → V → Bool → Type 0) (old : MapState K V S) (g k : K) (v : V) where
+    abbrev removal : List (Command K V)
+    removal = Remove g ∷ []
 
-  removal_keeps_nodes : AllPass keeps_nodes removal
-  removal_keeps_nodes = AllPass-from_list_all keeps_nodes (Remove g ∷ []) refl
+    removal_keeps_nodes : AllPass keeps_nodes removal
+    removal_keeps_nodes = AllPass-from_list_all keeps_nodes (Remove g ∷ []) refl
 
-  second_answered : (answers : List (Answered (Reply K V B) (MapState K V S)))
-      → Run eq Says Keeps old (Remove g ∷ Insert k v ∷ []) answers
-      → TakesKeysWhereShorter old (Remove g ∷ Insert k v ∷ []) answers eq → IsSome (lookup (eq g) old.entries)
-      → (was : Option V) × (slice_get (replies_of answers) 1 ≡ Some (Value was))
-  second_answered [] r t p = absurd r
-  second_answered (a ∷ []) r t p = absurd r.1
-  second_answered (a ∷ b ∷ []) r t p =
-      let is_there = sym (is_some-entry (eq g) old.entries) ∙ p in
-      let is_shorter = shorter_without (eq g) old a.state (lookup_entry (eq g) old.entries) r.0.0 is_there in
-      let taken = t 0 1 (omega arith) removal_keeps_nodes is_shorter in
-      let value = value_of_reply r.1.0.0 (subst (λ rs. is_refused rs ≡ false) r.1.0.2 (taken.2 b refl)) in
-      (value.0, second_of_two a.replies b.replies r.0.1 r.1.0.2 ∙ ap Some value.1)
-  second_answered (a ∷ b ∷ c ∷ d) r t p = absurd r.1.1
+    second_answered : (answers : List (Answered (Reply K V B) (MapState K V S)))
+        → Run eq Says Keeps old (Remove g ∷ Insert k v ∷ []) answers
+        → TakesKeysWhereShorter old (Remove g ∷ Insert k v ∷ []) answers eq
+        → IsSome (lookup (eq g) old.entries)
+        → (was : Option V) × (slice_get (replies_of answers) 1 ≡ Some (Value was))
+    second_answered [] r t p = absurd r
+    second_answered (a ∷ []) r t p = absurd r.1
+    second_answered (a ∷ b ∷ []) r t p =
+        let is_there = sym (is_some-entry (eq g) old.entries) ∙ p in
+        let found = lookup_entry (eq g) old.entries in
+        let is_shorter = shorter_without (eq g) old a.state found r.0.0 is_there in
+        let taken = t 0 1 (omega arith) removal_keeps_nodes is_shorter in
+        let value = value_of_reply r.1.0.0 (subst (λ rs. is_refused rs ≡ false) r.1.0.2 (taken.2 b refl)) in
+        (value.0, second_of_two a.replies b.replies r.0.1 r.1.0.2 ∙ ap Some value.1)
+    second_answered (a ∷ b ∷ c ∷ d) r t p = absurd r.1.1
 
-module _ {K V B S : Type 0} {eq : K → K → Bool} {Says : K → V → B → Type 0}
-    {Keeps : K → V → Bool → Type 0} where
-  -- goal: in one `run`, the reply to an insert after the removal of a present key is a value
-  pub answered_after_removal : {old new : MapState K V S} {g k : K} {v : V} {replies : List (Reply K V B)}
-      (commands : List (Command K V)) → commands ≡ Remove g ∷ Insert k v ∷ []
-      → LawfulRun eq Says Keeps old commands replies new → IsSome (lookup (eq g) old.entries)
-      → (was : Option V) × (slice_get replies 1 ≡ Some (Value was))
-  answered_after_removal {old = old} {new = new} {g = g} {k = k} {v = v} {replies = replies}
-      commands is lawful p =
-      let ran = subst (λ cs. LawfulRun eq Says Keeps old cs replies new) is lawful in
-      subst (λ rs. (was : Option V) × (slice_get rs 1 ≡ Some (Value was))) (sym ran.runs.joined)
-      (second_answered eq Says Keeps old g k v ran.runs.answers ran.runs.chain ran.shorter p)
+module _ {K V B S : Type 0} {eq : K → K → Bool} {Says : K → V → B → Type 0} where
+  module _ {Keeps : K → V → Bool → Type 0} where
+    -- goal: in one `run`, the reply to an insert after the removal of a present key is a value
+    pub answered_after_removal : {old new : MapState K V S} {g k : K} {v : V} {replies : List (Reply K V B)}
+        (commands : List (Command K V)) → commands ≡ Remove g ∷ Insert k v ∷ []
+        → LawfulRun eq Says Keeps old commands replies new → IsSome (lookup (eq g) old.entries)
+        → (was : Option V) × (slice_get replies 1 ≡ Some (Value was))
+    answered_after_removal {old = old} {new = new} {g = g} {k = k} {v = v} {replies = replies}
+        commands is lawful p =
+        let ran = subst (λ cs. LawfulRun eq Says Keeps old cs replies new) is lawful in
+        subst (λ rs. (was : Option V) × (slice_get rs 1 ≡ Some (Value was))) (sym ran.runs.joined)
+        (second_answered eq Says Keeps old g k v ran.runs.answers ran.runs.chain ran.shorter p)
 
-  -- goal: what `run` requires of its closure: a pair that the closure may be shown is shown at the first
-  -- command or later
-  pub shown_now_or_later : {old : MapState K V S} {command : Command K V} {commands : List (Command K V)}
-      {pair : K × V} → ShownBy eq Says Keeps old (command ∷ commands) pair
-      → (ReadBy eq Says old command pair ⊎ KeepAsks old command pair)
-      ⊎ ((a : Answered (Reply K V B) (MapState K V S)) × Step eq Says Keeps old command a.replies a.state
-      × ShownBy eq Says Keeps a.state commands pair)
-  shown_now_or_later shown = elim shown.comes [
-    | inl now ↦ inl (elim now [ inl read ↦ inl read | inr asked ↦ inr asked.asks ])
-    | inr later ↦ inr (later.0, later.1, record { comes = later.2 })
-  ]
+    -- goal: what `run` requires of its closure: a pair that the closure may be shown is shown at the first
+    -- command or later
+    pub shown_now_or_later : {old : MapState K V S} {command : Command K V} {commands : List (Command K V)}
+        {pair : K × V} → ShownBy eq Says Keeps old (command ∷ commands) pair
+        → (ReadBy eq Says old command pair ⊎ KeepAsks old command pair)
+        ⊎ ((a : Answered (Reply K V B) (MapState K V S)) × Step eq Says Keeps old command a.replies a.state
+        × ShownBy eq Says Keeps a.state commands pair)
+    shown_now_or_later shown = elim shown.comes [
+      | inl now ↦ inl (elim now [ inl read ↦ inl read | inr asked ↦ inr asked.asks ])
+      | inr later ↦ inr (later.0, later.1, record { comes = later.2 })
+    ]

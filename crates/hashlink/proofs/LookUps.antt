@@ -111,7 +111,8 @@ module _ {A V : Type 0} where
   -- goal: what any text finds after a change at a text: an insert, a removal, or a value that was written
   pub lookup-text_updated : (text : List ℕ) (old new : List (String A × V)) (w : Option V)
       → UpdatesBy string_eq (is_text text) old new w
-      → (other : List ℕ) → lookup (is_text other) new ≡ cond (bytes_eq text other) w (lookup (is_text other) old)
+      → (other : List ℕ)
+      → lookup (is_text other) new ≡ cond (bytes_eq text other) w (lookup (is_text other) old)
   lookup-text_updated text old new w updates other =
       ⊎_elim
       (λ same. ap (λ t. lookup (is_text t) new) (sym ((bytes_decides text other).0 same)) ∙ updates.1
@@ -135,25 +136,26 @@ module _ {A V : Type 0} where
   lookup-text_kept test old new keeps other =
       lookup-by_each string_eq old new keeps.0 (is_text other) (is_text-tests other)
 
-module _ {A V B : Type 0} (f : Option V → B) (text : List ℕ) (old new : List (String A × V))
-    (w : Option V) (updates : UpdatesBy string_eq (is_text text) old new w) where
-  -- goal: what f reads at any text after a change at one text, at which f reads b
-  pub read-text_updated : {b : B} → f w ≡ b → (other : List ℕ)
-      → f (lookup (is_text other) new) ≡ cond (bytes_eq text other) b (f (lookup (is_text other) old))
-  read-text_updated {b} is other =
-      ap f (lookup-text_updated text old new w updates other) ∙ by (bytes_eq text other)
-    where
-      by : (c : Bool) → f (cond c w (lookup (is_text other) old)) ≡ cond c b (f (lookup (is_text other) old))
-      by true = is
-      by false = refl
+module _ {A V B : Type 0} (f : Option V → B) (text : List ℕ) (old new : List (String A × V)) where
+  module _ (w : Option V) (updates : UpdatesBy string_eq (is_text text) old new w) where
+    -- goal: what f reads at any text after a change at one text, at which f reads b
+    pub read-text_updated : {b : B} → f w ≡ b → (other : List ℕ)
+        → f (lookup (is_text other) new) ≡ cond (bytes_eq text other) b (f (lookup (is_text other) old))
+    read-text_updated {b} is other =
+        ap f (lookup-text_updated text old new w updates other) ∙ by (bytes_eq text other)
+      where
+        by : (c : Bool)
+            → f (cond c w (lookup (is_text other) old)) ≡ cond c b (f (lookup (is_text other) old))
+        by true = is
+        by false = refl
 
-  -- goal: the same if there it is what it was
-  pub read-text_same : f w ≡ f (lookup (is_text text) old) → (other : List ℕ)
-      → f (lookup (is_text other) new) ≡ f (lookup (is_text other) old)
-  read-text_same is other =
-      let read : List ℕ → B = λ t. f (lookup (is_text t) old) in
-      let eq = bytes_eq text other in
-      read-text_updated is other
-      ∙ ⊎_elim
-      (λ y. cond-true eq (read text) (read other) y ∙ ap read ((bytes_decides text other).0 y))
-      (λ n. cond-false eq (read text) (read other) n) (cases_Bool eq)
+    -- goal: the same if there it is what it was
+    pub read-text_same : f w ≡ f (lookup (is_text text) old) → (other : List ℕ)
+        → f (lookup (is_text other) new) ≡ f (lookup (is_text other) old)
+    read-text_same is other =
+        let read : List ℕ → B = λ t. f (lookup (is_text t) old) in
+        let eq = bytes_eq text other in
+        read-text_updated is other
+        ∙ ⊎_elim
+        (λ y. cond-true eq (read text) (read other) y ∙ ap read ((bytes_decides text other).0 y))
+        (λ n. cond-false eq (read text) (read other) n) (cases_Bool eq)
