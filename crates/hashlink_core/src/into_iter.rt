@@ -45,6 +45,7 @@ impl<K: Drop, V: Drop> Iterator for IntoIter<K, V> {
 
     ghost remaining = { λ s. at_most (length s) };
 
+    #[inline(always)]
     fn next(&mut self) -> Option<(K, V)> {
         if self.nodes.len() == 0 {
             return None;
@@ -66,6 +67,7 @@ impl<K: Drop, V: Drop> Iterator for IntoIter<K, V> {
 impl<K: Drop, V: Drop> DoubleEndedIterator for IntoIter<K, V> {
     ghost next_back_gives = { TakesLast (λ p. p) };
 
+    #[inline(always)]
     fn next_back(&mut self) -> Option<(K, V)> {
         if self.nodes.len() == 0 {
             return None;

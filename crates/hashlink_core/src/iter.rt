@@ -58,6 +58,7 @@ impl<'a, K, V> Iterator for Iter<'a, K, V> {
 
     ghost remaining = { λ s. at_most (length s) };
 
+    #[inline(always)]
     fn next(&mut self) -> Option<(&'a K, &'a V)> {
         if self.left == 0 {
             return None;
@@ -80,6 +81,7 @@ impl<'a, K, V> Iterator for Iter<'a, K, V> {
 impl<'a, K, V> DoubleEndedIterator for Iter<'a, K, V> {
     ghost next_back_gives = { TakesLast deref_pair };
 
+    #[inline(always)]
     fn next_back(&mut self) -> Option<(&'a K, &'a V)> {
         if self.left == 0 {
             return None;

@@ -69,6 +69,7 @@ impl<'a, K: Eq + Hash + Drop, V: Drop, S: BuildHasher> Iterator for Drain<'a, K,
 
     ghost remaining = { λ s. at_most (length (drain_rest s)) };
 
+    #[inline(always)]
     fn next(&mut self) -> Option<(K, V)> {
         self.drained.pop_front()
     }
@@ -88,6 +89,7 @@ impl<'a, K: Eq + Hash + Drop, V: Drop, S: BuildHasher> DoubleEndedIterator for D
 
     ghost next_back_gives = { DrainStepsBack };
 
+    #[inline(always)]
     fn next_back(&mut self) -> Option<(K, V)> {
         self.drained.pop_back()
     }

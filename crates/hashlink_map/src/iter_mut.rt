@@ -64,6 +64,7 @@ impl<'a, K: Eq + Hash, V, S: BuildHasher> IterMut<'a, K, V, S> {
     ghost use Rattle.hashlink_map.specs.IterMutLends.{LendsFirst, LendsLast, LentFrom, LentValue, TakesOff};
 
     /// Returns the pair of the node.
+    #[inline(always)]
     fn pair_at_node(&mut self, node: Node) -> (&K, &mut V)
         requires { Holds (walk_map self.old).now.nodes node }
         ensures* lends { sem 𝓛 (LendsAtWalkNode K.row V.row S.row S.Hasher.row self.entry node result.1) }
@@ -74,6 +75,7 @@ impl<'a, K: Eq + Hash, V, S: BuildHasher> IterMut<'a, K, V, S> {
     }
 
     /// Returns the pair of the place that was taken.
+    #[inline(always)]
     fn pair_at(&mut self, taken: Option<Node>) -> Option<(&K, &mut V)>
         requires { IsPlace (walk_map self.old).now.nodes taken }
         ensures* lends { sem 𝓛 (LendsPairThere K.row V.row S.row S.Hasher.row self.entry
@@ -87,6 +89,7 @@ impl<'a, K: Eq + Hash, V, S: BuildHasher> IterMut<'a, K, V, S> {
     }
 
     /// Takes the first place off, and returns the iterator and that place.
+    #[inline(always)]
     fn step_first(&mut self) -> (&mut Self, Option<Node>)
         ensures { TakesOff walk_map walk_state self.entry (walk_state self.old).at
             (after_front (walk_state self.old)) result.0 result.1 }
@@ -96,6 +99,7 @@ impl<'a, K: Eq + Hash, V, S: BuildHasher> IterMut<'a, K, V, S> {
     }
 
     /// Takes the last place off, and returns the iterator and that place.
+    #[inline(always)]
     fn step_last(&mut self) -> (&mut Self, Option<Node>)
         ensures { TakesOff walk_map walk_state self.entry (last_place (walk_state self.old))
             (after_back (walk_state self.old)) result.0 result.1 }
@@ -106,6 +110,7 @@ impl<'a, K: Eq + Hash, V, S: BuildHasher> IterMut<'a, K, V, S> {
 
     /// Returns the next key from the front and a mutable reference to its value, or `None` if none is left.
     /// It takes constant time.
+    #[inline(always)]
     pub fn next(&mut self) -> Option<(&K, &mut V)>
         ensures* lends { sem 𝓛 (LendsPairFromWalk K.row V.row S.row S.Hasher.row self.entry
             (after_front (walk_state self.old)) (walk_state self.old).at result) }
@@ -117,6 +122,7 @@ impl<'a, K: Eq + Hash, V, S: BuildHasher> IterMut<'a, K, V, S> {
 
     /// Returns the next key from the back and a mutable reference to its value, or `None` if none is left. It
     /// takes constant time.
+    #[inline(always)]
     pub fn next_back(&mut self) -> Option<(&K, &mut V)>
         ensures* lends { sem 𝓛 (LendsPairFromWalk K.row V.row S.row S.Hasher.row self.entry
             (after_back (walk_state self.old)) (last_place (walk_state self.old)) result) }
@@ -140,6 +146,7 @@ impl<'a, K: Eq + Hash, V, S: BuildHasher> IterMut<'a, K, V, S> {
 
     /// Returns a mutable reference to the next value from the front, or `None` if none is left. It takes
     /// constant time. Unlike with `next`, a caller can prove exactly what the map is afterwards.
+    #[inline(always)]
     pub fn next_value(&mut self) -> Option<&mut V>
         ensures* lends { sem 𝓛 (LendsFirst K.row V.row S.row S.Hasher.row self.entry result) }
         ensures value { LentValue (first_of (walk_rest (walk_state self.old))) result }
@@ -153,6 +160,7 @@ impl<'a, K: Eq + Hash, V, S: BuildHasher> IterMut<'a, K, V, S> {
 
     /// Returns a mutable reference to the next value from the back, or `None` if none is left. It takes
     /// constant time. Unlike with `next_back`, a caller can prove exactly what the map is afterwards.
+    #[inline(always)]
     pub fn next_value_back(&mut self) -> Option<&mut V>
         ensures* lends { sem 𝓛 (LendsLast K.row V.row S.row S.Hasher.row self.entry result) }
         ensures value { LentValue (last_of (walk_rest (walk_state self.old))) result }

@@ -34,6 +34,7 @@ impl PlacesLeft {
     }
 
     /// Takes the first node off and returns it, or returns `None` if none is left.
+    #[inline(always)]
     pub(crate) fn take_first<K: Eq + Hash, V, S: BuildHasher>(
         &mut self,
         map: &LinkedHashMap<K, V, S>,
@@ -54,6 +55,7 @@ impl PlacesLeft {
     }
 
     /// Takes the last node off and returns it, or returns `None` if none is left.
+    #[inline(always)]
     pub(crate) fn take_last<K: Eq + Hash, V, S: BuildHasher>(
         &mut self,
         map: &LinkedHashMap<K, V, S>,

@@ -32,6 +32,7 @@ impl<'a, K: Eq + Hash, V, S: BuildHasher> ValuesMut<'a, K, V, S> {
 
     /// Returns a mutable reference to the next value from the front, or `None` if none is left. It takes
     /// constant time.
+    #[inline(always)]
     pub fn next(&mut self) -> Option<&mut V>
         ensures* lends { sem 𝓛 (LendsFirstValue K.row V.row S.row S.Hasher.row self.entry result) }
         ensures value { LentValue (first_of (walk_rest (values_state self.old))) result }
@@ -45,6 +46,7 @@ impl<'a, K: Eq + Hash, V, S: BuildHasher> ValuesMut<'a, K, V, S> {
 
     /// Returns a mutable reference to the next value from the back, or `None` if none is left. It takes
     /// constant time.
+    #[inline(always)]
     pub fn next_back(&mut self) -> Option<&mut V>
         ensures* lends { sem 𝓛 (LendsLastValue K.row V.row S.row S.Hasher.row self.entry result) }
         ensures value { LentValue (last_of (walk_rest (values_state self.old))) result }

@@ -38,6 +38,7 @@ impl<T: Drop> Iterator for IntoIter<T> {
 
     ghost remaining = { λ s. at_most (length s) };
 
+    #[inline(always)]
     fn next(&mut self) -> Option<T> {
         let (element, ()) = self.pairs.next()?;
         Some(element)
@@ -55,6 +56,7 @@ impl<T: Drop> Iterator for IntoIter<T> {
 impl<T: Drop> DoubleEndedIterator for IntoIter<T> {
     ghost next_back_gives = { TakesLast (λ t. t) };
 
+    #[inline(always)]
     fn next_back(&mut self) -> Option<T> {
         let (element, ()) = self.pairs.next_back()?;
         Some(element)

@@ -50,6 +50,7 @@ impl<'a, T> Iterator for Iter<'a, T> {
 
     ghost remaining = { λ s. at_most (length s) };
 
+    #[inline(always)]
     fn next(&mut self) -> Option<&'a T> {
         self.keys.next()
     }
@@ -66,6 +67,7 @@ impl<'a, T> Iterator for Iter<'a, T> {
 impl<'a, T> DoubleEndedIterator for Iter<'a, T> {
     ghost next_back_gives = { TakesLast deref };
 
+    #[inline(always)]
     fn next_back(&mut self) -> Option<&'a T> {
         self.keys.next_back()
     }

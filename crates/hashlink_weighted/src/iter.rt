@@ -42,6 +42,7 @@ impl<'a, K, V> Iterator for WeightedIter<'a, K, V> {
 
     ghost remaining = { λ s. at_most (length s) };
 
+    #[inline(always)]
     fn next(&mut self) -> Option<(&'a K, &'a V, u64)> {
         let (key, (value, weight)) = self.inner.next()?;
         Some((key, value, *weight))
@@ -59,6 +60,7 @@ impl<'a, K, V> Iterator for WeightedIter<'a, K, V> {
 impl<'a, K, V> DoubleEndedIterator for WeightedIter<'a, K, V> {
     ghost next_back_gives = { TakesLast deref_weighed };
 
+    #[inline(always)]
     fn next_back(&mut self) -> Option<(&'a K, &'a V, u64)> {
         let (key, (value, weight)) = self.inner.next_back()?;
         Some((key, value, *weight))

@@ -30,6 +30,7 @@ pub struct OfKeys;
 impl<K, V> Part<K, V, K> for OfKeys {
     ghost part = { λ e. e.0 };
 
+    #[inline(always)]
     fn of<'a>(key: &'a K, _value: &'a V) -> &'a K {
         key
     }
@@ -41,6 +42,7 @@ pub struct OfValues;
 impl<K, V> Part<K, V, V> for OfValues {
     ghost part = { λ e. e.1 };
 
+    #[inline(always)]
     fn of<'a>(_key: &'a K, value: &'a V) -> &'a V {
         value
     }
@@ -80,6 +82,7 @@ impl<'a, K, V, X, P: Part<K, V, X>> Iterator for Parts<'a, K, V, X, P> {
 
     ghost remaining = { λ s. at_most (length s) };
 
+    #[inline(always)]
     fn next(&mut self) -> Option<&'a X> {
         let (key, value) = self.inner.next()?;
         Some(P::of(key, value))
@@ -97,6 +100,7 @@ impl<'a, K, V, X, P: Part<K, V, X>> Iterator for Parts<'a, K, V, X, P> {
 impl<'a, K, V, X, P: Part<K, V, X>> DoubleEndedIterator for Parts<'a, K, V, X, P> {
     ghost next_back_gives = { TakesLast deref };
 
+    #[inline(always)]
     fn next_back(&mut self) -> Option<&'a X> {
         let (key, value) = self.inner.next_back()?;
         Some(P::of(key, value))

@@ -25,6 +25,7 @@ impl<'a, K: Eq + Hash, V, S: BuildHasher> CursorMut<'a, K, V, S> {
 
     /// Moves to the next place: from the entry at the back to the guard, and from the guard to the entry at
     /// the front. It takes constant time, hashes nothing and stores no link.
+    #[inline(always)]
     pub fn move_next(&mut self)
         ensures same_map { (cursor_map self.new).ghost_name ≡ (cursor_map self.old).ghost_name }
         ensures unchanged { (cursor_map self.new).now ≡ (cursor_map self.old).now }
@@ -36,6 +37,7 @@ impl<'a, K: Eq + Hash, V, S: BuildHasher> CursorMut<'a, K, V, S> {
 
     /// Moves to the previous place: from the entry at the front to the guard, and from the guard to the entry
     /// at the back. It takes constant time, hashes nothing and stores no link.
+    #[inline(always)]
     pub fn move_prev(&mut self)
         ensures same_map { (cursor_map self.new).ghost_name ≡ (cursor_map self.old).ghost_name }
         ensures unchanged { (cursor_map self.new).now ≡ (cursor_map self.old).now }
@@ -46,6 +48,7 @@ impl<'a, K: Eq + Hash, V, S: BuildHasher> CursorMut<'a, K, V, S> {
     }
 
     /// Returns the pair of the node.
+    #[inline(always)]
     fn pair_at_node(&mut self, node: Node) -> (&K, &mut V)
         requires { Holds (cursor_map self.old).now.nodes node }
         ensures* lends { sem 𝓛 (LendsAtCursorNode K.row V.row S.row S.Hasher.row self.entry node result.1) }
@@ -56,6 +59,7 @@ impl<'a, K: Eq + Hash, V, S: BuildHasher> CursorMut<'a, K, V, S> {
     }
 
     /// Returns the pair at the place, or `None` at the guard.
+    #[inline(always)]
     fn pair_at(&mut self, place: Option<Node>) -> Option<(&K, &mut V)>
         requires { IsPlace (cursor_map self.old).now.nodes place }
         ensures* lends { sem 𝓛 (LendsPairFromCursor K.row V.row S.row S.Hasher.row self.entry
@@ -70,6 +74,7 @@ impl<'a, K: Eq + Hash, V, S: BuildHasher> CursorMut<'a, K, V, S> {
     }
 
     /// Returns the cursor and its place.
+    #[inline(always)]
     fn with_place(&mut self) -> (&mut Self, Option<Node>)
         ensures { TakesPlace self.entry (cursor_state self.old).place result }
     {
@@ -79,6 +84,7 @@ impl<'a, K: Eq + Hash, V, S: BuildHasher> CursorMut<'a, K, V, S> {
 
     /// Returns the key at the cursor and a mutable reference to its value, or `None` at the guard. It takes
     /// constant time and hashes nothing.
+    #[inline(always)]
     pub fn current(&mut self) -> Option<(&K, &mut V)>
         ensures* lends { sem 𝓛 (LendsPairFromCursor K.row V.row S.row S.Hasher.row self.entry
             (cursor_state self.old).place result) }
@@ -89,6 +95,7 @@ impl<'a, K: Eq + Hash, V, S: BuildHasher> CursorMut<'a, K, V, S> {
     }
 
     /// Returns the cursor and the place after its own.
+    #[inline(always)]
     fn with_next(&mut self) -> (&mut Self, Option<Node>)
         ensures { TakesPlace self.entry (place_next (cursor_state self.old)) result }
     {
@@ -98,6 +105,7 @@ impl<'a, K: Eq + Hash, V, S: BuildHasher> CursorMut<'a, K, V, S> {
 
     /// Returns the key at the next place and a mutable reference to its value, or `None` at the guard. It
     /// takes constant time and hashes nothing.
+    #[inline(always)]
     pub fn peek_next(&mut self) -> Option<(&K, &mut V)>
         ensures* lends { sem 𝓛 (LendsNextPair K.row V.row S.row S.Hasher.row self.entry result) }
         ensures pair { LentAt (cursor_state self.old) (place_next (cursor_state self.old)) result }
@@ -107,6 +115,7 @@ impl<'a, K: Eq + Hash, V, S: BuildHasher> CursorMut<'a, K, V, S> {
     }
 
     /// Returns the cursor and the place before its own.
+    #[inline(always)]
     fn with_previous(&mut self) -> (&mut Self, Option<Node>)
         ensures { TakesPlace self.entry (place_previous (cursor_state self.old)) result }
     {
@@ -116,6 +125,7 @@ impl<'a, K: Eq + Hash, V, S: BuildHasher> CursorMut<'a, K, V, S> {
 
     /// Returns the key at the previous place and a mutable reference to its value, or `None` at the guard. It
     /// takes constant time and hashes nothing.
+    #[inline(always)]
     pub fn peek_prev(&mut self) -> Option<(&K, &mut V)>
         ensures* lends { sem 𝓛 (LendsPreviousPair K.row V.row S.row S.Hasher.row self.entry result) }
         ensures pair { LentAt (cursor_state self.old) (place_previous (cursor_state self.old)) result }
@@ -126,6 +136,7 @@ impl<'a, K: Eq + Hash, V, S: BuildHasher> CursorMut<'a, K, V, S> {
 
     /// Returns a mutable reference to the value at the cursor, or `None` at the guard. It takes constant time
     /// and hashes nothing. Unlike with `current`, a caller can prove exactly what the map is afterwards.
+    #[inline(always)]
     pub fn current_value(&mut self) -> Option<&mut V>
         ensures* lends { sem 𝓛 (LendsFromCursor K.row V.row S.row S.Hasher.row self.entry
             (cursor_state self.old).place result) }
@@ -175,6 +186,7 @@ impl<'a, K: Eq + Hash, V, S: BuildHasher> CursorMut<'a, K, V, S> {
     }
 
     /// Returns the entry at the cursor, or `None` at the guard. It takes constant time and hashes nothing.
+    #[inline(always)]
     pub fn current_pair(&self) -> Option<(&K, &V)>
         ensures { option_map deref_pair result ≡ entry_in (cursor_state self.now)
             (cursor_state self.now).place }
@@ -184,6 +196,7 @@ impl<'a, K: Eq + Hash, V, S: BuildHasher> CursorMut<'a, K, V, S> {
 
     /// Returns the entry at the next place, or `None` at the guard. It takes constant time and hashes
     /// nothing.
+    #[inline(always)]
     pub fn next_pair(&self) -> Option<(&K, &V)>
         ensures { option_map deref_pair result
             ≡ entry_in (cursor_state self.now) (place_next (cursor_state self.now)) }
@@ -193,6 +206,7 @@ impl<'a, K: Eq + Hash, V, S: BuildHasher> CursorMut<'a, K, V, S> {
 
     /// Returns the entry at the previous place, or `None` at the guard. It takes constant time and hashes
     /// nothing.
+    #[inline(always)]
     pub fn prev_pair(&self) -> Option<(&K, &V)>
         ensures { option_map deref_pair result
             ≡ entry_in (cursor_state self.now) (place_previous (cursor_state self.now)) }

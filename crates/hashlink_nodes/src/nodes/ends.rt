@@ -50,6 +50,7 @@ impl<K, V> Nodes<K, V> {
     }
 
     /// Removes the first entry, frees its block and returns what it held. It stores two links.
+    #[inline]
     pub fn give_back_first(&mut self) -> Held<K, V>
         requires { 0 < length self.old.entries }
         ensures first { (node : Node) × (self.old.entries ≡ (node, result) ∷ self.new.entries) }
@@ -62,6 +63,7 @@ impl<K, V> Nodes<K, V> {
     }
 
     /// Removes the last entry, frees its block and returns what it held. It stores two links.
+    #[inline]
     pub fn give_back_last(&mut self) -> Held<K, V>
         requires { 0 < length self.old.entries }
         ensures last { (node : Node) × (self.old.entries ≡ self.new.entries ++ (node, result) ∷ []) }
