@@ -5,7 +5,7 @@ use crate::plan::{Line, Plan, Row, fold};
 use crate::walks::{sum_of_owned, sum_of_pairs};
 
 /// A look-up of a key, and an insert if it is absent.
-pub(crate) struct UseKey;
+struct UseKey;
 
 impl Row for UseKey {
     type State = Cache;

@@ -1,7 +1,5 @@
 //! The contents of containers before the calls of a row.
-use crate::caches::UseKey;
 use crate::keys::Keys;
-use crate::plan::Row;
 use hashlink::{LinkedHashMap, LinkedHashSet, LruCache};
 
 /// The contents of a container before the calls of a row.
@@ -151,7 +149,7 @@ impl Filled for Cache {
 fn cache_of(keys: &Keys, capacity: usize) -> Option<Cache> {
     let mut cache = LruCache::new(keys.alloc, capacity);
     for (place, key) in keys.held.iter().rev().enumerate() {
-        UseKey::call(&mut cache, place as u64, key)?;
+        cache.insert(*key, place as u64).ok()?;
     }
     Some(cache)
 }

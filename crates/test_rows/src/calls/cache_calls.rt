@@ -47,49 +47,50 @@ fn call_cache(cache: &mut Cache, line: &mut Line<'_>) -> Result<(), Stop> {
             cache.set_capacity(line.words.size());
             Word::Done
         }
-        _ => return look_up(cache, name, line),
-    };
-    line.say(word)
-}
-
-/// Makes the call of this name, if it looks up the key that the next word names. What is lent for writing is
-/// written, if a name follows.
-fn look_up(cache: &mut Cache, name: &str, line: &mut Line<'_>) -> Result<(), Stop> {
-    let word = match name {
-        "get" => lent_item(cache.get(&line.item()?)),
-        "peek" => lent_item(cache.peek(&line.item()?)),
-        "contains_key" => Word::Is(cache.contains_key(&line.item()?)),
-        "evicted_by" => lent(cache.evicted_by(&line.item()?)),
-        "remove" => given_item(cache.remove(&line.item()?)),
-        "remove_entry" => given(cache.remove_entry(&line.item()?)),
-        "get_mut" => write(cache.get_mut(&line.item()?), line.words.optional()),
-        "peek_mut" => write(cache.peek_mut(&line.item()?), line.words.optional()),
-        _ => return put_pair(cache, name, line),
-    };
-    line.say(word)
-}
-
-/// Makes the call of this name, if it takes the pair that the next two words name.
-fn put_pair(cache: &mut Cache, name: &str, line: &mut Line<'_>) -> Result<(), Stop> {
-    let answer = match name {
-        "insert" => put(cache.insert(line.item()?, line.item()?)),
-        "push" => pushed(cache.push(line.item()?, line.item()?)),
-        "get_or_insert_with" => {
-            let (key, value) = line.pair()?;
-            match cache.get_or_insert_with(key, || value) {
-                Ok(lent) => Answer::Word(write_item(lent, line.words.optional())),
-                Err(pair) => no_memory(pair),
-            }
-        }
-        "get_or_try_insert_with" => {
-            let key = line.item()?;
-            let (made, new) = line.tried()?;
-            match cache.get_or_try_insert_with(key, || made) {
-                Ok(lent) => Answer::Word(write_item(lent, new)),
-                Err(error) => not_made(error),
-            }
-        }
         _ => return call_many(cache, name, line),
+    };
+    line.say(word)
+}
+
+/// Makes the call of this name, if it takes the key that the next word names. What is lent for writing is
+/// written, if a name follows.
+pub fn call_of_key(cache: &mut Cache, name: &str, line: &mut Line<'_>) -> Result<(), Stop> {
+    let key = line.item()?;
+    let word = match name {
+        "get" => lent_item(cache.get(&key)),
+        "peek" => lent_item(cache.peek(&key)),
+        "contains_key" => Word::Is(cache.contains_key(&key)),
+        "evicted_by" => lent(cache.evicted_by(&key)),
+        "remove" => given_item(cache.remove(&key)),
+        "remove_entry" => given(cache.remove_entry(&key)),
+        "get_mut" => write(cache.get_mut(&key), line.words.optional()),
+        "peek_mut" => write(cache.peek_mut(&key), line.words.optional()),
+        "get_or_try_insert_with" => return put_tried(cache, key, line),
+        _ => return put_pair(cache, name, key, line),
+    };
+    line.say(word)
+}
+
+/// Makes the call of this name, if it takes a key, and the value that the next word names.
+fn put_pair(cache: &mut Cache, name: &str, key: Item, line: &mut Line<'_>) -> Result<(), Stop> {
+    let value = line.item()?;
+    let answer = match name {
+        "insert" => put(cache.insert(key, value)),
+        "push" => pushed(cache.push(key, value)),
+        "get_or_insert_with" => match cache.get_or_insert_with(key, || value) {
+            Ok(lent) => Answer::Word(write_item(lent, line.words.optional())),
+            Err(pair) => no_memory(pair),
+        },
+        _ => return Err(Stop::Unread),
+    };
+    line.give(answer)
+}
+
+fn put_tried(cache: &mut Cache, key: Item, line: &mut Line<'_>) -> Result<(), Stop> {
+    let (made, new) = line.tried()?;
+    let answer = match cache.get_or_try_insert_with(key, || made) {
+        Ok(lent) => Answer::Word(write_item(lent, new)),
+        Err(error) => not_made(error),
     };
     line.give(answer)
 }

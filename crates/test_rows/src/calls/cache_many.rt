@@ -1,5 +1,5 @@
 //! Lines that call a cache about many pairs, or by its map, an iterator or an entry.
-use crate::calls::cache_calls::Cache;
+use crate::calls::cache_calls::{Cache, call_of_key};
 use crate::calls::entries::call_entry;
 use crate::calls::extended::{TakesMany, extended, extended_by_trait, put_rest};
 use crate::calls::map_calls::call_map;
@@ -29,7 +29,8 @@ pub fn call_many(cache: &mut Cache, name: &str, line: &mut Line<'_>) -> Result<(
         "drain" => walk_whole(cache.drain(), line),
         "forgotten_drain" => walk_and_forget(cache.drain(), 2, line),
         "into_iter" => walk_whole(take(cache, line.home.alloc).into_iter(), line),
-        _ => put_rest(cache, name, line),
+        name if name.starts_with("extend") => put_rest(cache, name, line),
+        _ => call_of_key(cache, name, line),
     }
 }
 

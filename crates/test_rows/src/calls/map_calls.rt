@@ -29,60 +29,9 @@ pub fn call_map(map: &mut Map, line: &mut Line<'_>) -> Result<(), Stop> {
             made(map, clone)
         }
         "back_value_mut" => write(map.back_value_mut(), line.words.optional()),
-        _ => return look_up(map, name, line),
-    };
-    line.say(word)
-}
-
-/// Makes the call of this name, if it looks up the key that the next word names. What is lent for writing is
-/// written, if a name follows.
-fn look_up(map: &mut Map, name: &str, line: &mut Line<'_>) -> Result<(), Stop> {
-    let word = match name {
-        "get" => lent_item(map.get(&line.item()?)),
-        "contains_key" => Word::Is(map.contains_key(&line.item()?)),
-        "get_key_value" => lent(map.get_key_value(&line.item()?)),
-        "index" => index(map, &line.item()?),
-        "remove" => given_item(map.remove(&line.item()?)),
-        "remove_entry" => given(map.remove_entry(&line.item()?)),
-        "get_mut" => write(map.get_mut(&line.item()?), line.words.optional()),
-        "to_front" => write(map.to_front(&line.item()?), line.words.optional()),
-        "to_back" => write(map.to_back(&line.item()?), line.words.optional()),
-        "index_mut" => index_mut(map, &line.item()?, line.words.optional()),
-        _ => return put_pair(map, name, line),
-    };
-    line.say(word)
-}
-
-fn index(map: &Map, key: &Item) -> Word {
-    if map.contains_key(key) {
-        return Word::item(map[key].name());
-    }
-    Word::Nothing
-}
-
-fn index_mut(map: &mut Map, key: &Item, new: Option<Name>) -> Word {
-    if map.contains_key(key) {
-        return write_item(&mut map[key], new);
-    }
-    Word::Nothing
-}
-
-/// Makes the call of this name, if it takes the pair that the next two words name.
-fn put_pair(map: &mut Map, name: &str, line: &mut Line<'_>) -> Result<(), Stop> {
-    let answer = match name {
-        "insert" => put(map.insert(line.item()?, line.item()?)),
-        "insert_front" => put(map.insert_front(line.item()?, line.item()?)),
-        "replace" => put(map.replace(line.item()?, line.item()?)),
-        "get_or_insert_with" => {
-            let (key, value) = line.pair()?;
-            match map.get_or_insert_with(key, || value) {
-                Ok(lent) => Answer::Word(write_item(lent, line.words.optional())),
-                Err(pair) => no_memory(pair),
-            }
-        }
         _ => return ask_room(map, name, line),
     };
-    line.give(answer)
+    line.say(word)
 }
 
 /// Makes the call of this name, if it takes the number that comes next.
@@ -101,4 +50,54 @@ fn ask_room(map: &mut Map, name: &str, line: &mut Line<'_>) -> Result<(), Stop> 
         _ => return call_many(map, name, line),
     };
     line.say(word)
+}
+
+/// Makes the call of this name, if it takes the key that the next word names. What is lent for writing is
+/// written, if a name follows.
+pub fn call_of_key(map: &mut Map, name: &str, line: &mut Line<'_>) -> Result<(), Stop> {
+    let key = line.item()?;
+    let word = match name {
+        "get" => lent_item(map.get(&key)),
+        "contains_key" => Word::Is(map.contains_key(&key)),
+        "get_key_value" => lent(map.get_key_value(&key)),
+        "index" => index(map, &key),
+        "remove" => given_item(map.remove(&key)),
+        "remove_entry" => given(map.remove_entry(&key)),
+        "get_mut" => write(map.get_mut(&key), line.words.optional()),
+        "to_front" => write(map.to_front(&key), line.words.optional()),
+        "to_back" => write(map.to_back(&key), line.words.optional()),
+        "index_mut" => index_mut(map, &key, line.words.optional()),
+        _ => return put_pair(map, name, key, line),
+    };
+    line.say(word)
+}
+
+fn index(map: &Map, key: &Item) -> Word {
+    if map.contains_key(key) {
+        return Word::item(map[key].name());
+    }
+    Word::Nothing
+}
+
+fn index_mut(map: &mut Map, key: &Item, new: Option<Name>) -> Word {
+    if map.contains_key(key) {
+        return write_item(&mut map[key], new);
+    }
+    Word::Nothing
+}
+
+/// Makes the call of this name, if it takes a key, and the value that the next word names.
+fn put_pair(map: &mut Map, name: &str, key: Item, line: &mut Line<'_>) -> Result<(), Stop> {
+    let value = line.item()?;
+    let answer = match name {
+        "insert" => put(map.insert(key, value)),
+        "insert_front" => put(map.insert_front(key, value)),
+        "replace" => put(map.replace(key, value)),
+        "get_or_insert_with" => match map.get_or_insert_with(key, || value) {
+            Ok(lent) => Answer::Word(write_item(lent, line.words.optional())),
+            Err(pair) => no_memory(pair),
+        },
+        _ => return Err(Stop::Unread),
+    };
+    line.give(answer)
 }

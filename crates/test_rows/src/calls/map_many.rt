@@ -3,7 +3,7 @@ use crate::calls::entries::{call_cursor_of, call_entry_of};
 use crate::calls::extended::{
     TakesMany, extended, extended_by_trait, make_of_kept, make_of_rest, put_rest,
 };
-use crate::calls::map_calls::Map;
+use crate::calls::map_calls::{Map, call_of_key};
 use crate::calls::map_cursors::call_cursor;
 use crate::calls::raw_entries::{call_end, call_raw, read_raw};
 use crate::hashers::Hashing;
@@ -40,7 +40,7 @@ pub fn call_many(map: &mut Map, name: &str, line: &mut Line<'_>) -> Result<(), S
     }
 }
 
-/// Takes the steps of the iterator of this name, if there is one.
+/// Takes the steps of the iterator of this name, if there is one. Else it makes the call of this name.
 fn walk_map(map: &mut Map, name: &str, line: &mut Line<'_>) -> Result<(), Stop> {
     match name {
         "iter" => walk_and_clone(map.iter(), line),
@@ -52,7 +52,8 @@ fn walk_map(map: &mut Map, name: &str, line: &mut Line<'_>) -> Result<(), Stop> 
         "forgotten_drain" => walk_and_forget(map.drain(), 2, line),
         "into_iter" => walk_whole(take(map, line.home.alloc).into_iter(), line),
         "iter_from" => walk_from(map, line),
-        _ => put_rest(map, name, line),
+        name if name.starts_with("extend") => put_rest(map, name, line),
+        _ => call_of_key(map, name, line),
     }
 }
 

@@ -28,53 +28,9 @@ pub fn call_set(set: &mut Set, line: &mut Line<'_>) -> Result<(), Stop> {
             let clone = set.clone();
             made(set, clone)
         }
-        _ => return look_up(set, name, line),
-    };
-    line.say(word)
-}
-
-/// Makes the call of this name, if it looks up the element that the next word names.
-fn look_up(set: &mut Set, name: &str, line: &mut Line<'_>) -> Result<(), Stop> {
-    let word = match name {
-        "contains" => Word::Is(set.contains(&line.item()?)),
-        "get" => lent_item(set.get(&line.item()?)),
-        "to_front" => Word::Is(set.to_front(&line.item()?)),
-        "to_back" => Word::Is(set.to_back(&line.item()?)),
-        "remove" => Word::Is(set.remove(&line.item()?)),
-        "take" => given_item(set.take(&line.item()?)),
-        _ => return put(set, name, line),
-    };
-    line.say(word)
-}
-
-/// Makes the call of this name, if it puts in the element that the next word names.
-fn put(set: &mut Set, name: &str, line: &mut Line<'_>) -> Result<(), Stop> {
-    let answer = match name {
-        "insert" => match set.insert(line.item()?) {
-            Ok(is_new) => Answer::Word(Word::Is(is_new)),
-            Err(element) => back(element),
-        },
-        "replace" => match set.replace(line.item()?) {
-            Ok(old) => Answer::Word(given_item(old)),
-            Err(element) => back(element),
-        },
-        "get_or_insert" => lent_or_back(set.get_or_insert(line.item()?)),
         _ => return ask_room(set, name, line),
     };
-    line.give(answer)
-}
-
-/// The element that is lent, or the one that is returned.
-pub fn lent_or_back(lent: Result<&Item, Item>) -> Answer {
-    match lent {
-        Ok(element) => Answer::Word(Word::item(element.name())),
-        Err(element) => back(element),
-    }
-}
-
-/// An element that is returned because an allocation failed.
-fn back(element: Item) -> Answer {
-    Answer::Back(Word::Memory, taken(element))
+    line.say(word)
 }
 
 /// Makes the call of this name, if it takes the number that comes next.
@@ -93,4 +49,49 @@ fn ask_room(set: &mut Set, name: &str, line: &mut Line<'_>) -> Result<(), Stop> 
         _ => return call_many(set, name, line),
     };
     line.say(word)
+}
+
+/// Makes the call of this name, if it takes the element that the next word names.
+pub fn call_of_element(set: &mut Set, name: &str, line: &mut Line<'_>) -> Result<(), Stop> {
+    let element = line.item()?;
+    let word = match name {
+        "contains" => Word::Is(set.contains(&element)),
+        "get" => lent_item(set.get(&element)),
+        "to_front" => Word::Is(set.to_front(&element)),
+        "to_back" => Word::Is(set.to_back(&element)),
+        "remove" => Word::Is(set.remove(&element)),
+        "take" => given_item(set.take(&element)),
+        _ => return put(set, name, element, line),
+    };
+    line.say(word)
+}
+
+/// Makes the call of this name, if it puts the element in.
+fn put(set: &mut Set, name: &str, element: Item, line: &mut Line<'_>) -> Result<(), Stop> {
+    let answer = match name {
+        "insert" => match set.insert(element) {
+            Ok(is_new) => Answer::Word(Word::Is(is_new)),
+            Err(element) => back(element),
+        },
+        "replace" => match set.replace(element) {
+            Ok(old) => Answer::Word(given_item(old)),
+            Err(element) => back(element),
+        },
+        "get_or_insert" => lent_or_back(set.get_or_insert(element)),
+        _ => return Err(Stop::Unread),
+    };
+    line.give(answer)
+}
+
+/// The element that is lent, or the one that is returned.
+pub fn lent_or_back(lent: Result<&Item, Item>) -> Answer {
+    match lent {
+        Ok(element) => Answer::Word(Word::item(element.name())),
+        Err(element) => back(element),
+    }
+}
+
+/// An element that is returned because an allocation failed.
+fn back(element: Item) -> Answer {
+    Answer::Back(Word::Memory, taken(element))
 }

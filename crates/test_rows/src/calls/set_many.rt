@@ -2,7 +2,7 @@
 ghost use Rattle.std.specs.Prelude.{◌≡◌};
 
 use crate::calls::extended::{TakesMany, extended_by_trait, make_of_kept, make_of_rest, put_rest};
-use crate::calls::set_calls::{Set, lent_or_back};
+use crate::calls::set_calls::{Set, call_of_element, lent_or_back};
 use crate::items::{
     Answer, Item, Keep, Line, Stop, Word, is_other, read_keep, taken, walk_and_clone,
     walk_and_forget, walk_whole,
@@ -24,7 +24,8 @@ pub fn call_many(set: &mut Set, name: &str, line: &mut Line<'_>) -> Result<(), S
         "drain" => walk_whole(set.drain(), line),
         "forgotten_drain" => walk_and_forget(set.drain(), 1, line),
         "into_iter" => walk_whole(take(set, line.home.alloc).into_iter(), line),
-        _ => put_rest(set, name, line),
+        name if name.starts_with("extend") => put_rest(set, name, line),
+        _ => call_of_element(set, name, line),
     }
 }
 
