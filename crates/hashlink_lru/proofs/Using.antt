@@ -1,11 +1,11 @@
 -- A use of a key that may be absent, and a write through the value that it lends, which is the last one.
 use Rattle.std.specs.Prelude.{◌≡◌, ℕ, suc, ◌+◌, ◌-◌, ◌<◌, ◌≤◌, max, Bool, List, [], ◌∷◌, ◌++◌, length, take}
-use Rattle.std.specs.Prelude.{drop, Option, None, Some, MatchOption, Result, Ok, IsOk, slice_get}
+use Rattle.std.specs.Prelude.{drop, Option, None, Some, IsSome, MatchOption, Result, Ok, IsOk, slice_get}
 use Rattle.std.specs.Borrow.{MutBor}
 use Rattle.std.proofs.lemmas.List.{length-append, drop-append-le}
 use Rattle.std.specs.Cmp.{IsEquivalence}
 use Rattle.std.specs.Map.{lookup}
-use Rattle.std.specs.Option.{option_map, UnwrapsOrElse}
+use Rattle.std.specs.Option.{option_map, option_copied_mut, UnwrapsOrElse}
 use Rattle.std.proofs.Common.{refl, ap, sym, subst, ◌∙◌, arith, ⊎_elim}
 use Rattle.std.proofs.lemmas.Option.{none-some, same_Some}
 use Rattle.hashlink_model.specs.Cache.{CacheState, CacheGets, CacheGetsAndWrites, last_entries}
@@ -171,8 +171,10 @@ module _ {K V S : Type 0} (eq : K → K → Bool) (Makes : V → Type 0) (old : 
   lent_value v at =
       subst (UnwrapsOrElse (lookup (eq k) old.entries) Makes) (same_Some m.0 v (sym (at ∙ last_is))) m.1
 
-  pub some_lent : None ≡ option_map (λ e. e.1) (last_of new.entries) → ⊥
-  some_lent none = none-some m.0 (none ∙ last_is)
+  pub some_lent : (r : Option (MutBor V))
+      → option_copied_mut r ≡ option_map (λ e. e.1) (last_of new.entries) → IsSome r
+  some_lent None none = absurd (none-some m.0 (none ∙ last_is))
+  some_lent (Some v) some = refl
 
 -- the map's step, from the clauses of a call that lent the value
 pub moved_or_made : {K V S E : Type 0} (eq : K → K → Bool) (Makes : V → Type 0) (old new : MapState K V S)

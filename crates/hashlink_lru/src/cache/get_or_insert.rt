@@ -54,10 +54,8 @@ impl<K: Eq + Hash, V, S: BuildHasher> LruCache<K, V, S> {
     {
         let before = self.map.len();
         self.map.get_or_insert_with(key, make)?;
-        match self.lend_last(before) {
-            Some(value) => Ok(value),
-            None => unreachable!(), // the entry that was just used is the last one
-        }
+        // The entry that was just used is the last one.
+        Ok(self.lend_last(before).unwrap())
     }
 
     /// Does the same as `get_or_insert_with`, with a `make` that may fail. `make` has to be callable if the
@@ -86,10 +84,8 @@ impl<K: Eq + Hash, V, S: BuildHasher> LruCache<K, V, S> {
     {
         let before = self.map.len();
         move_or_try_make(&mut self.map, key, make)?;
-        match self.lend_last(before) {
-            Some(value) => Ok(value),
-            None => unreachable!(), // the entry that was just used is the last one
-        }
+        // The entry that was just used is the last one.
+        Ok(self.lend_last(before).unwrap())
     }
 
     /// If there are not `before` entries, evicts entries as `insert` does, but keeps at least one. Returns a
