@@ -2,7 +2,7 @@
 use Rattle.hashlink_core.proofs.Names.{◌≡◌, ◌-◌, List, [], ◌∷◌, ◌++◌, length, Option, None, Some, refl, sym}
 use Rattle.hashlink_core.proofs.Names.{ap, ◌∙◌, arith, take, length-append, map-append, values_of}
 use Rattle.hashlink_core.specs.Drained.{Drained, GivesLast, state_with}
-use Rattle.hashlink_model.proofs.Places.{slice_get_here}
+use Rattle.hashlink_model.proofs.Places.{last_of-end}
 use Rattle.hashlink_model.specs.MapState.{MapState}
 use Rattle.hashlink_model.specs.Steps.{PopsBack}
 use Rattle.hashlink_model.specs.Walk.{last_of, before_last_of}
@@ -11,9 +11,6 @@ use Rattle.std.proofs.Math.Seq.{take-append_seam}
 module _ {X : Type 0} (xs : List X) (x : X) where
   one-less : length (xs ++ x ∷ []) - 1 ≡ length xs
   one-less = let long = length-append xs (x ∷ []) in omega arith
-
-  last_of-pushed : last_of (xs ++ x ∷ []) ≡ Some x
-  last_of-pushed = rw (one-less, slice_get_here xs x []) refl
 
   before_last_of-pushed : before_last_of (xs ++ x ∷ []) ≡ xs
   before_last_of-pushed = ap (λ n. take n (xs ++ x ∷ [])) one-less ∙ take-append_seam xs (x ∷ [])
@@ -32,7 +29,7 @@ module _ {K V S : Type 0} (m : MapState K V S) (d e : Drained K V) where
       = ap values_of g.nodes ∙ map-append (λ x. x.1) e.nodes ((g.node, p) ∷ []) in
       let rest = ap before_last_of all ∙ before_last_of-pushed left p in
       record {
-        answer = sym (ap last_of all ∙ last_of-pushed left p);
+        answer = sym (ap last_of all ∙ last_of-end left p);
         step = record {
           entries = sym rest;
           fewer = omega (arith, ap length rest, ap length all, length-append left (p ∷ []));

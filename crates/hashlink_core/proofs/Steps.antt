@@ -2,7 +2,7 @@
 use Rattle.hashlink_core.proofs.Names.{◌≡◌, inl, inr, ℕ, zero, suc, ◌+◌, Bool, List, [], ◌∷◌, ◌++◌, length}
 use Rattle.hashlink_core.proofs.Names.{None, Some, refl, sym, ap, ap₂, subst, ◌∙◌, arith, slice_get}
 use Rattle.hashlink_core.proofs.Names.{option_map, lookup, lookup_entry, NonePasses, none-some, place_of}
-use Rattle.hashlink_core.proofs.Names.{moved_at, set_value_at, set_key_at, key_at, value_at, replace_entry}
+use Rattle.hashlink_core.proofs.Names.{moved_at, set_value_at, set_key_at, key_at, value_at}
 use Rattle.hashlink_core.proofs.Names.{RemovesMatch, slice_get_here, remove-place, from_part}
 use Rattle.std.specs.Prelude.{Option}
 use Rattle.hashlink_model.specs.MapState.{MapState, Changes, Removes, RemovesAt, MovesAt, SetsKeyAt}
@@ -84,12 +84,6 @@ module _ {K V : Type 0} where
   key-set_value_at (e ∷ es) zero (suc i) v = refl
   key-set_value_at (e ∷ es) (suc j) zero v = refl
   key-set_value_at (e ∷ es) (suc j) (suc i) v = key-set_value_at es j i v
-
-  pub length-replaced : (es : List (K × V)) (j : ℕ) (k : K) (v : V)
-      → length (replace_entry es j k v) ≡ length es
-  length-replaced [] j k v = refl
-  length-replaced (e ∷ es) zero k v = refl
-  length-replaced (e ∷ es) (suc j) k v = ap suc (length-replaced es j k v)
 
   -- a key and a value at a place are the pair there
   pub pair_from_parts : (es : List (K × V)) (j : ℕ) (k : K) (v : V) → key_at es j ≡ Some k

@@ -1,6 +1,6 @@
 -- A use of a key that may be absent, and a write through the value that it lends, which is the last one.
-use Rattle.std.specs.Prelude.{◌≡◌, ℕ, suc, ◌+◌, ◌-◌, ◌<◌, ◌≤◌, max, Bool, List, [], ◌∷◌, ◌++◌, length, take}
-use Rattle.std.specs.Prelude.{drop, Option, None, Some, IsSome, MatchOption, Result, Ok, IsOk, slice_get}
+use Rattle.std.specs.Prelude.{◌≡◌, ℕ, ◌+◌, ◌-◌, ◌<◌, ◌≤◌, max, Bool, List, [], ◌∷◌, ◌++◌, length, take}
+use Rattle.std.specs.Prelude.{drop, Option, None, Some, IsSome, MatchOption, Result, Ok, IsOk}
 use Rattle.std.specs.Borrow.{MutBor}
 use Rattle.std.proofs.lemmas.List.{length-append, drop-append-le}
 use Rattle.std.specs.Cmp.{IsEquivalence}
@@ -19,7 +19,7 @@ use Rattle.hashlink_model.proofs.Caches.{last_entries-end, last_entries-within, 
 use Rattle.std.proofs.lemmas.Bool.{cases_lt}
 use Rattle.hashlink_model.proofs.CacheSteps.{gets_hit, put_entries}
 use Rattle.hashlink_model.proofs.Finds.{stored_key-equal}
-use Rattle.hashlink_model.proofs.Places.{place_of_its_key, slice_get_here}
+use Rattle.hashlink_model.proofs.Places.{last_of-append, last_of-end, place_of_its_key}
 use Rattle.hashlink_model.proofs.Puts.{put_back, put_back_absent}
 use Rattle.hashlink_model.proofs.Splits.{none_from_lookup}
 use Rattle.hashlink_map.specs.EntryLends.{PutsLast}
@@ -29,24 +29,11 @@ use Rattle.hashlink_lru.specs.Cached.{StaysWithinOne}
 
 -- ---- the last entry of a list
 
-last-is : {X : Type 0} (xs : List X) (x : X) → last_of (xs ++ x ∷ []) ≡ Some x
-last-is xs x =
-    let n : length (xs ++ x ∷ []) - 1 ≡ length xs = omega (arith, length-append xs (x ∷ [])) in
-    rw (n, slice_get_here xs x []) refl
-
--- an end of a list has the same last entry
-last-end : {X : Type 0} (xs ys : List X) → 1 ≤ length ys → last_of (xs ++ ys) ≡ last_of ys
-last-end [] ys p = refl
-last-end (x ∷ xs) ys p =
-    let l = length-append xs ys in
-    let n : length (x ∷ (xs ++ ys)) - 1 ≡ suc (length (xs ++ ys) - 1) = omega arith in
-    ap (slice_get (x ∷ (xs ++ ys))) n ∙ last-end xs ys p
-
 last-kept : {K V : Type 0} (es : List (K × V)) (n : ℕ) → 1 ≤ n → last_of (last_entries es n) ≡ last_of es
 last-kept es n one =
     let few = length-last_entries es n in
     ⊎_elim (λ (all : length es < n). ap last_of (last_entries-within es n (omega arith)))
-    (λ (more : n ≤ length es). sym (last-end (take (length es - n) es) (last_entries es n) (omega arith))
+    (λ (more : n ≤ length es). sym (last_of-append (take (length es - n) es) (last_entries es n) (omega arith))
     ∙ ap last_of (last_entries-end es n)) (cases_lt (length es) n)
 
 last-written : {K V : Type 0} (es : List (K × V)) (k : K) (v w : V)
@@ -130,7 +117,7 @@ module _ {K V S : Type 0} (eq : K → K → Bool) (laws : IsEquivalence eq) (old
   hit_entry = (stored_key eq old.map.entries k, v)
 
   hit_last : last_of mid.map.entries ≡ Some hit_entry
-  hit_last = ap last_of (gets_hit eq old mid k v s) ∙ last-is (without eq old.map.entries k) hit_entry
+  hit_last = ap last_of (gets_hit eq old mid k v s) ∙ last_of-end (without eq old.map.entries k) hit_entry
 
   -- a value that is written there is written as by `get_mut`
   hit_written : IsEntries eq old.map.entries → (w : V)
@@ -163,7 +150,7 @@ module _ {K V S : Type 0} (eq : K → K → Bool) (Makes : V → Type 0) (old : 
   last_is : option_map (λ e. e.1) (last_of new.entries) ≡ Some m.0
   last_is =
       ap (λ es. option_map (λ e. e.1) (last_of es)) end_is
-      ∙ ap (option_map (λ e. e.1)) (last-is (without eq old.entries k) (stored_key eq old.entries k, m.0))
+      ∙ ap (option_map (λ e. e.1)) (last_of-end (without eq old.entries k) (stored_key eq old.entries k, m.0))
 
   -- so its value is the lent one
   pub lent_value : (v : V) → Some v ≡ option_map (λ e. e.1) (last_of new.entries)

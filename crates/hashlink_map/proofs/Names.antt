@@ -9,7 +9,7 @@ pub use Rattle.hashlink_core.proofs.Mapped.{values-renewed_value}
 pub use Rattle.hashlink_core.proofs.Neighbours.{before-suc}
 pub use Rattle.hashlink_core.proofs.Places.{IsNodeAt, around, following-within, node-at, place_number-renewed}
 pub use Rattle.hashlink_core.proofs.Places.{renewed_at-is}
-pub use Rattle.hashlink_core.proofs.Steps.{length-replaced, lookup-place, lookup-unplaced, lookup_entry-place}
+pub use Rattle.hashlink_core.proofs.Steps.{lookup-place, lookup-unplaced, lookup_entry-place}
 pub use Rattle.hashlink_core.proofs.Steps.{lookup_entry-unplaced, none_passes_from_place, some_from_part}
 pub use Rattle.hashlink_core.proofs.Steps.{then_moves}
 pub use Rattle.hashlink_core.proofs.Walk.{in-order, in-reverse, slice_get-drop, within-holds}

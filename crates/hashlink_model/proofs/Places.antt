@@ -2,7 +2,8 @@
 use Rattle.hashlink_model.proofs.Names.{◌≡◌, ℕ, zero, suc, Bool, true, List, [], ◌∷◌, ◌++◌, length, slice_get}
 use Rattle.hashlink_model.proofs.Names.{Some, ap, refl, ◌∙◌, subst, arith, IsEquivalence, lookup_entry}
 use Rattle.hashlink_model.proofs.Names.{NonePasses, none-some, same_Some, IsEntries, place_of, place_or_end}
-use Rattle.hashlink_model.proofs.Names.{stored_key}
+use Rattle.hashlink_model.proofs.Names.{stored_key, ◌-◌, ◌≤◌, length-append}
+use Rattle.hashlink_model.specs.Walk.{last_of}
 use Rattle.hashlink_model.proofs.Splits.{place_of-here, lookup_entry-here}
 use Rattle.hashlink_model.proofs.Distinct.{none_equal, none_others, each-left}
 use Rattle.hashlink_model.proofs.Finds.{lookup_key_is}
@@ -11,6 +12,20 @@ module _ {X : Type 0} where
   pub slice_get_here : (xs : List X) (x : X) (ys : List X) → slice_get (xs ++ x ∷ ys) (length xs) ≡ Some x
   slice_get_here [] x ys = refl
   slice_get_here (z ∷ xs) x ys = slice_get_here xs x ys
+
+  -- the last of a list
+  pub last_of-end : (xs : List X) (x : X) → last_of (xs ++ x ∷ []) ≡ Some x
+  last_of-end xs x =
+      let n : length (xs ++ x ∷ []) - 1 ≡ length xs = omega (arith, length-append xs (x ∷ [])) in
+      rw (n, slice_get_here xs x []) refl
+
+  -- an end of a list has the same last
+  pub last_of-append : (xs ys : List X) → 1 ≤ length ys → last_of (xs ++ ys) ≡ last_of ys
+  last_of-append [] ys some = refl
+  last_of-append (x ∷ xs) ys some =
+      let l = length-append xs ys in
+      let n : length (x ∷ (xs ++ ys)) - 1 ≡ suc (length (xs ++ ys) - 1) = omega arith in
+      ap (slice_get (x ∷ (xs ++ ys))) n ∙ last_of-append xs ys some
 
   -- a list split at a place
   pub split_at : (xs : List X) (i : ℕ) (x : X) → slice_get xs i ≡ Some x

@@ -1,16 +1,16 @@
 -- A change through an entry is a step at the place of its key.
-use Rattle.hashlink_run.proofs.Names.{◌≡◌, ℕ, ◌-◌, Bool, List, [], ◌∷◌, ◌++◌, length, slice_get, Option, None}
-use Rattle.hashlink_run.proofs.Names.{Some, refl, sym, ap, ap₂, ◌∙◌, subst, arith, true, false, lookup_entry}
+use Rattle.hashlink_run.proofs.Names.{◌≡◌, ℕ, ◌-◌, Bool, List, length, slice_get, Option, None}
+use Rattle.hashlink_run.proofs.Names.{Some, refl, sym, ap, ap₂, ◌∙◌, subst, true, false, lookup_entry}
 use Rattle.hashlink_run.proofs.Names.{option_map, same_Some, place_of, MapState, EntryStep}
 use Rattle.hashlink_run.proofs.Names.{Reply, OccupiedStep, VacantStep, EntrySteps}
-use Rattle.std.proofs.Common.{length-append, nat_lt, if◌then◌else◌}
+use Rattle.std.proofs.Common.{nat_lt, if◌then◌else◌}
 use Rattle.std.specs.Prelude.{insert, remove}
 use Rattle.std.proofs.lemmas.Option.{none-some}
 use Rattle.hashlink_model.specs.Entries.{moved_at}
-use Rattle.hashlink_model.specs.Entry.{EntryState, entry_of, key_at, value_at, TakesEntry}
+use Rattle.hashlink_model.specs.Entry.{EntryState, entry_of, value_at, TakesEntry}
 use Rattle.hashlink_model.specs.MapState.{AddsEntry, MovesAt, RemovesAt}
-use Rattle.hashlink_model.proofs.ByPlace.{moved_at-last}
-use Rattle.hashlink_model.proofs.Places.{split_at, slice_get_here}
+use Rattle.hashlink_model.proofs.Places.{slice_get_here}
+use Rattle.hashlink_map.proofs.AtNode.{last-moved}
 use Rattle.hashlink_model.proofs.Splits.{stands_from_place, lookup_entry-here}
 
 module _ {K V B S : Type 0} (eq : K → K → Bool) (Says : K → V → B → Type 0) {m : MapState K V S} {k : K}
@@ -36,34 +36,6 @@ added {eq = eq} {old} {new} {k} {b = b} same adds = subst (λ v. AddsEntry eq ol
 -- ---- the pair that is read
 
 module _ {K V : Type 0} where
-  pub pair_at : (es : List (K × V)) (j : ℕ) (k : K) (v : V) → key_at es j ≡ Some k → value_at es j ≡ Some v
-      → slice_get es j ≡ Some (k, v)
-  pair_at es j k v key value = by (slice_get es j) key value
-    where
-      by : (o : Option (K × V)) → option_map (λ e. e.0) o ≡ Some k → option_map (λ e. e.1) o ≡ Some v
-          → o ≡ Some (k, v)
-      by None key value = absurd (none-some k key)
-      by (Some e) key value =
-          let first : e.0 ≡ k = same_Some e.0 k key in
-          let second : e.1 ≡ v = same_Some e.1 v value in
-          ap (λ k. Some (k, e.1)) first ∙ ap (λ v. Some (k, v)) second
-
-  end_of_moved : (xs : List (K × V)) (e : K × V) (ys : List (K × V))
-      → slice_get (moved_at (xs ++ e ∷ ys) (length xs) (length (xs ++ e ∷ ys))) (length (xs ++ e ∷ ys) - 1)
-      ≡ Some e
-  end_of_moved xs e ys =
-      let n : length (xs ++ e ∷ ys) - 1 ≡ length (xs ++ ys) =
-      omega (arith, length-append xs (e ∷ ys), length-append xs ys) in
-      rw (moved_at-last xs e ys, n) (slice_get_here (xs ++ ys) e [])
-
-  -- an entry that moves to the end is the last one
-  moved_to_end : (es : List (K × V)) (j : ℕ) (e : K × V) → slice_get es j ≡ Some e
-      → slice_get (moved_at es j (length es)) (length es - 1) ≡ Some e
-  moved_to_end es j e at =
-      let s = split_at es j e at in
-      ap₂ (λ zs n. slice_get (moved_at zs n (length zs)) (length zs - 1)) s.2 (sym s.3)
-      ∙ end_of_moved s.0 e s.1
-
   first_inserted : (es : List (K × V)) (e : K × V) (b : Bool)
       → slice_get (insert es (if b then 0 - 1 else 0) e) 0 ≡ Some e
   first_inserted es e true = refl
@@ -98,7 +70,7 @@ module _ {K V S : Type 0} (eq : K → K → Bool) {m : MapState K V S} {k : K} {
     pub there_at_end : MovesAt old new j (length old.entries) → Some p ≡ Some (length old.entries - 1)
         → slice_get new.entries p ≡ slice_get old.entries j
     there_at_end moves end =
-        ap₂ slice_get moves.entries (same_Some _ _ end) ∙ moved_to_end old.entries j stands.0 stands.1
+        ap₂ slice_get moves.entries (same_Some _ _ end) ∙ last-moved old.entries j stands.0 stands.1
         ∙ sym stands.1
 
     pub there_at_front : MovesAt old new j 0 → Some p ≡ Some 0

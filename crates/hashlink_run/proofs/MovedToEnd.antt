@@ -1,9 +1,8 @@
 -- A pair that moved to an end with its value unchanged: it is the pair at that end.
-use Rattle.hashlink_run.proofs.Names.{◌≡◌, ℕ, ◌-◌, Bool, List, [], ◌∷◌, ◌++◌, length, Option, None, Some}
-use Rattle.hashlink_run.proofs.Names.{refl, sym, ap, ◌∙◌, subst, arith, MatchOption, lookup, lookup_entry}
+use Rattle.hashlink_run.proofs.Names.{◌≡◌, ℕ, Bool, List, [], ◌∷◌, length, Option, None, Some}
+use Rattle.hashlink_run.proofs.Names.{refl, sym, ap, ◌∙◌, subst, MatchOption, lookup, lookup_entry}
 use Rattle.hashlink_run.proofs.Names.{option_map, lookup_is, none_from_lookup, first_of, MapState}
 use Rattle.hashlink_run.proofs.Names.{Replies, Seen}
-use Rattle.std.proofs.Common.{length-append}
 use Rattle.std.specs.Cmp.{IsEquivalence}
 use Rattle.std.proofs.lemmas.Map.Steps.{set_value_same}
 use Rattle.hashlink_model.specs.Entries.{IsEntries, moved, stored_key, without}
@@ -12,7 +11,7 @@ use Rattle.hashlink_model.specs.Steps.{Moves, MovesAndWrites}
 use Rattle.hashlink_model.specs.Walk.{last_of}
 use Rattle.hashlink_model.proofs.Afterwards.{lookup-moved, moved-there}
 use Rattle.hashlink_model.proofs.Finds.{lookup_key_is}
-use Rattle.hashlink_model.proofs.Places.{slice_get_here}
+use Rattle.hashlink_model.proofs.Places.{last_of-end}
 use Rattle.hashlink_model.proofs.Puts.{put_back, put_front}
 use Rattle.hashlink_model.proofs.Splits.{lookup_entry-none}
 
@@ -31,11 +30,6 @@ module _ {K V : Type 0} (eq : K → K → Bool) (es : List (K × V)) (k : K) (v 
   first_of-moved =
       ap first_of (moved-there eq es k 0 v found ∙ put_front eq es k v)
       ∙ sym (stored_pair (lookup_entry (eq k) es) refl)
-
-  last_of-end : (xs : List (K × V)) (e : K × V) → last_of (xs ++ e ∷ []) ≡ Some e
-  last_of-end xs e =
-      let n : length (xs ++ e ∷ []) - 1 ≡ length xs = omega (arith, length-append xs (e ∷ [])) in
-      rw (n, slice_get_here xs e []) refl
 
   last_of-moved : last_of (moved eq es k (length es)) ≡ lookup_entry (eq k) es
   last_of-moved =

@@ -1,22 +1,17 @@
 -- Which element is the last one after an insert or a move.
-use Rattle.hashlink_set.proofs.Names.{◌≡◌, ℕ, ◌-◌, Result, Bool, true, false, List, [], ◌∷◌, ◌++◌, length}
+use Rattle.hashlink_set.proofs.Names.{◌≡◌, ℕ, Result, Bool, true, false, List, [], ◌∷◌, length}
 use Rattle.hashlink_set.proofs.Names.{Option, None, Some, Ok, Err, is_some, refl, sym, ap, subst, ◌∙◌, arith}
 use Rattle.hashlink_set.proofs.Names.{IfOk, IfErr, IsEquivalence, find, keys_of, is_member, remove_key}
 use Rattle.hashlink_set.proofs.Names.{is_some-lookup, SetState, elements_of, put_element, stored_element}
 use Rattle.hashlink_set.proofs.Names.{SetInserts, SetReplaces, Moves, last_of, set_inserts, set_replaces}
 use Rattle.hashlink_set.proofs.Names.{as_value, GetsOrMakes}
-use Rattle.std.proofs.Common.{unwrap_or, length-append}
+use Rattle.std.proofs.Common.{unwrap_or}
 use Rattle.std.specs.List.{IsDistinct}
 use Rattle.std.proofs.lemmas.Map.Entries.{length-keys_of}
 use Rattle.hashlink_model.specs.MapState.{AddsEntry, RefusesEntry}
-use Rattle.hashlink_model.proofs.Places.{slice_get_here}
+use Rattle.hashlink_model.proofs.Places.{last_of-end}
 use Rattle.hashlink_model.proofs.SetElements.{moves_elements, put_element_back}
 use Rattle.hashlink_model.proofs.SetSteps.{IsDistinct-replaced}
-
-last_of-end : {X : Type 0} (xs : List X) (x : X) → last_of (xs ++ x ∷ []) ≡ Some x
-last_of-end xs x =
-    let n : length (xs ++ x ∷ []) - 1 ≡ length xs = omega (arith, length-append xs (x ∷ [])) in
-    rw (n, slice_get_here xs x []) refl
 
 pub is_some-find : {T : Type 0} (eq : T → T → Bool) (t : T) (ts : List T) → is_some (find (eq t) ts)
     ≡ is_member eq ts t

@@ -13,7 +13,7 @@ use Rattle.hashlink_model.proofs.Puts.{put_back}
 use Rattle.hashlink_model.proofs.Weighted.{fitting-end, length-weighted_put}
 use Rattle.hashlink_weighted.specs.Answers.{Accepts, without_weight}
 use Rattle.hashlink_weighted.specs.Weighed.{LastWeighs, weight_or_none}
-use Rattle.hashlink_weighted.proofs.Lasts.{last_is, last_of_end}
+use Rattle.hashlink_model.proofs.Places.{last_of-append, last_of-end}
 use Rattle.hashlink_weighted.proofs.Totals.{last_weighs, total-without}
 
 module _ {K V S : Type 0} (eq : K → K → Bool) (old between : MapState K (V × ℕ) S) (k : K) (v : V)
@@ -57,7 +57,7 @@ pub last_put : {K V : Type 0} (eq : K → K → Bool) (es : List (K × (V × ℕ
     → last_of (weighted_put eq es budget k v weight) ≡ Some (stored_key eq es k, (v, weight))
 last_put eq es budget k v weight n =
     let s = fitting-end (put eq es k (v, weight) (length es)) budget in
-    sym (last_of_end s.0 (weighted_put eq es budget k v weight)
+    sym (last_of-append s.0 (weighted_put eq es budget k v weight)
     (length-weighted_put eq es budget k v weight n))
     ∙ ap last_of (sym s.1 ∙ put_back eq es k (v, weight))
-    ∙ last_is (without eq es k) (stored_key eq es k, (v, weight))
+    ∙ last_of-end (without eq es k) (stored_key eq es k, (v, weight))

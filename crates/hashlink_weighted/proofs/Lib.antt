@@ -1,6 +1,5 @@
 pub mod Dropping
 pub mod Evicting
 pub mod Inserted
-pub mod Lasts
 pub mod Moved
 pub mod Totals

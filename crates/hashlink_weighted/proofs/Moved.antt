@@ -11,7 +11,7 @@ use Rattle.hashlink_model.proofs.Afterwards.{moved-there}
 use Rattle.hashlink_model.proofs.NodeCounts.{moves_entries}
 use Rattle.hashlink_model.proofs.Puts.{put_back}
 use Rattle.hashlink_model.proofs.Splits.{stands_from_lookup}
-use Rattle.hashlink_weighted.proofs.Lasts.{last_is}
+use Rattle.hashlink_model.proofs.Places.{last_of-end}
 
 -- a present key is the last one afterwards, with its value
 pub last_value_match : {K V S : Type 0} (test : K → Bool) (old new : MapState K V S)
@@ -30,4 +30,4 @@ last_value_match {K} {V} test old new s there = by (lookup test old.entries) ref
         let split = moves_entries eq old new k (length es) (lookup test es) s
         ∙ moved-there eq es k (length es) w l ∙ put_back eq es k w in
         ap (λ zs. option_map (λ e. e.1) (last_of zs)) split
-        ∙ ap (option_map (λ e. e.1)) (last_is (without eq es k) (stored_key eq es k, w))
+        ∙ ap (option_map (λ e. e.1)) (last_of-end (without eq es k) (stored_key eq es k, w))

@@ -1,5 +1,6 @@
 use Rattle.hashlink_map.proofs.Names.{length, ap, ◌∙◌, subst, entries_of, state_of, then_moves}
-use Rattle.hashlink_map.proofs.Names.{length-replaced, IsEntries}
+use Rattle.hashlink_model.proofs.Occupied.{length-replace_entry}
+use Rattle.hashlink_map.proofs.Names.{IsEntries}
 use Rattle.hashlink_map.proofs.EntryUpdates.{updates-pair_last}
 use Rattle.hashlink_map.proofs.map.LinkedHashMap.put_pair_last.Goals as goal
 
@@ -7,7 +8,7 @@ pub returns-clause-inserts : goal.returns-clause-inserts
 returns-clause-inserts g c =
     let first = c.replace_pair_at-old.ensures in
     let same = ap length first.replaces.step.entries
-    ∙ length-replaced (entries_of c.args.self.now) _ c.args.key c.args.value in
+    ∙ length-replace_entry (entries_of c.args.self.now) _ c.args.key c.args.value in
     record {
       answer = first.replaces.answer;
       step = then_moves _ _ _ _ first.replaces.step _ _ _ _ first.stays.place same
