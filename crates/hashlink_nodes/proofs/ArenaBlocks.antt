@@ -7,7 +7,9 @@ use Names.{Lft, fat, froom, Logic, sem, Item, Goal, Seq, ‵, raw, prop, mean, s
 use Names.{move, keep, use1, use2, pick, drop, flt_l, flt_i, Step, step, split, fsplit, fsplit3, fjoin, done}
 use Names.{Model, Ty, Val, full_share, fact, fact_i, fact_use, lone, part_out, RattleType, Ptr, block_ptr}
 use Names.{null_ptr, block_lent, block_owns, blocks_lent, blocks_own, links_offset, is_small, Links, Kept}
-use Names.{alter, entry_in, same_node, Node}
+use Names.{alter, entry_in, same_node, Node, ap, option_map, ty_int, w64, vint, number_word, number_offset}
+use Names.{number_of, pair_owns, lies_at, links_of, deed_owns, fsep, in_a_block, rewrite, usize, uint_out}
+use Names.{fjoin}
 
 -- what a lookup found
 pub found : {X : Type 0} (o : Option X) → IsSome o → (x : X) × (o ≡ Some x)
@@ -17,8 +19,10 @@ found None t = absurd (cc t)
 -- the entry of the block that a lookup found
 pub found_entry : {T : Type 0} (o : Option (Kept T)) → IsSome (entry_in o)
     → (k : Kept T) × (e : ℕ × T) × (o ≡ Some k) × (k.entry ≡ Some e)
+    × (option_map (λ (x : ℕ × T). x.1) (entry_in o) ≡ Some e.1)
 found_entry None t = absurd (cc t)
-found_entry (Some k) t = let e = found k.entry t in (k, e.0, refl, e.1)
+found_entry {T} (Some k) t =
+    let e = found k.entry t in (k, e.0, refl, e.1, ap (option_map (λ (x : ℕ × T). x.1)) e.1)
 
 module _ (R : RattleType) {M : Type 1} {𝓤 : Ura M} (𝓛 : Logic 𝓤) (n : Node) where
   abbrev Entries : Type 0
@@ -129,6 +133,29 @@ module _ {M : Type 1} {𝓤 : Ura M} {𝓛 : Logic 𝓤} {K : Type 0} {Γ : List
       let shown : Seq K 𝓛 (i ∷ j ∷ Γ) (prop (fact 𝓤 φ)) = use2 𝓛 (raw (fact 𝓤 φ)) h $
       keep t (0 ∷ []) $ done t in
       record { prf = fact_use 𝓤 φ shown.prf (λ x. (k x).prf) }
+
+  -- the block of n is taken out of an arena's, and its address is known. Then come its number, the pair that
+  -- it holds or room for one, and the links with the deed
+  pub block_out : (R : RattleType) → K → (n : Node) (bs : List (Node × Kept R.Denot)) (k : Kept R.Denot)
+      (entry : Option (ℕ × R.Denot)) → lookup (same_node n) bs ≡ Some k → k.entry ≡ entry
+      → ((b o : ℕ) → n.at ≡ block_ptr b o
+      → Seq K 𝓛 (‵ (fat full_share (ty_int w64) b (o + number_offset R) (vint w64 (number_word entry)))
+      ∷ ‵ (pair_owns R (block_ptr b o) entry)
+      ∷ ‵ (fsep (lies_at Links full_share (links_of R (block_ptr b o)) k.links) (deed_owns R (block_ptr b o)))
+      ∷ ‵ (blocks_own R (remove_entry (same_node n) bs)) ∷ Γ) G)
+      → Seq K 𝓛 (‵ (blocks_own R bs) ∷ Γ) G
+  block_out R t n bs k entry is_k is_entry go =
+      use1 𝓛 (‵ (block_owns R n.at k) ⊛ ‵ (blocks_own R (remove_entry (same_node n) bs)))
+      (blocks_cut R 𝓛 n bs k is_k) $ split t $ fsplit3 t $ move t (2 ∷ []) $ fsplit t $
+      in_a_block t n.at (λ p. lies_at Links full_share (links_of R p) k.links) (id⊢ 𝓤 (never 𝓤)) (λ b o e.
+      move t (1 ∷ []) $ rewrite t 0 (λ (p : Ptr). ‵ (deed_owns R p)) e refl $ move t (1 ∷ 0 ∷ []) $ fjoin t $
+      move t (1 ∷ []) $ rewrite t 0 (λ (x : Ptr × Option (ℕ × R.Denot)). ‵ (pair_owns R x.0 x.1))
+      (λ i. (e i, is_entry i)) refl $ move t (2 ∷ []) $
+      rewrite t 0 (λ (x : Ptr × Option (ℕ × R.Denot)). ‵ (fsep (is_small R x.1)
+      (lies_at usize full_share (number_of R x.0) (number_word x.1)))) (λ i. (e i, is_entry i)) refl $
+      fsplit t $ drop t $
+      use1 𝓛 (‵ (fat full_share (ty_int w64) b (o + number_offset R) (vint w64 (number_word entry))))
+      (uint_out 𝓛 full_share w64 (number_word entry) b (o + number_offset R)) $ go b o e)
 
   -- the bound on a number becomes known
   pub small_seen : (R : RattleType) → K → (e : Option (ℕ × R.Denot))

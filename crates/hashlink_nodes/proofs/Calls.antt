@@ -1,20 +1,21 @@
 -- Lemmas for the calls of a ring, each from the ring as it is opened to the ring as it is closed.
 use Rattle.hashlink_nodes.proofs.Names
 use Names.{◌≡◌, ℕ, ◌+◌, ◌-◌, ◌^◌, ◌<◌, [], ◌∷◌, ◌++◌, length, Option, Some, None, refl, sym, ap, ◌∙◌, subst}
-use Names.{arith, keys_of, unwrap_or, remove_entry, set_value, option_map, append-nil}
-use Names.{append_assoc, is_some, lookup, same_node-refl, Holds, IsDistinct, IsDistinct-head}
-use Names.{length-drop, length-set_value, Node, Inside, same_node, state_of, Ring, ring, Held, IsRing}
-use Names.{IsSound, SoundAt, ring_of, State, GuardIs, attached, detached, hold, store_next, Adds, Drops}
-use Names.{AreThere, IsPlace, put_before, put_after, held, pair_of, with_number}
+use Names.{arith, keys_of, unwrap_or, remove_entry, set_value, option_map, append-nil, is_some, IsSome, true}
+use Names.{lookup, same_node-refl, Holds, IsDistinct, IsDistinct-head, IsDistinct-tail, List, length-drop}
+use Names.{length-set_value, Node, Inside, same_node, state_of, Ring, ring, Held, IsRing, IsSound, SoundAt}
+use Names.{ring_of, State, GuardIs, attached, detached, hold, store_next, Adds, Drops, AreThere, IsPlace}
+use Names.{put_before, put_after, held, pair_of, with_number}
 use Rattle.std.proofs.Common.{drop}
 use Rattle.hashlink_nodes.specs.declared.pool.Pool.{Pool}
-use Rattle.hashlink_nodes.proofs.Paths.{head_or, last_or, Off, IsOff, all_left, to_front}
+use Rattle.hashlink_nodes.proofs.Paths.{head_or, last_or, flip, off_last}
 use Rattle.hashlink_nodes.proofs.Cuts.{Gap, before_place, after_place, same_some}
 use Rattle.hashlink_nodes.proofs.Rings.{Linked, linked, attach, Entries, detach, held_out}
 use Rattle.hashlink_nodes.proofs.Rings.{holds_now, held_now, added, dropped, spared, take_spare, renew, Taken}
-use Rattle.hashlink_nodes.proofs.Rings.{guarded, held_anew, keys-append}
-use Rattle.hashlink_nodes.proofs.Opening.{length-gap, Leaves, NodeAt, Opened, leaves, length-removed, opened}
-use Rattle.hashlink_nodes.proofs.Opening.{empty, known}
+use Rattle.hashlink_nodes.proofs.Rings.{guarded, held_anew}
+use Rattle.hashlink_nodes.proofs.Opening.{length-gap, Leaves, NodeAt, leaves, length-removed, opened}
+use Rattle.hashlink_nodes.proofs.Opening.{empty, known, shrinks, node_in, spare_guard, ring_facts}
+use Rattle.hashlink_nodes.proofs.Neighbours.{neighbours}
 
 module _ {K V : Type 0} where
   -- ---- an entry is inserted
@@ -76,7 +77,7 @@ module _ {K V : Type 0} where
 
     cut_open : IsRing s [] g first
         (ring (at.cut.before ++ (n, at.cut.value) ∷ at.cut.after) v.free v.link_writes)
-    cut_open = subst (λ es. IsRing s [] g first (ring es v.free v.link_writes)) at.cut.is at.whole.ring
+    cut_open = subst (λ es. IsRing s [] g first (ring es v.free v.link_writes)) at.cut.is at.ring
 
     -- it holds another entry
     pub set_held : {s' : State K V} (w : Held K V) → s' ≡ hold n (Some w) s
@@ -85,7 +86,7 @@ module _ {K V : Type 0} where
         leaves at.is
         (subst (λ es. IsRing s' [] g first (ring es v.free v.link_writes)) (sym (at.cut.renewed w))
         (renew n at.cut.value at.cut.before at.cut.after cut_open w is))
-        (length-set_value (same_node n) v.entries w ∙ at.whole.is_len) at.whole.is_spare
+        (length-set_value (same_node n) v.entries w ∙ at.facts.is_len) at.facts.is_spare
 
     pub renewed : {s' : State K V} (change : Held K V → Held K V)
         → s' ≡ hold n (option_map change (s.held n)) s
@@ -117,14 +118,14 @@ module _ {K V : Type 0} where
         → Leaves s₃ guard n (len - 1) (spare + 1) (ring rest (n ∷ v.free) (v.link_writes + 2 + 1))
     removed {s₁} is₁ is₂ is₃ =
         leaves at.is (spared (holds_now (taken_out is₁) None is₂) (held_now s₁ is₂) is₃)
-        (omega (arith, length-removed v.entries at.cut, at.whole.is_len)) (omega (arith, at.whole.is_spare))
+        (omega (arith, length-removed v.entries at.cut, at.facts.is_len)) (omega (arith, at.facts.is_spare))
 
     -- or its block is freed
     pub gone : {s₁ s₂ s₃ : State K V} → s₁ ≡ detached n s → s₂ ≡ hold n None s₁ → Drops n s₂ s₃
         → Leaves s₃ guard first (len - 1) spare (ring rest v.free (v.link_writes + 2))
     gone is₁ is₂ drops =
         leaves at.is (dropped (holds_now (taken_out is₁) None is₂) drops)
-        (omega (arith, length-removed v.entries at.cut, at.whole.is_len)) at.whole.is_spare
+        (omega (arith, length-removed v.entries at.cut, at.facts.is_len)) at.facts.is_spare
 
     -- or it can be inserted elsewhere
     pub ready_moved : {s₁ : State K V} → s₁ ≡ detached n s
@@ -132,47 +133,89 @@ module _ {K V : Type 0} where
     ready_moved is = record {
       ring = taken_out is;
       holds = held_out at.here is;
-      is_len = length-removed v.entries at.cut ∙ at.whole.is_len;
-      is_spare = at.whole.is_spare;
+      is_len = length-removed v.entries at.cut ∙ at.facts.is_len;
+      is_spare = at.facts.is_spare;
     }
 
+  -- ---- the steps in between
+  -- a block that was written, and what it holds now
+  module _ (p q : Pool K V) (m : Node) (o : Option (Held K V)) (is : state_of q ≡ hold m o (state_of p)) where
+    pub bare_now : o ≡ None → (state_of q).held m ≡ None
+    bare_now none = held_now (state_of p) is ∙ none
+
+    pub has_yet : (state_of p).has m ≡ true → (state_of q).has m ≡ true
+    unfolding hold
+    has_yet h = ap (λ (t : State K V). t.has m) is ∙ h
+
+  -- a node that is taken out still holds its entry
+  module _ {n : Inside K V} (sound : IsSound n) {v : Ring K V} (view : ring_of n ≡ v) (m : Node)
+      (there : Holds v.entries m) (p : Pool K V) (is : state_of p ≡ detached m (state_of n.pool)) where
+    pub holds_out : IsSome ((state_of p).held m)
+    holds_out = ap is_some (held_out (node_in sound view m there).here is)
+
+    pub has_out : (state_of p).has m ≡ true
+    has_out = (taken_out (node_in sound view m there) is).there.0
+
+  -- ---- the first free node
+  module _ {n : Inside K V} (sound : IsSound n) {v : Ring K V} (view : ring_of n ≡ v) where
+    abbrev s : State K V
+    s = state_of n.pool
+
+    abbrev v' : Ring K V
+    v' = ring v.entries (drop 1 v.free) v.link_writes
+
+    -- it is taken from the free list
+    taken : {g : Node} → n.guard ≡ Some g → 0 < length v.free → Taken s g n.first_spare v
+    taken {g} is some =
+        take_spare s g n.first_spare v.entries v.free v.link_writes (opened sound view is) some
+
+    here : (some : 0 < length v.free) → Taken s (spare_guard sound view some).0 n.first_spare v
+    here some = taken (spare_guard sound view some).1 some
+
+    some_free : 0 < n.spare → 0 < length v.free
+    some_free some = omega (arith, some, (known sound view).is_spare)
+
+    -- it has a block, which holds nothing
+    pub spare_has : 0 < n.spare → s.has n.first_spare ≡ true
+    spare_has some = (here (some_free some)).has_node
+
+    pub spare_bare : 0 < n.spare → s.held n.first_spare ≡ None
+    spare_bare some = (here (some_free some)).bare
+
+    -- it holds an entry, which can be inserted
+    pub ready_spare : {s' : State K V} {g first' : Node} {h : Held K V} → n.guard ≡ Some g → 0 < n.spare
+        → first' ≡ s.next n.first_spare → s' ≡ hold n.first_spare (Some h) s
+        → Ready s' n.first_spare g first' h (n.len + 1) (n.spare - 1) v'
+    ready_spare {s'} {g} {h = h} is_guard some is_first is =
+        let k = known sound view in record {
+          ring = subst (λ m. IsRing s' (n.first_spare ∷ []) g m v') (sym is_first)
+              (holds_now (taken is_guard (some_free some)).ring (Some h) is);
+          holds = held_now s is;
+          is_len = omega (arith, k.is_len);
+          is_spare = omega (arith, length-drop 1 v.free, k.is_spare);
+        }
+
+    -- its block is freed
+    pub spare_gone : {s' : State K V} {first' : Node} → 0 < length v.free → first' ≡ s.next n.first_spare
+        → Drops n.first_spare s s' → Leaves s' n.guard first' n.len (n.spare - 1) v'
+    spare_gone {s'} some is_first drops =
+        let k = known sound view in
+        subst (λ m. Leaves s' n.guard m n.len (n.spare - 1) v') (sym is_first)
+        (leaves (spare_guard sound view some).1 (dropped (here some).ring drops) k.is_len
+        (omega (arith, length-drop 1 v.free, k.is_spare)))
+
   -- ---- a new entry
-  -- the first free node
-  pub spare_of : {s : State K V} {g first : Node} {len spare : ℕ} {v : Ring K V}
-      → Opened s g first len spare v → 0 < spare → Taken s g first v
-  spare_of {s} {g} {first} {v = v} o some =
-      take_spare s g first v.entries v.free v.link_writes o.ring (omega (arith, some, o.is_spare))
-
-  pub ready_spare : {n : Inside K V} {s' : State K V} {g first' : Node} {h : Held K V} {v : Ring K V}
-      → IsSound n → ring_of n ≡ v → n.guard ≡ Some g → 0 < n.spare
-      → first' ≡ (state_of n.pool).next n.first_spare → s' ≡ hold n.first_spare (Some h) (state_of n.pool)
-      → Ready s' n.first_spare g first' h (n.len + 1) (n.spare - 1)
-      (ring v.entries (drop 1 v.free) v.link_writes)
-  ready_spare {n} {s'} {g} {h = h} {v} sound view is_guard some is_first is =
-      let o = opened sound view is_guard in let v' = ring v.entries (drop 1 v.free) v.link_writes in record {
-        ring = subst (λ m. IsRing s' (n.first_spare ∷ []) g m v') (sym is_first)
-            (holds_now (spare_of o some).ring (Some h) is);
-        holds = held_now (state_of n.pool) is;
-        is_len = omega (arith, o.is_len);
-        is_spare = omega (arith, length-drop 1 v.free, o.is_spare);
-      }
-
   -- there is a guard, or it was made
-  pub guarded_now : {n : Inside K V} {s' : State K V} {g : Node} {v : Ring K V} → IsSound n → ring_of n ≡ v
-      → GuardIs (state_of n.pool) s' n.guard g
-      → Opened s' g n.first_spare n.len n.spare v
-  guarded_now {n} {s'} {g} {v} sound view is = (elim n.guard as
-      (λ (o : Option Node). n.guard ≡ o → GuardIs (state_of n.pool) s' o g
-      → Opened s' g n.first_spare n.len n.spare v) [
+  guarded_now : {n : Inside K V} {s' : State K V} {g : Node} {v : Ring K V} → IsSound n → ring_of n ≡ v
+      → GuardIs (state_of n.pool) s' n.guard g → IsRing s' [] g n.first_spare v
+  guarded_now {n} {s'} {g} {v} sound view is = (elim n.guard as (λ (o : Option Node). n.guard ≡ o
+      → GuardIs (state_of n.pool) s' o g → IsRing s' [] g n.first_spare v) [
         | None ↦ λ none m.
             let h = subst (λ o. SoundAt (state_of n.pool) o n.first_spare n.len n.spare) none sound.at in
-            subst (Opened s' g n.first_spare n.len n.spare) (sym (empty sound view none)) (record {
-              ring = guarded n.first_spare h.2 (ap (λ (r : Ring K V). r.link_writes) view) m;
-              is_len = sym h.0;
-              is_spare = sym h.1;
-            })
+            subst (IsRing s' [] g n.first_spare) (sym (empty sound view none))
+            (guarded n.first_spare h.2 (ap (λ (r : Ring K V). r.link_writes) view) m)
         | Some x ↦ λ some m.
-            subst (λ (t : State K V × Node). Opened t.0 t.1 n.first_spare n.len n.spare v)
+            subst (λ (t : State K V × Node). IsRing t.0 [] t.1 n.first_spare v)
             (λ i. (sym m.1 i, sym m.0 i)) (opened sound view some)
       ]) refl is
 
@@ -181,117 +224,96 @@ module _ {K V : Type 0} where
       → GuardIs (state_of n.pool) (state_of p) n.guard g → p' ≡ p
       → Leaves (state_of p') (Some g) n.first_spare n.len n.spare v
   guard_stays {n} {g = g} {v} sound view is_guard same =
-      let o = guarded_now sound view is_guard in
+      let k = known sound view in
       subst (λ (x : Pool K V). Leaves (state_of x) (Some g) n.first_spare n.len n.spare v) (sym same)
-      (leaves refl o.ring o.is_len o.is_spare)
+      (leaves refl (guarded_now sound view is_guard) k.is_len k.is_spare)
 
   -- a new node
   pub ready_new : {n : Inside K V} {s s₁ s₂ : State K V} {m g : Node} {h : Held K V} {v : Ring K V}
       → IsSound n → ring_of n ≡ v → GuardIs (state_of n.pool) s n.guard g → v.free ≡ [] → n.len + 1 < 2 ^ 63
       → Adds m s s₁ → s₂ ≡ hold m (Some h) s₁ → Ready s₂ m g n.first_spare h (n.len + 1) n.spare v
   ready_new {s₁ = s₁} {h = h} sound view is_guard none few a is =
-      let o = guarded_now sound view is_guard in record {
-        ring = holds_now (added o.ring a (omega (arith, few, o.is_len, ap length none))) (Some h) is;
+      let k = known sound view in let r = guarded_now sound view is_guard in record {
+        ring = holds_now (added r a (omega (arith, few, k.is_len, ap length none))) (Some h) is;
         holds = held_now s₁ is;
-        is_len = omega (arith, o.is_len);
-        is_spare = o.is_spare;
+        is_len = omega (arith, k.is_len);
+        is_spare = k.is_spare;
       }
 
-  -- ---- blocks are freed
-  pub spare_gone : {s s' : State K V} {guard : Option Node} {g first first' : Node} {len spare : ℕ}
-      {v : Ring K V} → guard ≡ Some g → Opened s g first len spare v → 0 < spare → first' ≡ s.next first
-      → Drops first s s'
-      → Leaves s' guard first' len (spare - 1) (ring v.entries (drop 1 v.free) v.link_writes)
-  spare_gone {s} {s'} {guard} {g} {len = len} {spare = spare} {v = v} is o some is_first drops =
-      let v' = ring v.entries (drop 1 v.free) v.link_writes in
-      subst (λ m. Leaves s' guard m len (spare - 1) v') (sym is_first)
-      (leaves is (dropped (spare_of o some).ring drops) o.is_len
-      (omega (arith, length-drop 1 v.free, o.is_spare)))
-
-  -- a lookup by a node finds its entry, if no entry before it has this node
-  found_here : (xs : Entries K V) (n : Node) (h : Held K V) (ys : Entries K V) → IsOff n (keys_of xs)
-      → (lookup (same_node n) (xs ++ (n, h) ∷ ys) ≡ Some h)
-      × (remove_entry (same_node n) (xs ++ (n, h) ∷ ys) ≡ xs ++ ys)
-  found_here [] n h ys off = let here = same_node-refl n in (rw here, rw here)
-  found_here (x ∷ xs) n h ys off =
-      let rest = found_here xs n h ys off.1 in (rw off.0 rest.0, rw off.0 (ap (λ l. x ∷ l) rest.1))
-
-  module _ (xs : Entries K V) (n : Node) (h : Held K V) (ys : Entries K V) {es : Entries K V}
-      (is : es ≡ xs ++ (n, h) ∷ ys) (off : IsOff n (keys_of xs)) where
-    pub found_there : Holds es n
-    found_there = ap is_some (ap (lookup (same_node n)) is ∙ (found_here xs n h ys off).0)
-
-    pub value_found : {x : Held K V} → lookup (same_node n) es ≡ Some x → h ≡ x
-    value_found found =
-        same_some (sym (ap (lookup (same_node n)) is ∙ (found_here xs n h ys off).0) ∙ found)
-
-    pub pair_found : {p : K × V} → option_map pair_of (lookup (same_node n) es) ≡ Some p → pair_of h ≡ p
-    pair_found found = same_some (ap (option_map pair_of)
-        (sym (ap (lookup (same_node n)) is ∙ (found_here xs n h ys off).0)) ∙ found)
-
-    pub left_without : remove_entry (same_node n) es ≡ xs ++ ys
-    left_without = ap (remove_entry (same_node n)) is ∙ (found_here xs n h ys off).1
-
-  -- the first node of the ring
-  pub record FirstIs (n : Node) (es : Entries K V) : Type 0 where
+  -- ---- the ends of the ring
+  -- the node has an entry, and `join` gives this entry back to the others
+  pub record IsEnd (join : Node × Held K V → Entries K V → Entries K V) (n : Node) (es : Entries K V) :
+      Type 0 where
     pub value : Held K V
-    pub after : Entries K V
-    pub is : es ≡ (n, value) ∷ after
+    pub looked : lookup (same_node n) es ≡ Some value
+    pub is : es ≡ join (n, value) (remove_entry (same_node n) es)
 
-  first_of : (a : Node) (es : Entries K V) → 0 < length es → FirstIs (head_or a (keys_of es)) es
+  -- it is given back to what is left without it
+  joined : {join : Node × Held K V → Entries K V → Entries K V} {n : Node} {es rest : Entries K V}
+      {h : Held K V} → IsEnd join n es → lookup (same_node n) es ≡ Some h
+      → rest ≡ remove_entry (same_node n) es → es ≡ join (n, h) rest
+  joined {join} {n} e found left = e.is ∙ (λ i. join (n, same_some (sym e.looked ∙ found) i) (sym left i))
+
+  -- the two ways to give it back
+  abbrev in_front : Node × Held K V → Entries K V → Entries K V
+  in_front e es = e ∷ es
+
+  abbrev behind : Node × Held K V → Entries K V → Entries K V
+  behind e es = es ++ e ∷ []
+
+  first_of : (a : Node) (es : Entries K V) → 0 < length es → IsEnd in_front (head_or a (keys_of es)) es
   first_of a [] some = absurd (omega (arith, some))
-  first_of a (e ∷ es) some = record { value = e.1; after = es; is = refl }
+  first_of a (e ∷ es) some = let here = same_node-refl e.0 in
+      record { value = e.1; looked = rw here; is = rw here }
+
+  last_of : (a : Node) (es : Entries K V) (fs : List Node) → IsDistinct same_node (keys_of es ++ fs)
+      → 0 < length es → IsEnd behind (last_or a (keys_of es)) es
+  last_of a [] fs d some = absurd (omega (arith, some))
+  last_of a (e ∷ []) fs d some = let here = same_node-refl e.0 in
+      record { value = e.1; looked = rw here; is = rw here }
+  last_of a (e ∷ x ∷ es) fs d some =
+      let rest = last_of e.0 (x ∷ es) fs (IsDistinct-tail same_node e.0 _ d) (omega arith) in
+      let off = flip e.0 _ (off_last e.0 x.0 (keys_of es) fs (IsDistinct-head same_node e.0 _ d)) in
+      record { value = rest.value; looked = rw off rest.looked; is = rw off (ap (λ l. e ∷ l) rest.is) }
 
   module _ {n : Inside K V} (sound : IsSound n) {v : Ring K V} (view : ring_of n ≡ v) {g m : Node}
-      (is : n.guard ≡ Some g) (some : 0 < length v.entries) (is_m : m ≡ (state_of n.pool).next g) where
-    abbrev begun : Opened (state_of n.pool) g n.first_spare n.len n.spare v
-    begun = opened sound view is
+      (is : n.guard ≡ Some g) (some : 0 < length v.entries) where
+    -- the nodes on both sides of the guard
+    first : m ≡ (state_of n.pool).next g → IsEnd in_front m v.entries
+    first is_m =
+        subst (λ k. IsEnd in_front k v.entries)
+        (sym (is_m ∙ (linked (opened sound view is) [] v.entries refl).on)) (first_of g v.entries some)
 
-    pub front : FirstIs m v.entries
-    front =
-        subst (λ k. FirstIs k v.entries) (sym (is_m ∙ (linked begun.ring [] v.entries refl).on))
-        (first_of g v.entries some)
+    last : m ≡ (state_of n.pool).prev g → IsEnd behind m v.entries
+    last is_m =
+        let l = linked (opened sound view is) v.entries [] (sym (append-nil v.entries)) in
+        subst (λ k. IsEnd behind k v.entries) (sym (is_m ∙ l.back))
+        (last_of g v.entries v.free (known sound view).differ some)
 
-  -- the last node of the ring
-  pub record LastIs (s : State K V) (n : Node) (es : Entries K V) : Type 0 where
-    pub before : Entries K V
-    pub value : Held K V
-    pub is : es ≡ before ++ (n, value) ∷ []
+    pub first_held : m ≡ (state_of n.pool).next g → Holds v.entries m
+    first_held is_m = ap is_some (first is_m).looked
 
-  last_of : (s : State K V) (a : Node) (es : Entries K V) → 0 < length es →
-      LastIs s (last_or a (keys_of es)) es
-  last_of s a [] some = absurd (omega (arith, some))
-  last_of s a (e ∷ []) some = record { before = []; value = e.1; is = refl }
-  last_of s a (e ∷ x ∷ es) some = let rest = last_of s e.0 (x ∷ es) (omega arith) in record {
-    before = e ∷ rest.before;
-    value = rest.value;
-    is = ap (λ l. e ∷ l) rest.is;
-  }
+    pub last_held : m ≡ (state_of n.pool).prev g → Holds v.entries m
+    last_held is_m = ap is_some (last is_m).looked
 
-  module _ {n : Inside K V} (sound : IsSound n) {v : Ring K V} (view : ring_of n ≡ v) {g m : Node}
-      (is : n.guard ≡ Some g) (some : 0 < length v.entries) (is_m : m ≡ (state_of n.pool).prev g) where
-    abbrev o : Opened (state_of n.pool) g n.first_spare n.len n.spare v
-    o = opened sound view is
+    module _ {h : Held K V} {rest : Entries K V} (found : lookup (same_node m) v.entries ≡ Some h)
+        (left : rest ≡ remove_entry (same_node m) v.entries) where
+      pub first_left : m ≡ (state_of n.pool).next g → (k : Node) × (v.entries ≡ (k, h) ∷ rest)
+      first_left is_m = (m, joined (first is_m) found left)
 
-    pub last : LastIs (state_of n.pool) m v.entries
-    last =
-        subst (λ k. LastIs (state_of n.pool) k v.entries)
-        (sym (is_m ∙ (linked o.ring v.entries [] (sym (append-nil v.entries))).back))
-        (last_of (state_of n.pool) g v.entries some)
-
-    -- the last node is none of those before it
-    pub last_off : IsOff m (keys_of last.before)
-    last_off =
-        let ks = keys_of last.before in
-        let d = subst (IsDistinct same_node) (ap (λ es. keys_of es ++ v.free) last.is
-        ∙ ap (λ ns. ns ++ v.free) (keys-append last.before ((m, last.value) ∷ []))
-        ∙ append_assoc ks (m ∷ []) v.free) (known sound view).differ in
-        all_left (Off m) ks v.free (IsDistinct-head same_node m (ks ++ v.free) (to_front ks m v.free d))
+      pub last_left : m ≡ (state_of n.pool).prev g → (k : Node) × (v.entries ≡ rest ++ (k, h) ∷ [])
+      last_left is_m = (m, joined (last is_m) found left)
 
   -- the guard's block is freed last
-  pub guard_gone : {s s' : State K V} {g first : Node} {len spare : ℕ} {v : Ring K V} →
-      Opened s g first len spare v
-      → v.entries ≡ [] → v.free ≡ [] → Drops g s s'
-      → s'.size ≡ 0
-  guard_gone {v = v} o no_entries no_free drops =
-      omega (arith, o.ring.size, drops.size, ap length no_entries, ap length no_free)
+  pub guard_gone : {n : Inside K V} → IsSound n → {v : Ring K V} → ring_of n ≡ v → v.entries ≡ []
+      → v.free ≡ [] → {g : Node} → n.guard ≡ Some g → (p : Pool K V) → Drops g (state_of n.pool) (state_of p)
+      → (state_of p).size ≡ 0
+  guard_gone sound view no_entries no_free is p drops =
+      omega (arith, (opened sound view is).size, drops.size, ap length no_entries, ap length no_free)
+
+pub ruleset at_nodes = (holds_out, has_out, bare_now, has_yet, spare_has, spare_bare)
+
+pub ruleset at_ends = (first_held, last_held, shrinks, guard_gone)
+
+-- each goal of a call that no answer proves is proved by one of these lemmas
+pub ruleset ring_calls = (ring_facts, neighbours, at_nodes, at_ends)

@@ -20,18 +20,6 @@ room : (τ : Ty) (p : Ptr) → Keyless (room_for τ p)
 room τ (block_ptr b o) = tt
 room τ null_ptr = tt
 
-number_send : IsSend usize
-number_send = search sendable
-
-number_sync : IsSync usize
-number_sync = search sendable
-
-links_send : IsSend Links
-links_send = search sendable depth 20
-
-links_sync : IsSync Links
-links_sync = search sendable depth 20
-
 module _ (R : RattleType) where
   deed-Keyless : (p : Ptr) → Keyless (deed_owns R p)
   deed-Keyless p = (
@@ -52,8 +40,8 @@ module _ (R : RattleType) where
     block-Keyless p k = (
       pair-Keyless p k.entry,
       (
-        (small-Keyless k.entry, lies usize number_send _ (number_word k.entry)),
-        (lies Links links_send _ k.links, deed-Keyless p),
+        (small-Keyless k.entry, lies usize (search sendable) _ (number_word k.entry)),
+        (lies Links (search sendable depth 20) _ k.links, deed-Keyless p),
       ),
     )
 
@@ -76,8 +64,8 @@ module _ (R : RattleType) where
     block_lent-Common p k κ = (
       pair_lent-Common p k.entry κ,
       (
-        (small-Keyless k.entry, seen usize number_sync _ (number_word k.entry) κ),
-        seen Links links_sync _ k.links κ,
+        (small-Keyless k.entry, seen usize (search sendable) _ (number_word k.entry) κ),
+        seen Links (search sendable depth 20) _ k.links κ,
       ),
     )
 

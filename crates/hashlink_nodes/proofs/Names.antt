@@ -1,6 +1,6 @@
 -- The names that many proofs of this crate import.
 use Rattle.hashlink_nodes.specs
-pub use Rattle.std.proofs.Common.{Bool, Bor, IfSome, IsNone, IsSome, List, MutBor, None, OnOk, Option, Some}
+pub use Rattle.std.proofs.Common.{Bool, Bor, IfSome, IsNone, IsSome, List, MutBor, None, Option, Some}
 pub use Rattle.std.proofs.Common.{T, [], ap, append-nil, append_assoc, arith, cond, false, is_some, length}
 pub use Rattle.std.proofs.Common.{length-append, length-drop, lit<, refl, slice_get, subst, suc, sym, true}
 pub use Rattle.std.proofs.Common.{unwrap_or, zero, ℕ, ◌&&◌, ◌++◌, ◌+◌, ◌-◌, ◌<◌, ◌^◌, ◌∙◌, ◌∷◌, ◌≡◌}
@@ -35,7 +35,7 @@ pub use specs.Kept.{Kept, alter, entry_in, kept, number_word, with_entry, with_l
 pub use specs.Node.{eq-same_node, same_node, same_node-refl, same_node_equiv}
 pub use specs.Ownership.{Links, block_lent, block_owns, block_room, block_type, blocks_lent, blocks_own}
 pub use specs.Ownership.{deed_owns, is_small, links_of, links_offset, number_of, number_offset, pair_lent}
-pub use specs.Ownership.{pair_of as pair_place, pair_offset, pair_owns, pair_room}
+pub use specs.Ownership.{pair_of as pair_place, pair_offset, pair_owns}
 pub use specs.Ring.{Held, Holds, IsPlace, Ring, held, last_node, next_place, node_after, node_before, pair_of}
 pub use specs.Ring.{prev_place, put_after, put_after_node, put_before, put_before_node, ring, with_key}
 pub use specs.Ring.{with_number, with_value}

@@ -1,17 +1,15 @@
 -- A ring is opened, which gives these facts, and closed again.
 use Rattle.hashlink_nodes.proofs.Names
 use Names.{◌≡◌, ℕ, ◌+◌, ◌^◌, ◌<◌, List, [], ◌∷◌, ◌++◌, length, Option, Some, None, refl, sym, ap, ◌∙◌, subst}
-use Names.{arith, is_some, IfSome, AllByRecursion, IsDistinct, keys_of, lookup, remove_entry, length-append}
-use Names.{length-keys_of, IsDistinct-tail, Node, Inside, same_node, state_of, Ring, ring, Holds, IsRing}
-use Names.{IsSound, SoundAt, ring_at, ring_of, walk, entry_of, entries_of, State, IsSome, Held}
+use Names.{arith, true, is_some, IfSome, AllByRecursion, IsDistinct, keys_of, lookup, remove_entry}
+use Names.{length-append, length-keys_of, IsDistinct-tail, Node, Inside, same_node, state_of, Ring, ring}
+use Names.{Holds, IsRing, IsSound, SoundAt, ring_at, ring_of, walk, entry_of, entries_of, State, IsSome, Held}
+use Names.{AreThere, nil_from_length}
 use Rattle.hashlink_nodes.proofs.{Paths.length-walk, Paths.walk-linked, Paths.walk-chain, Cuts.Cut, Cuts.Gap}
 use Rattle.hashlink_nodes.proofs.{Cuts.cut, Rings.InRing, Rings.in_ring}
 
 pub if_some : {X : Type 0} {o : Option X} {x : X} (P : X → Type 0) → o ≡ Some x → P x → IfSome o P
 if_some P e p = subst (λ o. IfSome o P) (sym e) p
-
-pub is_there : {X : Type 0} {o : Option X} {x : X} → o ≡ Some x → IsSome o
-is_there e = ap is_some e
 
 -- ---- lengths
 module _ {X : Type 0} (es : List (Node × X)) where
@@ -19,6 +17,9 @@ module _ {X : Type 0} (es : List (Node × X)) where
   length-removed {n} c =
       let old = length-append c.before ((n, c.value) ∷ c.after) in let new = length-append c.before c.after in
       omega (arith, ap length c.removed, ap length c.is, old, new)
+
+  pub shrinks : (n : Node) → Holds es n → length es ≡ length (remove_entry (same_node n) es) + 1
+  shrinks n there = sym (length-removed (cut es n there))
 
   pub length-gap : {put : Node × X → List (Node × X)} → Gap es put → (e : Node × X)
       → length (put e) ≡ length es + 1
@@ -72,11 +73,6 @@ module _ {K V : Type 0} where
       })
 
   -- ---- a ring is opened
-  pub record Opened (s : State K V) (g first : Node) (len spare : ℕ) (v : Ring K V) : Type 0 where
-    pub ring : IsRing s [] g first v
-    pub is_len : length v.entries ≡ len
-    pub is_spare : length v.free ≡ spare
-
   pub record Facts (len spare : ℕ) (v : Ring K V) : Type 0 where
     pub is_len : length v.entries ≡ len
     pub is_spare : length v.free ≡ spare
@@ -87,11 +83,11 @@ module _ {K V : Type 0} where
   pub record NodeAt (s : State K V) (guard : Option Node) (g first : Node) (len spare : ℕ) (v : Ring K V)
       (n : Node) : Type 0 where
     pub is : guard ≡ Some g
-    pub whole : Opened s g first len spare v
+    pub ring : IsRing s [] g first v
+    pub facts : Facts len spare v
     pub cut : Cut v.entries n
     pub here : InRing s n cut.value
     pub shows : lookup (same_node n) v.entries ≡ s.held n
-    pub some : 0 < len
 
   module _ {n : Inside K V} (sound : IsSound n) {v : Ring K V} (view : ring_of n ≡ v) where
     abbrev s : State K V
@@ -105,16 +101,15 @@ module _ {K V : Type 0} where
         ∙ view in
         sym e ∙ ap (λ (r : Ring K V). ring [] [] r.link_writes) e
 
-    pub opened : {g : Node} → n.guard ≡ Some g → Opened s g n.first_spare n.len n.spare v
-    opened {g} is =
-        let h = subst (λ o. SoundAt s o n.first_spare n.len n.spare) is sound.at in
-        let e : ring_at s (Some g) n.first_spare n.len n.spare ≡ v
-        = ap (λ o. ring_at s o n.first_spare n.len n.spare) (sym is) ∙ view in
-        record {
-          ring = subst (IsRing s [] g n.first_spare) e h.1;
-          is_len = ap (λ (r : Ring K V). length r.entries) (sym e) ∙ h.0;
-          is_spare = ap (λ (r : Ring K V). length r.free) (sym e) ∙ length-walk s.next n.first_spare n.spare;
-        }
+    -- the invariant and the ring, if there is a guard
+    with_guard : {g : Node} → n.guard ≡ Some g → SoundAt s (Some g) n.first_spare n.len n.spare
+    with_guard is = subst (λ o. SoundAt s o n.first_spare n.len n.spare) is sound.at
+
+    view_is : {g : Node} → n.guard ≡ Some g → ring_at s (Some g) n.first_spare n.len n.spare ≡ v
+    view_is is = ap (λ o. ring_at s o n.first_spare n.len n.spare) (sym is) ∙ view
+
+    pub opened : {g : Node} → n.guard ≡ Some g → IsRing s [] g n.first_spare v
+    opened {g} is = subst (IsRing s [] g n.first_spare) (view_is is) (with_guard is).1
 
     pub guarded : (n.guard ≡ None → ⊥) → (g : Node) × (n.guard ≡ Some g)
     guarded not = (elim n.guard as (λ (o : Option Node). (o ≡ None → ⊥) → (g : Node) × (o ≡ Some g)) [
@@ -133,35 +128,40 @@ module _ {K V : Type 0} where
             small = let a = h.0 in let b = h.1 in omega (arith, a, b);
             differ = tt;
           })
-      | Some g ↦ λ is. let o = opened is in record {
-        is_len = o.is_len;
-        is_spare = o.is_spare;
-        small = omega (arith, o.ring.few, o.is_len, o.is_spare);
-        differ = IsDistinct-tail same_node g (keys_of v.entries ++ v.free) o.ring.apart;
-      }
+      | Some g ↦ λ is.
+          let o = opened is in let e = sym (view_is is) in
+          let is_len = ap (λ (r : Ring K V). length r.entries) e ∙ (with_guard is).0 in
+          let is_spare = ap (λ (r : Ring K V). length r.free) e ∙ length-walk s.next n.first_spare n.spare in
+          record {
+            is_len = is_len;
+            is_spare = is_spare;
+            small = omega (arith, o.few, is_len, is_spare);
+            differ = IsDistinct-tail same_node g (keys_of v.entries ++ v.free) o.apart;
+          }
     ]) refl
 
     pub node_at : {g : Node} → n.guard ≡ Some g → (m : Node) → Holds v.entries m
         → NodeAt s n.guard g n.first_spare n.len n.spare v m
     node_at is m there =
         let o = opened is in let c = cut v.entries m there in
-        let here = in_ring o.ring c.before m c.value c.after c.is in
+        let here = in_ring o c.before m c.value c.after c.is in
         record {
           is = is;
-          whole = o;
+          ring = o;
+          facts = known;
           cut = c;
           here = here;
           shows = c.looked ∙ sym here.holds;
-          some = omega (arith, o.is_len, length-removed v.entries c);
         }
 
     -- if the ring has a node, there is a guard
     pub guard_of : (m : Node) → Holds v.entries m → (g : Node) × (n.guard ≡ Some g)
     guard_of m there = guarded (λ is. cc (subst (λ (r : Ring K V). Holds r.entries m) (empty is) there))
 
+    -- or an entry, or a free node
     pub entry_guard : 0 < length v.entries → IsSome n.guard
     entry_guard some =
-        is_there (guarded (λ is. omega (arith, some, ap (λ (r : Ring K V). length r.entries) (empty is)))).1
+        ap is_some (guarded (λ is. omega (arith, some, ap (λ (r : Ring K V). length r.entries) (empty is)))).1
 
     pub spare_guard : 0 < length v.free → (g : Node) × (n.guard ≡ Some g)
     spare_guard some = guarded (λ is. omega (arith, some, ap (λ (r : Ring K V). length r.free) (empty is)))
@@ -169,3 +169,38 @@ module _ {K V : Type 0} where
     pub node_in : (m : Node) (there : Holds v.entries m)
         → NodeAt s n.guard (guard_of m there).0 n.first_spare n.len n.spare v m
     node_in m there = node_at (guard_of m there).1 m there
+
+    -- ---- what a call of a ring may need
+    -- a node of the ring and its neighbours have blocks, the ring is not empty, and there is a guard
+    pub fits : (m : Node) → Holds v.entries m → AreThere s m (s.prev m) (s.next m)
+    fits m there = (node_in m there).here.fits
+
+    pub has_block : (m : Node) → Holds v.entries m → s.has m ≡ true
+    has_block m there = (fits m there).node
+
+    pub counted : (m : Node) → Holds v.entries m → 0 < n.len
+    counted m there = omega (arith, known.is_len, shrinks v.entries m there)
+
+    pub guard_there : (m : Node) → Holds v.entries m → IsSome n.guard
+    guard_there m there = ap is_some (guard_of m there).1
+
+    -- its block holds its entry
+    pub holds : (m : Node) → Holds v.entries m → IsSome (s.held m)
+    holds m there = ap is_some (node_in m there).here.holds
+
+    pub shows : (m : Node) → Holds v.entries m → lookup (same_node m) v.entries ≡ s.held m
+    shows m there = (node_in m there).shows
+
+    -- no node comes twice
+    pub differ : IsDistinct same_node (keys_of v.entries ++ v.free)
+    differ = known.differ
+
+    -- how many nodes are free
+    pub counts_free : n.spare ≡ length v.free
+    counts_free = sym known.is_spare
+
+    pub none_free : n.spare ≡ 0 → v.free ≡ []
+    none_free none = nil_from_length v.free (known.is_spare ∙ none)
+
+pub ruleset ring_facts =
+    (known, has_block, counted, guard_there, entry_guard, holds, shows, differ, counts_free, none_free)

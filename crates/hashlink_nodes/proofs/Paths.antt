@@ -230,8 +230,3 @@ chain_of_linked f b a (n ∷ ns) z l = (l.0.0, chain_of_linked f b n ns z l.1)
 pub walk-linked : (f b : Node → Node) (a : Node) (ns : List Node) (z : Node) → IsLinked f b a ns z
     → walk f (f a) (length ns) ≡ ns
 walk-linked f b a ns z l = walk-chain f (f a) ns (chain_of_linked f b a ns z l)
-
-pub chain-walk : (f : Node → Node) (a : Node) (count : ℕ) → IsChain f a (walk f a count)
-unfolding walk
-chain-walk f a zero = tt
-chain-walk f a (suc count) = (refl, chain-walk f (f a) count)

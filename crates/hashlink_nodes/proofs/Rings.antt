@@ -169,12 +169,6 @@ module _ {K V : Type 0} where
       })
 
   -- ---- what a node holds changes
-  -- a node's block stays
-  pub has_still : {s' : State K V} (n : Node) (o : Option (Held K V)) (s : State K V) {m : Node}
-      → s' ≡ hold n o s → s.has m ≡ true → s'.has m ≡ true
-  unfolding hold
-  has_still n o s {m} is h = ap (λ (t : State K V). t.has m) is ∙ h
-
   -- of two writes, the second counts
   pub held_anew : {s₁ s₂ : State K V} (n : Node) (o o' : Option (Held K V)) (s : State K V) → s₁ ≡ hold n o s
       → s₂ ≡ hold n o' s₁ → s₂ ≡ hold n o' s
@@ -218,24 +212,19 @@ module _ {K V : Type 0} where
       let ks = keys_of xs in let ls = keys_of ys in let d = differs_hold n (Some x) s in
       let apart : IsDistinct same_node (g ∷ (ks ++ n ∷ (ls ++ fs)))
       = simp (keys-append, append_assoc) at r.apart in
-      let off = IsDistinct-head same_node n (g ∷ (ks ++ (ls ++ fs))) (to_front (g ∷ ks) n (ls ++ fs) apart) in
-      let after = all_right (Off n) ks (ls ++ fs) off.1 in
-      let P = λ (e : Node × Held K V). s.held e.0 ≡ Some e.1 in
-      let Q = λ (e : Node × Held K V). (hold n (Some x) s).held e.0 ≡ Some e.1 in
+      let others : IsDistinct same_node (n ∷ g ∷ (keys_of (xs ++ ys) ++ fs))
+      = simp (keys-append, append_assoc) (to_front (g ∷ ks) n (ls ++ fs) apart) in
+      let off = IsDistinct-head same_node n _ others in
+      let kept = full_off d (xs ++ ys) (all_left (Off n) (keys_of (xs ++ ys)) fs off.1)
+      (all_without (λ e. s.held e.0 ≡ Some e.1) xs (n, h) ys r.full) in
       subst (λ t. IsRing t [] g first (ring (xs ++ (n, x) ∷ ys) fs w)) (sym is) (record {
         links = simp keys-append (simp keys-append at r.links);
         chain = r.chain;
         apart = simp keys-append (simp keys-append at r.apart);
-        full = all_both Q xs ((n, x) ∷ ys)
-            (full_off d xs (all_left (Off n) ks (ls ++ fs) off.1) (all_left P xs ((n, h) ∷ ys) r.full)) (
-              set_at_here s.held n (Some x),
-              full_off d ys (all_left (Off n) ls fs after)
-                  (all_right P xs ((n, h) ∷ ys) r.full).1,
-            );
-        bare = (
-          d.held g (flip n g off.0) ∙ r.bare.0,
-          all_zip (λ m k o. d.held m (flip n m o) ∙ k) fs r.bare.1 (all_right (Off n) ls fs after),
-        );
+        full = all_with (λ e. (hold n (Some x) s).held e.0 ≡ Some e.1) xs (n, x) ys
+            (set_at_here s.held n (Some x)) kept;
+        bare = all_zip (λ m k o. d.held m (flip n m o) ∙ k) (g ∷ fs) r.bare
+            (off.0, all_right (Off n) (keys_of (xs ++ ys)) fs off.1);
         there = simp keys-append (simp keys-append at r.there);
         size = omega (arith, r.size, length-append xs ((n, h) ∷ ys), length-append xs ((n, x) ∷ ys));
         few = omega (arith, r.few, length-append xs ((n, h) ∷ ys), length-append xs ((n, x) ∷ ys));

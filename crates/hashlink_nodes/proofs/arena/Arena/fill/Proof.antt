@@ -1,19 +1,17 @@
 -- `fill` writes a pair and its number into the room of a block.
 use Rattle.hashlink_nodes.proofs.Names
-use Names.{word_had, handle_tells, ◌≡◌, ℕ, ◌+◌, ◌∙◌, ◌^◌, ◌<◌, List, [], ◌∷◌, ◌++◌, refl, sym, ap, Option}
-use Names.{Some, None, IsSome, lookup, remove_entry, full_share, Ty, a_type, ty_int, w64, inst_fn, Val, vint}
-use Names.{vptr, vunit, SProp, never, id⊢, ftrue, fat, froom, flft, fsep, WpFn, ‵, raw, ◌⊛◌, at_ret, ◌$◌, ◌∵◌}
-use Names.{ !, qed, by, move, keep, drop, split, split3, group, fsplit, fsplit3, fjoin, fjoin3, rewrite, use1}
-use Names.{use2, feq_i, feq_l, stop, fld, of_opd, addr, store, init, assigns, assigns_last, first, blocks}
-use Names.{exec, returns, enter, alloc_all, pass_all, free_all, look_at, get, get_in, through, sets, is, env}
-use Names.{sub, whole, fact, ◌⊑◌, tables, part_in, usize, no, yes, lone, part_at, uint_in, uint_out}
-use Names.{RattleType, owns, Ptr, ptr_val, in_a_block, lies_at, types_at, plain, param, layouts, param_laws}
-use Names.{nothing, heard, opens, closes, Stays, stay_dropped, stay_ref, walk_of, Goes-dropped, Goes-ref}
-use Names.{after, word, word-Good, proved_at, leaves, flt_l, unit_lit, same_node, alter, entry_in}
-use Names.{number_word, with_entry, Links, blocks_own, block_owns, pair_owns, pair_room, pair_offset}
-use Names.{is_small, number_of, number_offset, links_of, deed_owns, Arena, arena_row}
+use Names.{word_had, handle_tells, ◌≡◌, ◌+◌, ◌∙◌, ◌^◌, ◌<◌, List, [], ◌∷◌, ◌++◌, refl, sym, ap, Some, None}
+use Names.{IsSome, lookup, full_share, Ty, a_type, w64, inst_fn, Val, vint, vptr, vunit, SProp, id⊢, ftrue}
+use Names.{froom, flft, WpFn, ‵, raw, ◌⊛◌, at_ret, ◌$◌, ◌∵◌, !, qed, by, move, keep, drop, split, split3}
+use Names.{group, fsplit, fsplit3, fjoin, fjoin3, rewrite, use1, use2, feq_i, feq_l, stop, fld, of_opd, addr}
+use Names.{store, init, assigns, assigns_last, first, blocks, exec, returns, enter, alloc_all, pass_all}
+use Names.{free_all, look_at, get, get_in, through, sets, is, env, sub, whole, fact, ◌⊑◌, tables, part_in}
+use Names.{usize, no, yes, lone, part_at, uint_in, RattleType, owns, Ptr, ptr_val, types_at, plain, param}
+use Names.{layouts, param_laws, nothing, heard, opens, closes, Stays, stay_dropped, stay_ref, walk_of}
+use Names.{Goes-dropped, Goes-ref, after, word, word-Good, proved_at, leaves, flt_l, unit_lit, same_node}
+use Names.{alter, entry_in, with_entry, blocks_own, block_owns, pair_offset, number_offset, Arena, arena_row}
 use Rattle.hashlink_nodes.proofs.ArenaSteps.{fits_word, Nd, no_box, as_handle, args_are, states}
-use Rattle.hashlink_nodes.proofs.ArenaBlocks.{found, blocks_cut, blocks_glue, small_shown}
+use Rattle.hashlink_nodes.proofs.ArenaBlocks.{found, block_out, blocks_glue, small_shown}
 use Rattle.hashlink_nodes.specs.contracts.arena.Arena.fill as F
 use Rattle.hashlink_nodes.proofs.arena.Arena.fill.Statement.{statement}
 use Rattle.hashlink_nodes.proofs.arena.Arena.fill.Code as code
@@ -64,20 +62,9 @@ fill_spec 𝓤 𝓛 𝓜 𝓡 wired T L =
     let Ev = env fn.locals l in
     move ! (4 ∷ 5 ∷ 0 ∷ []) $ opens ! tt Ar {h = a} rb ro
     (λ vs. move ! (1 ∷ []) $ fsplit ! $ move ! (1 ∷ []) $
-    use1 𝓛 (‵ (block_owns R n.at k) ⊛ ‵ (blocks_own R (remove_entry (same_node n) a.blocks)))
-    (blocks_cut R 𝓛 n a.blocks k is_k) $ split ! $ fsplit3 ! $
-    rewrite ! 0 (λ x. ‵ (pair_owns R n.at x)) is_e refl $
-    in_a_block ! n.at (pair_room R) (id⊢ 𝓤 (never 𝓤)) (λ b o e.
+    block_out R ! n a.blocks k None is_k is_e (λ b o e.
     let τ : Ty = lone R.mir in let at = o + pair_offset R in let no = o + number_offset R in
-    use1 𝓛 (‵ (froom τ b at)) (𝓛.laws.raw-room τ b at) $
-    rewrite ! 2 (λ (p : Ptr). ‵ (fsep (lies_at Links full_share (links_of R p) k.links)
-    (deed_owns R p)))
-    e refl $
-    move ! (1 ∷ []) $
-    rewrite ! 0 (λ (x : Ptr × Option (ℕ × T.Denot)). ‵ (fsep (is_small R x.1)
-    (lies_at usize full_share (number_of R x.0) (number_word x.1)))) (λ i. (e i, is_e i)) refl $
-    fsplit ! $ drop ! $ use1 𝓛 (‵ (fat full_share (ty_int w64) b no (vint w64 (2 ^ 48))))
-    (uint_out 𝓛 full_share w64 (2 ^ 48) b no) $
+    move ! (1 ∷ []) $ use1 𝓛 (‵ (froom τ b at)) (𝓛.laws.raw-room τ b at) $ move ! (1 ∷ []) $
     -- [the number; room for the pair; the links and the deed; the others; the mark; its cell; the open
     -- borrow;
     -- obs; auth; a token; nothing; what the pair owns]

@@ -1,18 +1,16 @@
 -- `give_back` takes a block from those that the arena owns.
 use Rattle.hashlink_nodes.proofs.Names
-use Names.{word_had, handle_tells, ◌≡◌, ℕ, ◌+◌, ◌∙◌, ◌^◌, List, [], ◌∷◌, ◌++◌, refl, sym, ap, Option, None}
-use Names.{IsSome, lookup, remove_entry, full_share, Ty, a_type, ty_int, w64, bare, inst_fn, Val, vint, vptr}
-use Names.{SProp, never, id⊢, ftrue, fat, froom, flft, fsep, WpFn, ‵, raw, ◌⊛◌, some, ◌$◌, ◌∵◌, !, qed, by}
-use Names.{move, keep, drop, split, split3, group, fsplit, fsplit3, fjoin, fjoin3, pick, rewrite, use1, feq_i}
-use Names.{feq_l, stop, fld, of_opd, and_then, no_more, returns, enter, alloc_all, pass_all, free_all}
-use Names.{look_at, get, get_in, sets, is, sub, whole, agg, fact, ◌⊑◌, tables, part_out, usize, yes, lone}
-use Names.{uint_out, RattleType, owns, Ptr, block_ptr, ptr_val, in_a_block, lies_at, types_at, plain, param}
-use Names.{layouts, nothing, heard, opens, closes, Stays, stay_dropped, stay_ref, walk_of, Goes-dropped}
-use Names.{Goes-ref, word, word-Good, proved_at, leaves, same_node, entry_in, number_word, Links, blocks_own}
-use Names.{block_owns, pair_owns, pair_room, is_small, number_of, number_offset, links_of, links_offset}
-use Names.{deed_owns, Arena, arena_row}
+use Names.{word_had, handle_tells, ◌≡◌, ◌+◌, ◌∙◌, ◌^◌, List, [], ◌∷◌, ◌++◌, refl, sym, ap, None, IsSome}
+use Names.{lookup, remove_entry, full_share, Ty, a_type, ty_int, w64, bare, inst_fn, Val, vint, vptr, SProp}
+use Names.{id⊢, ftrue, fat, froom, flft, WpFn, ‵, raw, ◌⊛◌, some, ◌$◌, ◌∵◌, !, qed, by, move, keep, drop}
+use Names.{split, split3, group, fsplit, fsplit3, fjoin, fjoin3, pick, use1, feq_i, feq_l, stop, fld, of_opd}
+use Names.{and_then, no_more, returns, enter, alloc_all, pass_all, free_all, look_at, get, get_in, sets, is}
+use Names.{sub, whole, agg, fact, ◌⊑◌, tables, part_out, yes, lone, RattleType, owns, block_ptr, ptr_val}
+use Names.{types_at, plain, param, layouts, nothing, heard, opens, closes, Stays, stay_dropped, stay_ref}
+use Names.{walk_of, Goes-dropped, Goes-ref, word, word-Good, proved_at, leaves, same_node, entry_in, Links}
+use Names.{number_offset, links_offset, Arena, arena_row}
 use Rattle.hashlink_nodes.proofs.ArenaSteps.{Nd, no_box, args_are, states, Heap, heap_handle}
-use Rattle.hashlink_nodes.proofs.ArenaBlocks.{found, blocks_cut}
+use Rattle.hashlink_nodes.proofs.ArenaBlocks.{found, block_out}
 use Rattle.hashlink_nodes.proofs.VacantSteps.{both, Vacant, vacant_good, vacant_in}
 use Rattle.hashlink_nodes.specs.contracts.arena.Arena.give_back as F
 use Rattle.hashlink_nodes.proofs.arena.Arena.give_back.Statement.{statement}
@@ -57,22 +55,11 @@ give_back_spec 𝓤 𝓛 𝓜 𝓡 wired T L =
     (λ l. pass_all ! refl ((tt, tt), (word-Good [] n.at, (fits, tt))) $
     move ! (4 ∷ 5 ∷ 0 ∷ []) $ opens ! tt Ar {h = a} rb ro
     (λ vs. move ! (1 ∷ []) $ fsplit ! $ move ! (1 ∷ []) $
-    use1 𝓛 (‵ (block_owns R n.at k) ⊛ ‵ (blocks_own R (remove_entry (same_node n) a.blocks)))
-    (blocks_cut R 𝓛 n a.blocks k is_k) $ split ! $ fsplit3 ! $
-    rewrite ! 0 (λ x. ‵ (pair_owns R n.at x)) is_e refl $
-    in_a_block ! n.at (pair_room R) (id⊢ 𝓤 (never 𝓤)) (λ b o e.
+    block_out R ! n a.blocks k None is_k is_e (λ b o e.
     let τ : Ty = lone Links.mir in let at = o + links_offset R in let no = o + number_offset R in
     let out : (Vacant T).Denot = record { ptr = block_ptr b o; alloc = alloc } in
-    move ! (1 ∷ []) $
-    rewrite ! 0 (λ (x : Ptr × Option (ℕ × T.Denot)). ‵ (fsep (is_small R x.1)
-    (lies_at usize full_share (number_of R x.0) (number_word x.1)))) (λ i. (e i, is_e i)) refl $
-    fsplit ! $ drop ! $ use1 𝓛 (‵ (fat full_share (ty_int w64) b no (vint w64 (2 ^ 48))))
-    (uint_out 𝓛 full_share w64 (2 ^ 48) b no) $
     use1 𝓛 (‵ (froom (ty_int w64) b no)) (𝓛.laws.at_room (ty_int w64) b no (vint w64 (2 ^ 48))) $
-    move ! (2 ∷ []) $
-    rewrite ! 0 (λ (p : Ptr). ‵ (fsep (lies_at Links full_share (links_of R p) k.links)
-    (deed_owns R p)))
-    e refl $ fsplit ! $
+    move ! (2 ∷ []) $ fsplit ! $
     use1 𝓛 (some (λ (v : Val). ‵ (fat full_share τ b at v) ⊛ ‵ (Links.own_val k.links (v ∷ []))))
     (part_out 𝓛 Links refl full_share k.links b at) $ pick ! (λ v. split ! $ move ! (1 ∷ []) $ drop ! $
     use1 𝓛 (‵ (froom τ b at)) (𝓛.laws.at_room τ b at v) $

@@ -2,7 +2,7 @@
 use Rattle.hashlink_nodes.proofs.Names
 use Names.{◌∙◌, [], ◌∷◌, refl, sym, ap, Some, IsSome, lookup, full_share, a_type, id⊢, fsep, ‵, ◌$◌, ◌∵◌, ! }
 use Names.{qed, move, join, fsplit, fsplit3, fjoin, fjoin3, done, follows, RattleType, lies_at, param}
-use Names.{layouts, option_map, usize, block_owns, pair_owns, is_small, deed_owns, number_of, links_of}
+use Names.{Ptr, layouts, option_map, usize, block_owns, pair_owns, is_small, deed_owns, number_of, links_of}
 use Names.{links_offset, Links, altered, Kept, with_links, number_word, same_node, mut, arena_row}
 use Rattle.hashlink_nodes.proofs.{ArenaBlocks.found, ArenaSteps.states, ArenaLends.lent}
 use Rattle.hashlink_nodes.specs.contracts.arena.Arena.links_mut as F
@@ -20,18 +20,15 @@ links_mut_spec 𝓤 𝓛 𝓜 𝓡 wired T L =
       asks = λ z. id⊢ 𝓤 _;
       block = λ a n asked. found _ asked;
       held = λ a n asked. let k = (found _ asked).0 in
-          let number = fsep (is_small R k.entry)
-          (lies_at usize full_share (number_of R n.at) (number_word k.entry)) in
+          let rest = λ (p : Ptr). fsep (deed_owns R p) (fsep (pair_owns R p k.entry)
+          (fsep (is_small R k.entry) (lies_at usize full_share (number_of R p) (number_word k.entry)))) in
           record {
             part = k.links;
-            rest = λ p. fsep (deed_owns R p) (fsep (pair_owns R p k.entry)
-                (fsep (is_small R k.entry) (lies_at usize full_share (number_of R p) (number_word k.entry))));
+            rest = rest;
             out = qed 𝓛 (‵ (block_owns R n.at k) ∷ []) ∵ fsplit3 ! $ move ! (2 ∷ []) $ fsplit ! $
                 move ! (2 ∷ 3 ∷ []) $ fjoin ! $ move ! (2 ∷ 0 ∷ []) $ fjoin ! $ move ! (1 ∷ 0 ∷ []) $ join !
                 $ done !;
-            back = λ w. qed 𝓛 (‵ (lies_at Links full_share (links_of R n.at) w) ∷ ‵
-                (fsep (deed_owns R n.at)
-                (fsep (pair_owns R n.at k.entry) number)) ∷ []) ∵
+            back = λ w. qed 𝓛 (‵ (lies_at Links full_share (links_of R n.at) w) ∷ ‵ (rest n.at) ∷ []) ∵
                 move ! (1 ∷ []) $ fsplit3 ! $ move ! (3 ∷ 0 ∷ []) $ fjoin ! $ move ! (1 ∷ 2 ∷ 0 ∷ []) $
                 fjoin3 ! $ done !;
           };

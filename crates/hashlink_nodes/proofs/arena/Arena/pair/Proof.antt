@@ -1,7 +1,7 @@
 -- `pair` lends the pair of one block.
-use Rattle.hashlink_nodes.proofs.Names.{ℕ, Option, ◌∙◌, rewrite, [], ◌∷◌, refl, ap, IsSome, lookup, a_type}
+use Rattle.hashlink_nodes.proofs.Names.{rewrite, [], ◌∷◌, refl, IsSome, lookup, a_type}
 use Rattle.hashlink_nodes.proofs.Names.{emp, id⊢, ‵, ◌$◌, ◌∵◌, !, qed, move, keep, join, fsplit, use1, done}
-use Rattle.hashlink_nodes.proofs.Names.{fact_i, RattleType, param, layouts, option_map, Kept, entry_in}
+use Rattle.hashlink_nodes.proofs.Names.{fact_i, RattleType, param, layouts, entry_in}
 use Rattle.hashlink_nodes.proofs.Names.{block_lent, blocks_lent, pair_lent, pair_offset, same_node, imm}
 use Rattle.hashlink_nodes.proofs.{ArenaBlocks.found_entry, ArenaBlocks.block_seen, ArenaSteps.states}
 use Rattle.hashlink_nodes.proofs.{ArenaLends.shared, arena.Arena.pair.Statement.statement}
@@ -24,7 +24,5 @@ pair_spec 𝓤 𝓛 𝓜 𝓡 wired T L =
           rewrite ! 0 (λ x. ‵ (pair_lent R n.at x κ)) k.3 refl $
           states ! {φ = Unit {0}} tt $ move ! (1 ∷ 0 ∷ []) $ join ! $
           keep ! (0 ∷ []) $ done !;
-      says = λ z held seen at. let k = found_entry _ held in fact_i 𝓤 _ (emp 𝓤)
-          (ap (λ (o : Option (Kept T.Denot)). option_map (λ (x : ℕ × T.Denot). x.1) (entry_in o)) k.2
-          ∙ ap (option_map (λ (x : ℕ × T.Denot). x.1)) k.3);
+      says = λ z held seen at. fact_i 𝓤 _ (emp 𝓤) (found_entry _ held).4;
     })

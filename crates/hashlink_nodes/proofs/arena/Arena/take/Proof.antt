@@ -1,19 +1,17 @@
 -- `take` moves the pair out of a block, and leaves room for one.
 use Rattle.hashlink_nodes.proofs.Names
-use Names.{word_had, ◌≡◌, ℕ, ◌+◌, ◌∙◌, ◌^◌, List, [], ◌∷◌, ◌++◌, refl, sym, ap, Option, None, IsSome, lookup}
-use Names.{remove_entry, option_map, full_share, lit<, Ty, a_type, ty_int, w64, bare, inst_fn, Val, vint}
-use Names.{vptr, SProp, never, id⊢, ftrue, fat, froom, flft, fsep, WpFn, ‵, raw, ◌⊛◌, some, at_ret, ◌$◌, ◌∵◌}
-use Names.{ !, qed, by, move, keep, drop, split, split3, join, group, fsplit, fsplit3, fjoin, fjoin3, pick}
-use Names.{rewrite, use1, use2, feq_i, feq_l, stop, fld, of_opd, addr, store, assigns, first, blocks, exec}
-use Names.{returns, enter, alloc_all, pass_all, free_all, look_at, get, get_in, through, sets, sets_last, is}
-use Names.{env, sub, whole, fact, ◌⊑◌, tables, part_out, usize, yes, lone, part_at, uint_in, uint_out}
-use Names.{RattleType, owns, Ptr, ptr_val, in_a_block, lies_at, types_at, plain, param, layouts, nothing}
-use Names.{heard, opens, closes, Stays, stay_dropped, stay_ref, walk_of, Goes-dropped, Goes-ref, after, word}
-use Names.{word-Good, proved_at, leaves, load, look, well_typed, same_node, alter, entry_in, number_word}
-use Names.{with_entry, Links, blocks_own, block_owns, pair_owns, pair_offset, is_small, number_of}
-use Names.{number_offset, links_of, deed_owns, Arena, pair_place, arena_row}
+use Names.{Some, word_had, ◌≡◌, ◌+◌, ◌^◌, List, [], ◌∷◌, ◌++◌, refl, sym, ap, None, IsSome, lookup}
+use Names.{full_share, lit<, Ty, a_type, w64, bare, inst_fn, Val, vptr, SProp, id⊢, ftrue, fat, froom, flft}
+use Names.{WpFn, ‵, raw, ◌⊛◌, some, at_ret, ◌$◌, ◌∵◌, !, qed, by, move, keep, drop, split, split3, join}
+use Names.{group, fsplit, fsplit3, fjoin, fjoin3, pick, rewrite, use1, use2, feq_i, feq_l, stop, fld, of_opd}
+use Names.{addr, store, assigns, first, blocks, exec, returns, enter, alloc_all, pass_all, free_all, look_at}
+use Names.{get, get_in, through, sets, sets_last, is, env, sub, whole, fact, ◌⊑◌, tables, part_out, usize}
+use Names.{yes, lone, part_at, uint_in, RattleType, owns, Ptr, ptr_val, types_at, plain, param, layouts}
+use Names.{nothing, heard, opens, closes, Stays, stay_dropped, stay_ref, walk_of, Goes-dropped, Goes-ref}
+use Names.{after, word, word-Good, proved_at, leaves, load, look, well_typed, same_node, alter, entry_in}
+use Names.{with_entry, blocks_own, block_owns, pair_offset, number_offset, Arena, arena_row}
 use Rattle.hashlink_nodes.proofs.ArenaSteps.{fits_word, Nd, no_box, no_entry, args_are, states}
-use Rattle.hashlink_nodes.proofs.ArenaBlocks.{found_entry, blocks_cut, blocks_glue, small_shown}
+use Rattle.hashlink_nodes.proofs.ArenaBlocks.{found_entry, block_out, blocks_glue, small_shown}
 use Rattle.hashlink_nodes.specs.contracts.arena.Arena.take as F
 use Rattle.hashlink_nodes.proofs.arena.Arena.take.Statement.{statement}
 use Rattle.hashlink_nodes.proofs.arena.Arena.take.Code as code
@@ -53,21 +51,11 @@ take_spec 𝓤 𝓛 𝓜 𝓡 wired T L =
     enter ! 𝓣.C 𝓣.Λ fn (vptr rb ro ∷ word n.at ∷ []) Post $ alloc_all !
     (λ l. pass_all ! refl ((tt, tt), (word-Good [] n.at, tt)) $ let Ev = env fn.locals l in
     opens ! tt Ar {h = a} rb ro (λ vs. move ! (1 ∷ []) $ fsplit ! $ move ! (1 ∷ []) $
-    use1 𝓛 (‵ (block_owns R n.at k) ⊛ ‵ (blocks_own R (remove_entry (same_node n) a.blocks)))
-    (blocks_cut R 𝓛 n a.blocks k is_k) $ split ! $ fsplit3 ! $
-    rewrite ! 0 (λ x. ‵ (pair_owns R n.at x)) is_e refl $
-    in_a_block ! n.at (λ p. lies_at R full_share (pair_place R p) entry.1) (id⊢ 𝓤 (never 𝓤)) (λ b o e.
-    let τ : Ty = lone R.mir in let at = o + pair_offset R in let no = o + number_offset R in
-    rewrite ! 2 (λ (p : Ptr). ‵ (fsep (lies_at Links full_share (links_of R p) k.links)
-    (deed_owns R p)))
-    e refl $
+    block_out R ! n a.blocks k (Some entry) is_k is_e (λ b o e.
+    let τ : Ty = lone R.mir in let at = o + pair_offset R in let no = o + number_offset R in move ! (1 ∷ []) $
     use1 𝓛 (some (λ (v : Val). ‵ (fat full_share τ b at v) ⊛ ‵ (R.own_val entry.1 (v ∷ []))))
     (part_out 𝓛 R refl full_share entry.1 b at) $ pick ! (λ v. split ! $ well_typed ! (λ good.
     move ! (2 ∷ []) $
-    rewrite ! 0 (λ (x : Ptr × Option (ℕ × T.Denot)). ‵ (fsep (is_small R x.1)
-    (lies_at usize full_share (number_of R x.0) (number_word x.1)))) (λ i. (e i, is_e i)) refl $
-    fsplit ! $ drop ! $ use1 𝓛 (‵ (fat full_share (ty_int w64) b no (vint w64 entry.0)))
-    (uint_out 𝓛 full_share w64 entry.0 b no) $
     -- [the number; the pair; what it owns; the links and the deed; the others; the mark; its cell; the open
     -- borrow; obs; auth; a token; nothing]
     sets ! (is ! (of_opd ! (get_in ! (fld ! refl (stop !)) (sub ! 0 refl (whole !)))) (ap ptr_val e)) refl
@@ -87,9 +75,7 @@ take_spec 𝓤 𝓛 𝓜 𝓡 wired T L =
     move ! (2 ∷ 0 ∷ []) $ fjoin ! $ move ! (2 ∷ 0 ∷ 3 ∷ 4 ∷ 5 ∷ []) $ closes ! tt Ar new vs rb ro $
     -- [obs; the borrow; its token; what the pair owns; a token; nothing]
     states ! {φ = new.blocks ≡ alter (same_node n) left a.blocks} refl $
-    states ! (ap (λ x. option_map (λ (y : ℕ × T.Denot). y.1) (entry_in x)) is_k
-    ∙ ap (option_map (λ (y : ℕ × T.Denot). y.1)) is_e) $ join ! $
-    move ! (4 ∷ 0 ∷ []) $ move ! (4 ∷ 5 ∷ 6 ∷ []) $ group ! 3 $
+    states ! at_n.4 $ join ! $ move ! (4 ∷ 0 ∷ []) $ move ! (4 ∷ 5 ∷ 6 ∷ []) $ group ! 3 $
     nothing ! $ nothing ! $ fjoin ! $ move ! (4 ∷ 5 ∷ []) $
     feq_i ! (List Val) z.0.4.0 (vptr rb ro ∷ []) e0 $ fjoin3 ! $ fjoin ! $
     returns ! (look_at ! 0 refl) $ free_all ! refl $ keep ! (1 ∷ 0 ∷ 2 ∷ 3 ∷ []) $ by !

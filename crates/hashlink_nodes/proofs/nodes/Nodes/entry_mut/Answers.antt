@@ -1,10 +1,6 @@
-use Rattle.hashlink_nodes.proofs.Names.{ap, ◌∙◌, refl, is_some, option_map, Held, pair_of}
+use Rattle.hashlink_nodes.proofs.Names.{ap, ◌∙◌, refl, option_map, Held, pair_of}
 use Rattle.hashlink_nodes.proofs.{Lending.lent, Opening.node_in, Opening.seal}
 use Rattle.hashlink_nodes.proofs.nodes.Nodes.entry_mut.Goals as goal
-
-pub entry_mut-requires : goal.entry_mut-requires
-entry_mut-requires g c = ap is_some (node_in c.self.invariant c.self.view_is c.args.node
-    c.requires).here.holds
 
 pub invariant_of-self-lent : goal.invariant_of-self-lent
 invariant_of-self-lent g c = λ w.

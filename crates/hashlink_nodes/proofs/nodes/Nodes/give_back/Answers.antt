@@ -1,31 +1,11 @@
-use Rattle.hashlink_nodes.proofs.Names.{option_map, is_some, None, Some, ap, sym, ◌∙◌, arith}
-use Rattle.hashlink_nodes.proofs.Names.{state_of, Held, held, pair_of}
-use Rattle.hashlink_nodes.proofs.{Calls.gone, Calls.taken_out, Cuts.same_some}
-use Rattle.hashlink_nodes.proofs.Opening.{node_in, seal}
-use Rattle.hashlink_nodes.proofs.Rings.{held_now, held_out, holds_now}
+use Rattle.hashlink_nodes.proofs.Names.{option_map, Some, ap, sym, ◌∙◌, Held, held, pair_of}
+use Rattle.hashlink_nodes.proofs.{Calls.gone, Cuts.same_some}
+use Rattle.hashlink_nodes.proofs.Opening.{fits, node_in, seal}
+use Rattle.hashlink_nodes.proofs.Rings.{held_out}
 use Rattle.hashlink_nodes.proofs.nodes.Nodes.give_back.Goals as goal
 
 pub detach-requires : goal.detach-requires
-detach-requires g c = (node_in c.self.invariant c.self.view_is c.args.node c.requires).here.fits
-
-pub number-number-requires : goal.number-number-requires
-number-number-requires g c =
-    ap is_some (held_out (node_in c.self.invariant c.self.view_is c.args.node c.requires).here
-    c.detach.ensures)
-
-pub take-key-requires : goal.take-key-requires
-take-key-requires g c =
-    ap is_some (held_out (node_in c.self.invariant c.self.view_is c.args.node c.requires).here
-    c.detach.ensures)
-
-pub give_back-requires : goal.give_back-requires
-give_back-requires g c =
-    let at = node_in c.self.invariant c.self.view_is c.args.node c.requires in
-    let r = holds_now (taken_out at c.detach.ensures) None c.take-key.ensures.is in
-    record { has = r.there.0; bare = held_now (state_of c.detach.new.self) c.take-key.ensures.is }
-
-pub overflow_sub-self : goal.overflow_sub-self
-overflow_sub-self g c = omega (arith, (node_in c.self.invariant c.self.view_is c.args.node c.requires).some)
+detach-requires g c = fits c.self.invariant c.self.view_is c.args.node c.requires
 
 pub invariant_of-self : goal.invariant_of-self
 invariant_of-self g c =

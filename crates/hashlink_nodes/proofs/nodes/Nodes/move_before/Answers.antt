@@ -1,13 +1,10 @@
 use Rattle.std.proofs.Common.{arith, ◌∙◌}
 use Rattle.hashlink_nodes.proofs.{Calls.into_before, Calls.ready_moved}
-use Rattle.hashlink_nodes.proofs.Opening.{is_there, guard_of, if_some, node_at, node_in, seal}
+use Rattle.hashlink_nodes.proofs.Opening.{fits, if_some, node_at, seal}
 use Rattle.hashlink_nodes.proofs.nodes.Nodes.move_before.Goals as goal
 
-pub unwrap-guard-requires : goal.unwrap-guard-requires
-unwrap-guard-requires g c = is_there (guard_of c.self.invariant c.self.view_is c.args.node c.requires.node).1
-
 pub detach-requires : goal.detach-requires
-detach-requires g c = (node_in c.self.invariant c.self.view_is c.args.node c.requires.node).here.fits
+detach-requires g c = fits c.self.invariant c.self.view_is c.args.node c.requires.node
 
 pub attach_before-requires : goal.attach_before-requires
 attach_before-requires g c =

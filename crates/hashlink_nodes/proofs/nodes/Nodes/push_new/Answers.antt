@@ -2,10 +2,6 @@ use Rattle.hashlink_nodes.proofs.Names.{refl, ◌∙◌, arith}
 use Rattle.hashlink_nodes.proofs.{Calls.guard_stays, Calls.into_before, Calls.ready_new, Opening.seal}
 use Rattle.hashlink_nodes.proofs.nodes.Nodes.push_new.Goals as goal
 
-pub fill-requires : goal.fill-requires
-fill-requires g c =
-    let a = c.in-Ok-make.ensures.made in record { has = a.there; bare = a.bare; small = c.requires.small }
-
 -- ---- the new node is linked into the ring
 pub attach_before-requires : goal.attach_before-requires
 attach_before-requires g c =

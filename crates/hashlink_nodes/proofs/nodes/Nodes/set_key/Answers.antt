@@ -1,11 +1,7 @@
-use Rattle.hashlink_nodes.proofs.Names.{ap, ◌∙◌, is_some, option_map, Held, with_key}
+use Rattle.hashlink_nodes.proofs.Names.{ap, ◌∙◌, option_map, Held, with_key}
 use Rattle.hashlink_nodes.proofs.Calls.{renewed}
 use Rattle.hashlink_nodes.proofs.Opening.{if_some, node_in, seal}
 use Rattle.hashlink_nodes.proofs.nodes.Nodes.set_key.Goals as goal
-
-pub replace_key-requires : goal.replace_key-requires
-replace_key-requires g c = ap is_some (node_in c.self.invariant c.self.view_is c.args.node
-    c.requires).here.holds
 
 pub invariant_of-self : goal.invariant_of-self
 invariant_of-self g c =

@@ -1,20 +1,6 @@
-use Rattle.hashlink_nodes.proofs.{Names.ap, Names.is_some, Names.state_of, Calls.renumbered}
+use Rattle.hashlink_nodes.proofs.{Calls.renumbered}
 use Rattle.hashlink_nodes.proofs.Opening.{if_some, node_in, seal}
-use Rattle.hashlink_nodes.proofs.Rings.{has_still, held_now}
 use Rattle.hashlink_nodes.proofs.nodes.Nodes.set_number.Goals as goal
-
-pub take-key-requires : goal.take-key-requires
-take-key-requires g c =
-    ap is_some (node_in c.self.invariant c.self.view_is c.args.node c.requires.node).here.holds
-
-pub fill-requires : goal.fill-requires
-fill-requires g c =
-    let at = (node_in c.self.invariant c.self.view_is c.args.node c.requires.node).here in
-    let s = state_of c.self.inside.pool in record {
-      has = has_still _ _ s c.take-key.ensures.is at.fits.node;
-      bare = held_now s c.take-key.ensures.is;
-      small = c.requires.small;
-    }
 
 pub invariant_of-self : goal.invariant_of-self
 invariant_of-self g c =
