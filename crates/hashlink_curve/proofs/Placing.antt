@@ -1,24 +1,24 @@
 -- Keys at rising places: what a use of a key finds, and new places for all keys.
-use Rattle.hashlink_curve.proofs.Names.{◌≡◌, ℕ, suc, ◌+◌, ◌-◌, ◌≤◌, ◌<◌, Bool, true, false, cond, List, []}
-use Rattle.hashlink_curve.proofs.Names.{◌∷◌, ◌++◌, length, None, Some, refl, sym, ap, ap₂, ◌∙◌, subst, arith}
-use Rattle.hashlink_curve.proofs.Names.{append_assoc, length-append, get_or, ◌||◌, nat_eq, nat_lt}
+use Rattle.hashlink_curve.proofs.Names.{◌≡◌, ℕ, zero, suc, ◌+◌, ◌-◌, ◌≤◌, ◌<◌, Bool, true, false, cond, List}
+use Rattle.hashlink_curve.proofs.Names.{[], ◌∷◌, ◌++◌, length, take, None, Some, refl, sym, ap, ap₂, ◌∙◌}
+use Rattle.hashlink_curve.proofs.Names.{subst, arith, length-append, get_or, ◌||◌, nat_eq, nat_lt}
 use Rattle.hashlink_curve.proofs.Names.{IsEquivalence, count_by, list_any, keys_of, nat_tests, IsEntries}
 use Rattle.hashlink_curve.proofs.Names.{IsKeyTest, none_from_lookup, Marked, MovesPast, GoesLast}
-use Rattle.hashlink_model.proofs.Distinct.{each-right, IsEntries-head, none_equal, none_others}
-use Rattle.std.proofs.lemmas.List.{nil_from_length, append-nil, map-append, length-map}
+use Rattle.hashlink_model.proofs.Distinct.{each-right, none_equal, none_others}
+use Rattle.std.proofs.Common.{add-one}
+use Rattle.std.proofs.lemmas.List.{append-nil, map-append, length-map}
 use Rattle.std.specs.Map.{lookup, values_of, set_value}
 use Rattle.std.proofs.lemmas.Map.{NonePasses}
 use Rattle.std.proofs.lemmas.Option.{same_Some}
 use Rattle.std.proofs.lemmas.Bool.{true≢false}
-use Rattle.hashlink_model.specs.Entries.{put, stored_key, without}
+use Rattle.hashlink_model.specs.Entries.{put, set_value_at, stored_key, without}
 use Rattle.hashlink_model.specs.MapState.{MapState}
-use Rattle.hashlink_model.specs.Steps.{MovesMatchAndWrites, PopsFront}
-use Rattle.hashlink_model.proofs.Pops.{pops_front}
-use Rattle.hashlink_model.proofs.Splits.{stands_from_lookup, lookup-none, lookup-here, key_from_lookup}
-use Rattle.hashlink_model.proofs.Splits.{set_value-here}
-use Rattle.hashlink_model.proofs.ByPlace.{moved-there}
+use Rattle.hashlink_model.specs.Steps.{MovesMatchAndWrites}
+use Rattle.hashlink_model.proofs.Splits.{stands_from_lookup, lookup-here, key_from_lookup, set_value-here}
+use Rattle.hashlink_model.proofs.ByPlace.{moved-there, keys-set_value_at, length-set_value_at}
 use Rattle.hashlink_model.proofs.Finds.{stored_key-equal}
 use Rattle.hashlink_model.proofs.Puts.{none_without, put_back, put_back_here}
+use Rattle.hashlink_map.specs.WritingWalk.{WritingWalk, after_front, walk_with}
 use Rattle.hashlink_curve.specs.Recency.{RecencyState, Rises, IsPlaced, MovesLast}
 use Rattle.hashlink_curve.proofs.Sums.{count_by-middle, count_by-cons}
 
@@ -271,106 +271,40 @@ moves_last eq laws test tells old new v w d at s =
 
 -- ---- new places for all keys
 
-abbrev pub numbered : {K : Type 0} → ℕ → List (K × ℕ) → List (K × ℕ)
-numbered n [] = []
-numbered n (e ∷ es) = (e.0, n) ∷ numbered (n + 1) es
-
 module _ {K : Type 0} where
-  numbered-push : (n : ℕ) (es : List (K × ℕ)) (e : K × ℕ)
-      → numbered n (es ++ e ∷ []) ≡ numbered n es ++ (e.0, n + length es) ∷ []
-  numbered-push n [] e = ap (λ m. (e.0, m) ∷ []) (omega arith)
-  numbered-push n (x ∷ es) e =
-      let more : n + 1 + length es ≡ n + length (x ∷ es) = omega arith in
-      ap (λ zs. (x.0, n) ∷ zs)
-      (numbered-push (n + 1) es e ∙ ap (λ m. numbered (n + 1) es ++ (e.0, m) ∷ []) more)
+  -- the entries up to the one at this place, after a write of its value
+  taken-written : (i : ℕ) (es : List (K × ℕ)) (v : ℕ) → i < length es
+      → (k : K) × (take (suc i) (set_value_at es i v) ≡ take i es ++ (k, v) ∷ [])
+  taken-written i [] v l = absurd (omega (arith, l))
+  taken-written zero (e ∷ es) v l = (e.0, refl)
+  taken-written (suc i) (e ∷ es) v l =
+      let r = taken-written i es v (omega (arith, l)) in (r.0, ap (λ zs. e ∷ zs) r.1)
 
-  pub length-numbered : (n : ℕ) (es : List (K × ℕ)) → length (numbered n es) ≡ length es
-  length-numbered n [] = refl
-  length-numbered n (x ∷ es) = ap suc (length-numbered (n + 1) es)
+module _ {K S : Type 0} where
+  -- the entries before this place have rising places, at which the marks are. All keys are as they were
+  pub record Renumbers (old : List (K × ℕ)) (w : WritingWalk K ℕ S) (row : List ℕ) (place : ℕ)
+      : Type 0 where
+    pub at : w.at ≡ place
+    pub whole : place + w.left ≡ length w.map.entries
+    pub keys : keys_of w.map.entries ≡ keys_of old
+    pub rises : Rises 0 (take place w.map.entries) place
+    pub marked : Marked row (values_of (take place w.map.entries))
 
-  keys_of-numbered : (n : ℕ) (es : List (K × ℕ)) → keys_of (numbered n es) ≡ keys_of es
-  keys_of-numbered n [] = refl
-  keys_of-numbered n (x ∷ es) = ap (λ ks. x.0 ∷ ks) (keys_of-numbered (n + 1) es)
-
-  numbered-rises : (n m : ℕ) (es : List (K × ℕ)) → m ≡ n + length es → Rises n (numbered n es) m
-  numbered-rises n m [] e = omega arith
-  numbered-rises n m (x ∷ es) e = (omega arith, numbered-rises (n + 1) m es (omega arith))
-
-  -- this many entries got their new place and moved last
-  pub record Renumbers (eq : K → K → Bool) (old es : List (K × ℕ)) (row : List ℕ) (place : ℕ) : Type 0 where
-    pub done : List (K × ℕ)
-    pub left : List (K × ℕ)
-    pub split : old ≡ done ++ left
-    pub count : length done ≡ place
-    pub is : es ≡ left ++ numbered 0 done
-    pub marked : Marked row (values_of (numbered 0 done))
-    pub distinct : IsEntries eq es
-
-  module _ {eq : K → K → Bool} {old es : List (K × ℕ)} {row : List ℕ} {place : ℕ}
-      (r : Renumbers eq old es row place) where
-    both : length r.done + length r.left ≡ length old
-    both = sym (ap length r.split ∙ length-append r.done r.left)
-
-    pub Renumbers-free : place < length row → get_or row place 0 ≡ 0
-    Renumbers-free l =
-        free_at (numbered 0 r.done) place row (numbered-rises 0 place r.done (omega (arith, r.count)))
-        r.marked l
-
-    -- the first entry, and the entries after it
-    Renumbers-next : place < length old → (e : K × ℕ) × (left : List (K × ℕ)) × (r.left ≡ e ∷ left)
-    Renumbers-next l = by r.left (omega (arith, both, r.count))
-      where
-        by : (zs : List (K × ℕ)) → 0 < length zs → (e : K × ℕ) × (left : List (K × ℕ)) × (zs ≡ e ∷ left)
-        by [] l = absurd (omega arith)
-        by (z ∷ zs) l = (z, zs, refl)
-
-    -- all entries got a new place
-    pub Renumbers-end : place ≡ length old → length old ≤ length row
-        → IsPlaced eq es row (length es) × (keys_of es ≡ keys_of old) × (length es ≡ length old)
-    Renumbers-end e fits =
-        let none = nil_from_length r.left (omega (arith, both, r.count)) in
-        let all : old ≡ r.done = r.split ∙ ap (λ zs. r.done ++ zs) none ∙ append-nil r.done in
-        let is : es ≡ numbered 0 old = r.is ∙ ap₂ (λ zs ws. zs ++ numbered 0 ws) none (sym all) in
-        let long = ap length is ∙ length-numbered 0 old in (
-          record {
-            distinct = r.distinct;
-            rises = subst (λ zs. Rises 0 zs (length es)) (sym is)
-                (numbered-rises 0 (length es) old (omega arith));
-            marked = subst (Marked row)
-                (ap (λ zs. values_of (numbered 0 zs)) (sym all) ∙ ap values_of (sym is)) r.marked;
-            within = omega arith;
-          },
-          ap keys_of is ∙ keys_of-numbered 0 old,
-          long,
-        )
-
-  pub Renumbers-step : {S : Type 0} (eq : K → K → Bool) (old : List (K × ℕ)) (a b c : MapState K ℕ S)
-      (row after : List ℕ) (place : ℕ) (key : K) (v : ℕ)
-      → Renumbers eq old a.entries row place → place < length old → PopsFront a b (Some (key, v))
-      → (lookup (eq key) b.entries ≡ None → c.entries ≡ b.entries ++ (key, place) ∷ [])
-      → IsEntries eq c.entries
+  pub Renumbers-step : {old : List (K × ℕ)} {w new : WritingWalk K ℕ S} {row after : List ℕ} {place : ℕ}
+      → Renumbers old w row place → 0 < w.left → new ≡ walk_with (after_front w) w.at place
       → ((xs ys : List ℕ) → Marked row (xs ++ ys) → Marked after (xs ++ place ∷ ys))
-      → Renumbers eq old c.entries after (place + 1)
-  Renumbers-step {S} eq old a b c row after place key v r l p added d m =
-      let popped = (pops_front a b (key, v) p).0 in
-      let s = Renumbers-next r l in
-      let left = s.1 in
-      let es : s.0 ∷ (left ++ numbered 0 r.done) ≡ (key, v) ∷ b.entries
-      = sym (r.is ∙ ap (λ zs. zs ++ numbered 0 r.done) s.2) ∙ popped in
-      let same : s.0 ≡ (key, v) = cc in
-      let rest : left ++ numbered 0 r.done ≡ b.entries = cc in
-      let none = IsEntries-head eq (key, v) b.entries (subst (IsEntries eq) popped r.distinct) in
-      let at : 0 + length r.done ≡ place = omega (arith, r.count) in
-      let pushed = numbered-push 0 r.done (key, v) ∙ ap (λ n. numbered 0 r.done ++ (key, n) ∷ []) at in
-      record {
-        done = r.done ++ (key, v) ∷ [];
-        left = left;
-        split = r.split ∙ ap (λ zs. r.done ++ zs) (s.2 ∙ ap (λ e. e ∷ left) same)
-            ∙ sym (append_assoc r.done ((key, v) ∷ []) left);
-        count = omega (arith, length-append r.done ((key, v) ∷ []));
-        is = added (lookup-none (eq key) b.entries none) ∙ ap (λ zs. zs ++ (key, place) ∷ []) (sym rest)
-            ∙ append_assoc left (numbered 0 r.done) ((key, place) ∷ []) ∙ ap (λ zs. left ++ zs) (sym pushed);
-        marked = subst (λ zs. Marked after (values_of zs)) (sym pushed)
-            (marked_last (numbered 0 r.done) key place row after m r.marked);
-        distinct = d;
+      → Renumbers old new after (place + 1)
+  Renumbers-step {old = old} {w = w} {row = row} {after = after} {place = place} r some told marks =
+      let es = w.map.entries in
+      let front = take place es in
+      let t = taken-written place es place (omega (arith, r.whole, some)) in
+      let there : take (place + 1) (set_value_at es w.at place) ≡ front ++ (t.0, place) ∷ []
+      = ap₂ (λ n i. take n (set_value_at es i place)) (add-one place) r.at ∙ t.1 in
+      subst (λ n. Renumbers old n after (place + 1)) (sym told) record {
+        at = ap (λ i. i + 1) r.at;
+        whole = omega (arith, r.whole, some, length-set_value_at es w.at place);
+        keys = keys-set_value_at es w.at place ∙ r.keys;
+        rises = subst (λ zs. Rises 0 zs (place + 1)) (sym there) (rises_push 0 front t.0 place r.rises);
+        marked = subst (λ zs. Marked after (values_of zs)) (sym there)
+            (marked_last front t.0 place row after marks r.marked);
       }

@@ -185,7 +185,7 @@ const MOST_KEYS: usize = 1 << 55;
 const PLACES: usize = 16;
 
 /// Moves the keys to the places from 0 on, in their order, and builds a row with their marks and many more
-/// free places. If memory runs out, nothing changes.
+/// free places. It hashes no key, and no entry moves. If memory runs out, nothing changes.
 fn renumber<K: Eq + Hash + Drop, S: BuildHasher>(
     alloc: Global,
     places: &mut LinkedHashMap<K, usize, S>,
@@ -201,10 +201,12 @@ fn renumber<K: Eq + Hash + Drop, S: BuildHasher>(
         return Err(AllocError);
     }
     let mut marks = Marks::with_places(alloc, PLACES * (count + 1))?;
-    for place in 0..count {
-        let (key, _) = places.pop_front().unwrap();
-        places.insert(key, place).unwrap();
+    let mut place = 0;
+    let mut values = places.values_mut();
+    while let Some(value) = values.next() {
+        *value = place;
         marks.mark(place);
+        place += 1;
     }
     Ok(marks)
 }

@@ -1,9 +1,14 @@
 use Rattle.hashlink_curve.proofs.Names.{◌≡◌, ◌≤◌, ◌+◌, ◌*◌, ◌^◌, length, entries_of}
 use Rattle.hashlink_curve.proofs.Placing.{Renumbers}
+use Rattle.hashlink_map.specs.IterMut.{values_map, values_state}
 use Rattle.hashlink_curve.proofs.recency.renumber.Given as goal
 
-abbrev pub invariant-loop-place : goal.invariant-loop-place
-invariant-loop-place g l =
-    Renumbers g.K.PartialEq.eq (entries_of l.initial.places) (entries_of l.places) l.marks l.place
-    × (16 * (l.count + 1) ≡ length l.marks) × (length (entries_of l.initial.places) ≡ l.count)
-    × (l.count ≤ 2 ^ 55)
+abbrev pub invariant-loop-value : goal.invariant-loop-value
+invariant-loop-value g l =
+    ((values_map l.values).ghost_name ≡ (values_map l.initial.values).ghost_name)
+    × Renumbers (entries_of l.fn.places) (values_state l.values) l.marks l.place
+    × (l.place + (values_state l.values).left ≡ l.count)
+    × (16 * (l.count + 1) ≡ length l.marks) × (l.count ≤ 2 ^ 55)
+
+abbrev pub decreases-loop-value : goal.decreases-loop-value
+decreases-loop-value g l = (values_state l.values).left
