@@ -4,9 +4,9 @@ use Rattle.hashlink_curve.proofs.Names.{List, [], ◌∷◌, ◌++◌, length, t
 use Rattle.hashlink_curve.proofs.Names.{sym, ap, ap₂, ◌∙◌, subst, subst₂, arith, append_assoc, length-append}
 use Rattle.hashlink_curve.proofs.Names.{get_or, set, sum, IsEquivalence, AllZip, after_last, list_any}
 use Rattle.hashlink_curve.proofs.Names.{IsTallied, is_member, unique_keys, drop-nil, nat_tests, Touches}
-use Rattle.hashlink_curve.proofs.Names.{tallied, sum_by-append, sum_by-set, IsKeyTest, reuse_distance}
+use Rattle.hashlink_curve.proofs.Names.{tallied, sum_by-append, sum_by-set, reuse_distance}
 use Rattle.hashlink_curve.proofs.Names.{CanCount, cache_misses_from, CurveState, Counted, Counts, misses_at}
-use Rattle.hashlink_curve.proofs.Names.{KeepsCounts, MovesPast}
+use Rattle.hashlink_curve.proofs.Names.{MovesPast}
 use Rattle.std.proofs.Common.{Option, true≢false, Vec, vec_len, vec_capacity, ◌^◌}
 use Rattle.std.specs.declared.alloc.Global.{Global}
 use Rattle.std.specs.Set.{remove_key, distinct_count}
@@ -229,11 +229,7 @@ module _ {K : Type 0} (eq : K → K → Bool) (laws : IsEquivalence eq) where
   Touches-next old new k (Some d) reuses n t i fits room =
       MovesPast-next (eq k) old new d reuses n t i fits
 
-  -- ---- keys that pass a test, and keys that are equal
-
-  -- a test that passes a key is the equality with it
-  pub test_is : (test : K → Bool) → IsKeyTest eq test → (k : K) → test k ≡ true → test ≡ eq k
-  test_is test tells k t = fun_ext (λ y. tells k y t)
+  -- ---- keys that are equal
 
   zip_last : (xs us : List K) (k q : K) → eq k q ≡ true → Alike xs (us ++ k ∷ []) → Alike xs (us ++ q ∷ [])
   zip_last [] [] k q t z = absurd z
@@ -269,14 +265,6 @@ module _ {K : Type 0} (eq : K → K → Bool) (laws : IsEquivalence eq) where
 
       distance_by_test : List K → (K → Bool) → Option ℕ
       distance_by_test used e = cond (list_any e used) (Some (distinct_count eq (after_last e used))) None
-
-  -- what was counted for a history still is if the counts are the same
-  pub Counted-kept : (used : List K) (old new : CurveState K) → KeepsCounts old new → Counted eq used old
-      → Counted eq used new
-  Counted-kept used old new same h = record {
-    keys = subst (λ ks. Alike ks (unique_keys eq used)) (sym same.keys) h.keys;
-    misses = λ c. ap₂ (λ ks ns. length ks + sum (drop c ns)) same.keys same.reuses ∙ h.misses c;
-  }
 
   -- every use is a miss or a reuse
   pub Counted-accesses : (used : List K) (s : CurveState K) → Counted eq used s → misses_at s 0 ≡ length used

@@ -1,9 +1,9 @@
 -- What many proofs of this crate import.
-pub use Rattle.hashlink_core.specs.Keyed.{entries_of, state_of}
+pub use Rattle.hashlink_core.specs.Keyed.{entries_of}
 pub use Rattle.hashlink_curve.specs.Curve.{Counted, Counts, CurveState, ListsFalls, falls_from, misses_at}
-pub use Rattle.hashlink_curve.specs.Curve.{CanCount, IsTallied, KeepsCounts, reserved_uses, tallied}
-pub use Rattle.hashlink_curve.specs.Marks.{CanChange, Marked, changed, rows_of}
-pub use Rattle.hashlink_curve.specs.Recency.{GoesLast, KeepsKeys, MovesPast, Touches}
+pub use Rattle.hashlink_curve.specs.Curve.{CanCount, IsTallied, reserved_uses, tallied}
+pub use Rattle.hashlink_curve.specs.Marks.{Marked, rows_of}
+pub use Rattle.hashlink_curve.specs.Recency.{GoesLast, MovesPast, Touches}
 pub use Rattle.hashlink_history.specs.History.{cache_misses_from, reuse_distance}
 pub use Rattle.hashlink_model.proofs.Splits.{none_from_lookup}
 pub use Rattle.hashlink_model.specs.Entries.{IsEntries, IsKeyTest}

@@ -5,25 +5,31 @@ use Rattle.hashlink_curve.proofs.Names.{subst, arith, length-append, get_or, ◌
 use Rattle.hashlink_curve.proofs.Names.{IsEquivalence, count_by, list_any, keys_of, nat_tests, IsEntries}
 use Rattle.hashlink_curve.proofs.Names.{IsKeyTest, none_from_lookup, Marked, MovesPast, GoesLast}
 use Rattle.hashlink_model.proofs.Distinct.{each-right, none_equal, none_others}
-use Rattle.std.proofs.Common.{add-one}
+use Rattle.std.proofs.Common.{Option, add-one}
+use Rattle.std.proofs.Math.Path.{fun_ext}
 use Rattle.std.proofs.lemmas.List.{append-nil, map-append, length-map}
-use Rattle.std.specs.Map.{lookup, values_of, set_value}
+use Rattle.std.specs.Map.{lookup, values_of}
 use Rattle.std.proofs.lemmas.Map.{NonePasses}
 use Rattle.std.proofs.lemmas.Option.{same_Some}
 use Rattle.std.proofs.lemmas.Bool.{true≢false}
-use Rattle.hashlink_model.specs.Entries.{put, set_value_at, stored_key, without}
-use Rattle.hashlink_model.specs.MapState.{MapState}
-use Rattle.hashlink_model.specs.Steps.{MovesMatchAndWrites}
-use Rattle.hashlink_model.proofs.Splits.{stands_from_lookup, lookup-here, key_from_lookup, set_value-here}
-use Rattle.hashlink_model.proofs.ByPlace.{moved-there, keys-set_value_at, length-set_value_at}
-use Rattle.hashlink_model.proofs.Finds.{stored_key-equal}
-use Rattle.hashlink_model.proofs.Puts.{none_without, put_back, put_back_here}
+use Rattle.hashlink_core.proofs.Steps.{lookup-place, none_passes_from_place}
+use Rattle.hashlink_model.specs.Entries.{moved_at, place_of, put, set_value_at}
+use Rattle.hashlink_model.specs.Entry.{ReplacesValue, value_at}
+use Rattle.hashlink_model.specs.MapState.{AddsEntry, MapState, MovesAt}
+use Rattle.hashlink_model.proofs.Splits.{stands_from_lookup, lookup-here, key_from_place}
+use Rattle.hashlink_model.proofs.ByPlace.{moved_at-put, keys-set_value_at, length-set_value_at}
+use Rattle.hashlink_model.proofs.Puts.{IsEntries-put, put_back_absent, put_back_here}
 use Rattle.hashlink_map.specs.WritingWalk.{WritingWalk, after_front, walk_with}
-use Rattle.hashlink_curve.specs.Recency.{RecencyState, Rises, IsPlaced, MovesLast}
+use Rattle.hashlink_curve.specs.Recency.{RecencyState, Rises, IsPlaced, PutsLast}
 use Rattle.hashlink_curve.proofs.Sums.{count_by-middle, count_by-cons}
 
 pub same_keys : {K : Type 0} {s t : RecencyState K} → s ≡ t → s.keys ≡ t.keys
 same_keys same = ap (λ s. s.keys) same
+
+-- a test that passes a key is the equality with it
+pub test_is : {K : Type 0} (eq : K → K → Bool) (test : K → Bool) → IsKeyTest eq test → (k : K)
+    → test k ≡ true → test ≡ eq k
+test_is eq test tells k t = fun_ext (λ y. tells k y t)
 
 module _ {K : Type 0} where
   -- ---- rising places
@@ -98,6 +104,10 @@ module _ {K : Type 0} where
   none_found test es none there =
       true≢false (sym there ∙ list_any-keys test es (none_from_lookup test es none))
 
+  pub none_among : (test : K → Bool) (es : List (K × ℕ)) → place_of test es ≡ None
+      → list_any test (keys_of es) ≡ false
+  none_among test es none = list_any-keys test es (none_passes_from_place test es none)
+
   -- a mark at the place of one more entry
   marked_last : (es : List (K × ℕ)) (k : K) (n : ℕ) (row after : List ℕ)
       → ((xs ys : List ℕ) → Marked row (xs ++ ys) → Marked after (xs ++ n ∷ ys))
@@ -161,13 +171,6 @@ module _ {K : Type 0} (eq : K → K → Bool) (laws : IsEquivalence eq) where
         values = values;
         marked = omega arith;
       }
-
-  -- the same for the key that passed a test and moved last
-  pub found_match : (test : K → Bool) (es new : List (K × ℕ)) (row : List ℕ) (next place w : ℕ)
-      → IsPlaced eq es row next → lookup test es ≡ Some place → (m : MovesLast eq test es new w)
-      → Found es row next m.key place
-  found_match test es new row next place w p l m =
-      found es row next m.key place p (subst (λ t. lookup t es ≡ Some place) m.tells l)
 
   -- the key is put last, at the next place, where a mark is set
   pub placed_last : (es new : List (K × ℕ)) (row after : List ℕ) (next : ℕ) (k : K) → Rises 0 es next
@@ -245,29 +248,48 @@ module _ {K : Type 0} (eq : K → K → Bool) (laws : IsEquivalence eq) where
         last = ap keys_of n ∙ keys_of-append es ((k, next) ∷ []);
       }
 
--- the entry that passed the test and moved last, and into which w was written through the loan, is an entry
--- that was put last
-pub moves_last : {K S : Type 0} (eq : K → K → Bool) → IsEquivalence eq → (test : K → Bool)
-    → IsKeyTest eq test → (old new : MapState K ℕ S) (v w : ℕ)
-    → IsEntries eq old.entries → lookup test old.entries ≡ Some v
-    → MovesMatchAndWrites test old new (length old.entries) w
-    → MovesLast eq test old.entries new.entries w
-moves_last eq laws test tells old new v w d at s =
-    let es = old.entries in
-    let found = key_from_lookup test eq tells es v at in
-    let k = found.0 in
-    let there = subst (λ t. lookup t es ≡ Some v) found.1 at in
-    let moves = subst (λ t. MovesMatchAndWrites t old new (length es) w) found.1 s in
-    record {
-      key = k;
-      tells = found.1;
-      entries = ap (λ m. m.entries) moves.writes
-          ∙ ap (λ zs. set_value (eq k) zs w)
-          (moves.moves.entries ∙ moved-there eq es k (length es) v there ∙ put_back eq es k v)
-          ∙ set_value-here (eq k) (stored_key eq es k, v) [] (stored_key-equal eq laws k es) w
-          (without eq es k) (none_without eq laws es k d)
-          ∙ sym (put_back eq es k w);
-    }
+-- ---- the key that passes a test goes last
+
+module _ {K S : Type 0} (eq : K → K → Bool) (test : K → Bool) (tells : IsKeyTest eq test)
+    {es after : List (K × ℕ)} {old new : MapState K ℕ S} {next : ℕ} (before : es ≡ old.entries)
+    (is : after ≡ new.entries) where
+  -- its entry, which gets another place and then moves
+  pub puts_found : {mid : MapState K ℕ S} {i j was : ℕ} → i ≡ j → place_of test es ≡ Some j
+      → ReplacesValue old mid j next was → MovesAt mid new i (length mid.entries)
+      → PutsLast eq test es after next (Some was)
+  puts_found {i = i} {j = j} same at r m =
+      let k = key_from_place test eq tells es j at in
+      let there = subst (λ t. place_of t es ≡ Some j) k.1 at in
+      record {
+        key = k.0;
+        tells = k.1;
+        entries = is ∙ m.entries ∙ ap₂ (λ zs n. moved_at zs n (length zs))
+            (r.step.entries ∙ ap (λ zs. set_value_at zs j next) (sym before)) same
+            ∙ ap (moved_at (set_value_at es j next) j) (length-set_value_at es j next)
+            ∙ moved_at-put eq es k.0 j there next (length es);
+        found = sym (lookup-place (eq k.0) es j there ∙ ap (λ zs. value_at zs j) before ∙ r.answer);
+      }
+
+  -- a new entry
+  pub puts_made : {k : K} → test k ≡ true → AddsEntry eq old new k next (length old.entries)
+      → PutsLast eq test es after next None
+  puts_made {k = k} passes a =
+      record {
+        key = k;
+        tells = test_is eq test tells k passes;
+        entries = is ∙ a.adds.entries ∙ ap (λ zs. put eq zs k next (length zs)) (sym before);
+        found = sym (ap (lookup (eq k)) before ∙ a.absent);
+      }
+
+-- afterwards
+module _ {K : Type 0} (eq : K → K → Bool) (laws : IsEquivalence eq) {test : K → Bool}
+    {es after : List (K × ℕ)} {next : ℕ} {was : Option ℕ} (p : PutsLast eq test es after next was) where
+  pub puts_distinct : IsEntries eq es → IsEntries eq after
+  puts_distinct d = subst (IsEntries eq) (sym p.entries) (IsEntries-put eq laws es p.key next (length es) d)
+
+  pub puts_new : was ≡ None → after ≡ es ++ (p.key, next) ∷ []
+  puts_new none =
+      p.entries ∙ put_back_absent eq es p.key next (none_from_lookup (eq p.key) es (sym p.found ∙ none))
 
 -- ---- new places for all keys
 

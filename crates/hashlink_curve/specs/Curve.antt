@@ -59,14 +59,6 @@ module _ {K : Type 0} (eq : K → K → Bool) where
   Counts used old new k distance =
       Counted used old → Counted (used ++ k ∷ []) new × (distance ≡ distance_of used k)
 
-  -- a use of the key that passes the test, by its result: either no key passes and no count changed, or one
-  -- does, and a use of it was counted
-  abbrev pub CountsMatch : (K → Bool) → CurveState K → CurveState K → Option ℕ → Type 0
-  CountsMatch test old new None = (list_any test old.keys ≡ false) × KeepsCounts old new
-  CountsMatch test old new (Some others) =
-      IsTrue (list_any test new.keys)
-      × ((used : List K) (k : K) → IsTrue (test k) → Counts used old new k (Some others))
-
 -- how the parts of a curve belong together: a count for each possible distance, and the number of uses
 pub record IsTallied {K : Type 0} (keys : List K) (reuses : List ℕ) (accesses : ℕ) : Type 0 where
   pub distances : length reuses ≡ length keys

@@ -2,7 +2,7 @@
 -- marks.
 use Rattle.std.specs.Prelude.{◌≡◌, ℕ, ◌+◌, ◌≤◌, Bool, true, false, List, [], ◌∷◌, ◌++◌, length, Option, None}
 use Rattle.std.specs.Prelude.{Some}
-use Rattle.std.specs.Map.{values_of}
+use Rattle.std.specs.Map.{lookup, values_of}
 use Rattle.std.specs.List.{list_any}
 use Rattle.std.specs.Set.{is_member}
 use Rattle.hashlink_model.specs.Entries.{IsEntries, put}
@@ -26,13 +26,14 @@ pub record IsPlaced {K : Type 0} (eq : K → K → Bool) (es : List (K × ℕ)) 
   pub marked : Marked row (values_of es)
   pub within : next ≤ length row
 
--- the entry whose key passes the test moves last, to the place `next`. A key passes exactly if it is equal to
--- its key
-pub record MovesLast {K : Type 0} (eq : K → K → Bool) (test : K → Bool) (old new : List (K × ℕ))
-    (next : ℕ) : Type 0 where
+-- the entry of a key goes last, to the place `next`, and had the place `was`. If there was none, it is a new
+-- one. A key passes the test exactly if it is equal to that key
+pub record PutsLast {K : Type 0} (eq : K → K → Bool) (test : K → Bool) (old new : List (K × ℕ)) (next : ℕ)
+    (was : Option ℕ) : Type 0 where
   pub key : K
   pub tells : test ≡ eq key
   pub entries : new ≡ put eq old key next (length old)
+  pub found : was ≡ lookup (eq key) old
 
 module _ {K : Type 0} where
   -- a key passes the test and moves last, past this many others
@@ -47,20 +48,10 @@ module _ {K : Type 0} where
     pub moved : new ≡ (front ++ back) ++ key ∷ []
     pub count : others ≡ length back
 
-  -- no key passes the test, and no key moves
-  pub record PassesNone (test : K → Bool) (old new : List K) : Type 0 where
-    pub absent : list_any test old ≡ false
-    pub unchanged : new ≡ old
-
   -- the keys are the same, and no place fewer is free
   pub record KeepsKeys (old new : RecencyState K) : Type 0 where
     pub keys : new.keys ≡ old.keys
     pub free : old.free ≤ new.free
-
-  -- a use of the key that passes the test, if one does, by its result
-  abbrev pub TouchesMatch : (K → Bool) → List K → List K → Option ℕ → Type 0
-  TouchesMatch test old new None = PassesNone test old new
-  TouchesMatch test old new (Some others) = MovesPast test old new others
 
 module _ {K : Type 0} (eq : K → K → Bool) where
   -- a key that was absent is added last
@@ -72,3 +63,9 @@ module _ {K : Type 0} (eq : K → K → Bool) where
   abbrev pub Touches : List K → List K → K → Option ℕ → Type 0
   Touches old new k None = GoesLast old new k
   Touches old new k (Some others) = MovesPast (eq k) old new others
+
+  -- a use of a key by its result. A key passes the test exactly if it is equal to that key
+  pub record TouchesMatch (test : K → Bool) (old new : List K) (others : Option ℕ) : Type 0 where
+    pub key : K
+    pub tells : test ≡ eq key
+    pub touched : Touches old new key others

@@ -4,7 +4,7 @@ ghost use Rattle.std.specs.Prelude.{IfErr, IsOk, OnErr, OnOk, IsTrue, vec_capaci
 ghost use Rattle.std.specs.List.{list_any};
 ghost use Rattle.std.specs.Set.{distinct_count, is_member};
 ghost use Rattle.hashlink_history.specs.History.{cache_misses};
-ghost use Rattle.hashlink_curve.specs.Curve.{Counted, Counts, CountsMatch, CanMakeMatch, misses_at};
+ghost use Rattle.hashlink_curve.specs.Curve.{Counted, Counts, CanMakeMatch, misses_at};
 ghost use Rattle.hashlink_curve.specs.Curve.{falls_from, ListsFalls, CanCount, KeepsCounts, tallied};
 
 use crate::falls::Falls;
@@ -95,9 +95,8 @@ impl<K: Eq + Hash, S: BuildHasher> MissCurve<K, S> {
     /// Does the same as `record` for a key that the query matches. If no such key is recorded yet, `make` has
     /// to be callable, and is called once. The key that it returns has to match the query, and is recorded.
     ///
-    /// It takes as long as `record`, and hashes the key a second time if it is a new one. If memory runs out,
-    /// if `make` fails, or after 2 to the power of 64 less 1 uses, it returns `AllocError` and no count
-    /// changes.
+    /// It takes as long as `record`, and hashes the query once. If memory runs out, if `make` fails, or after
+    /// 2 to the power of 64 less 1 uses, it returns `AllocError` and no count changes.
     pub fn record_with<Q: Equivalent<K>, F: FnOnce() -> Result<K, AllocError>>(
         &mut self,
         query: Q,
@@ -116,35 +115,16 @@ impl<K: Eq + Hash, S: BuildHasher> MissCurve<K, S> {
             → self.old.reserved ≤ self.new.reserved + 1 }
         ensures unchanged { OnErr result (KeepsCounts self.old self.new) }
     {
-        if let Some(others) = self.record_match(query)? {
-            return Ok(Some(others));
-        }
-        let key = make()?;
-        let Ok(distance) = self.record(key) else {
-            return Err(AllocError);
-        };
-        Ok(distance)
-    }
-
-    /// Does the same as `record` for the key that the query matches. If no such key is recorded yet, it
-    /// returns `None` and changes nothing.
-    fn record_match<Q: Equivalent<K>>(&mut self, query: Q) -> Result<Option<usize>, AllocError>
-    where
-        K: Drop,
-        ensures counted { IfOk result (CountsMatch K.eq (Q.matches query) self.old self.new) }
-        ensures again { 0 < self.old.reserved → misses_at self.old 0 < 2 ^ 64 - 1 → IsOk result }
-        ensures reserved { self.old.reserved ≤ self.new.reserved + 1 }
-        ensures unchanged { OnErr result (KeepsCounts self.old self.new) }
-    {
         if self.accesses == u64::MAX {
             return Err(AllocError);
         }
-        let Some(others) = self.recency.touch_match(query)? else {
-            return Ok(None);
+        let Ok(()) = self.reuses.reserve(1) else {
+            return Err(AllocError);
         };
-        count_use(&mut self.reuses, Some(others));
+        let distance = self.recency.touch_with(query, make)?;
+        count_use(&mut self.reuses, distance);
         self.accesses += 1;
-        Ok(Some(others))
+        Ok(distance)
     }
 
     /// Returns the number of further uses of recorded keys for which memory is reserved. Until the number of

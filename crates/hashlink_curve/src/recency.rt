@@ -1,14 +1,15 @@
 //! Keys in the order of their last uses.
-ghost use Rattle.std.specs.Prelude.{◌≡◌, ◌+◌, ◌-◌, ◌<◌, ◌≤◌, [], length, IfOk, IfErr, IsOk, OnOk, OnErr};
-ghost use Rattle.std.specs.Prelude.{OnSome, IfNone, IsTrue};
+ghost use Rattle.std.specs.Prelude.{◌≡◌, ◌+◌, ◌-◌, ◌<◌, ◌≤◌, [], length, Ok, IfOk, IfErr, IsOk, OnOk, OnErr};
+ghost use Rattle.std.specs.Prelude.{None, IsTrue};
+ghost use Rattle.std.specs.List.{list_any};
 ghost use Rattle.std.specs.Map.{keys_of, lookup};
 ghost use Rattle.std.specs.Set.{is_member};
 ghost use Rattle.hashlink_core.specs.Keyed.{entries_of};
-ghost use Rattle.hashlink_model.specs.Entries.{IsEntries};
-ghost use Rattle.hashlink_curve.specs.Recency.{Touches, TouchesMatch, IsPlaced, KeepsKeys, MovesLast};
+ghost use Rattle.hashlink_curve.specs.Curve.{CanMakeMatch};
+ghost use Rattle.hashlink_curve.specs.Recency.{Touches, TouchesMatch, IsPlaced, KeepsKeys, PutsLast};
 
 use crate::marks::Marks;
-use hashlink_map::{Equivalent, LinkedHashMap};
+use hashlink_map::{Equivalent, LinkedHashMap, RawEntryMut};
 use std::alloc::{AllocError, Global};
 use std::hash::{BuildHasher, Hash};
 use std::marker::Model;
@@ -101,19 +102,24 @@ impl<K: Eq + Hash, S: BuildHasher> Recency<K, S> {
         }
     }
 
-    /// Makes the key that the query matches the last, if it is present, and returns how many keys were used
-    /// since its last use. It returns `None` if no key matches.
+    /// Makes the key that the query matches the last, and returns how many keys were used since its last use.
+    /// If no key matches, `make` has to be callable, and is called once. The key that it returns has to match
+    /// the query. It becomes the last, and the result is `None`.
     ///
-    /// It takes as long as `touch`, and allocates only if no place is free. If memory runs out, no key moves.
-    pub(crate) fn touch_match<Q: Equivalent<K>>(
+    /// It takes as long as `touch`, and hashes the query once. It allocates only if no place is free, or if
+    /// no key matches. If memory runs out, or if `make` fails, no key moves.
+    pub(crate) fn touch_with<Q: Equivalent<K>, F: FnOnce() -> Result<K, AllocError>>(
         &mut self,
         query: Q,
+        make: F,
     ) -> Result<Option<usize>, AllocError>
     where
         K: Drop,
-        ensures touched { IfOk result (TouchesMatch (Q.matches query) self.old.keys self.new.keys) }
-        ensures absent { IfOk result (λ others. IfNone others (KeepsKeys self.old self.new)) }
-        ensures certain { 0 < self.old.free → IsOk result }
+        F: Drop,
+        requires { CanMakeMatch (Q.matches query) (F.pre make) (λ k. F.post make (Ok k)) self.old.keys }
+        ensures touched { IfOk result (TouchesMatch K.eq (Q.matches query) self.old.keys self.new.keys) }
+        ensures certain { IsTrue (list_any (Q.matches query) self.old.keys) → 0 < self.old.free
+            → IsOk result }
         ensures free { self.old.free ≤ self.new.free + 1 }
         ensures unchanged { OnErr result (KeepsKeys self.old self.new) }
     {
@@ -124,34 +130,55 @@ impl<K: Eq + Hash, S: BuildHasher> Recency<K, S> {
             &mut self.next,
         )?;
         let count = self.places.len();
-        let Some(place) = move_last(&mut self.places, query, self.next) else {
-            return Ok(None);
-        };
-        let others = count - self.marks.move_mark(place, self.next) - 1;
-        self.next += 1;
-        Ok(Some(others))
+        match put_last(&mut self.places, query, make, self.next)? {
+            Some(place) => {
+                let others = count - self.marks.move_mark(place, self.next) - 1;
+                self.next += 1;
+                Ok(Some(others))
+            }
+            None => {
+                self.marks.mark(self.next);
+                self.next += 1;
+                Ok(None)
+            }
+        }
     }
 }
 
 /// Moves the entry of the key that the query matches to the back and gives it the place `next`. Returns the
-/// place that it had, or `None` if no key matches.
-fn move_last<K: Eq + Hash, S: BuildHasher, Q: Equivalent<K>>(
+/// place that it had. If no key matches, it inserts the key that `make` returns with that place at the back,
+/// and returns `None`. It hashes the query once. If it fails, no entry changes.
+fn put_last<K: Eq + Hash, S: BuildHasher, Q: Equivalent<K>, F: FnOnce() -> Result<K, AllocError>>(
     places: &mut LinkedHashMap<K, usize, S>,
     query: Q,
+    make: F,
     next: usize,
-) -> Option<usize>
-    ensures found { result ≡ lookup (Q.matches query) (entries_of places.old) }
-    ensures moved { OnSome result (MovesLast K.eq (Q.matches query) (entries_of places.old)
+) -> Result<Option<usize>, AllocError>
+where
+    K: Drop,
+    F: Drop,
+    requires { CanMakeMatch (Q.matches query) (F.pre make) (λ k. F.post make (Ok k))
+        (keys_of (entries_of places.old)) }
+    ensures put { IfOk result (PutsLast K.eq (Q.matches query) (entries_of places.old)
         (entries_of places.new) next) }
-    ensures unchanged { IfNone result (entries_of places.new ≡ entries_of places.old) }
-    ensures distinct { IsEntries K.eq (entries_of places.old) }
+    ensures absent { OnErr result (lookup (Q.matches query) (entries_of places.old) ≡ None) }
+    ensures unchanged { OnErr result (entries_of places.new ≡ entries_of places.old) }
 {
-    let Some(place) = places.to_back(query) else {
-        return None;
-    };
-    let old = *place;
-    *place = next;
-    Some(old)
+    let hash = places.hasher().hash_one(query);
+    match places.raw_entry_hashed_nocheck(hash, query) {
+        RawEntryMut::Occupied(mut entry) => {
+            let place = entry.replace_value(next);
+            entry.to_back();
+            Ok(Some(place))
+        }
+        RawEntryMut::Vacant(entry) => {
+            let key = make()?;
+            let Ok(_entry) = entry.insert_entry_hashed_nocheck(hash, key, next) else {
+                return Err(AllocError);
+            };
+            Ok(None)
+        }
+    }
 }
 
 /// Makes sure that the place `next` is free, if necessary by giving every key a new place. If memory runs
