@@ -1,6 +1,10 @@
 -- What the results of an entry's calls state.
-use Rattle.hashlink_map.proofs.Names.{◌≡◌, Option, Some, refl, sym, ap, subst, Result, Ok, Err, IfOk, IfErr}
-use Rattle.hashlink_map.proofs.Names.{OnErr, unwrap_or, MutBor, UnwrapsOrElse}
+use Rattle.hashlink_map.proofs.Names.{◌≡◌, Bool, Option, Some, refl, sym, ap, subst, Result, Ok, Err, IfOk}
+use Rattle.hashlink_map.proofs.Names.{IfErr, OnErr, unwrap_or, length, MutBor, UnwrapsOrElse, MapState}
+use Rattle.hashlink_map.proofs.Names.{AddsEntry, RefusesEntry, PutsLast}
+use Rattle.hashlink_map.specs.TryInsert.{HandsBack}
+use Rattle.hashlink_map.specs.declared.try_insert_error.TryInsertError.{TryInsertError}
+use Rattle.hashlink_map.specs.declared.try_insert_error.TryInsertError.TheVariants.{Make, Memory}
 
 module _ {V E : Type 0} where
   -- the value now in the entry is lent
@@ -22,3 +26,43 @@ module _ {V E : Type 0} where
   pub no_pair : (r : Result (MutBor V) E) (P : E → Type 0) → OnErr r ⊥ → IfErr r P
   no_pair (Ok v) P h = tt
   no_pair (Err e) P h = absurd h
+
+-- an insert into a vacant entry is one at the end
+pub vacant_puts : {K V S : Type 0} {eq : K → K → Bool} {old new : MapState K V S} {k : K} {v : V}
+    → AddsEntry eq old new k v (length old.entries)
+    → PutsLast eq old new k v
+vacant_puts s = rw s.absent s
+
+-- a refusal of the given key and of a value that is handed back
+pub vacant_refuses : {K V S A : Type 0} (eq : K → K → Bool) (old new : MapState K V S) (k : K) (v : V)
+    (r : Result A (K × V))
+    → OnErr r (IfErr r (RefusesEntry eq old new k v)) → IfErr r (λ e. e ≡ (k, v))
+    → OnErr r (IfErr r (λ e. RefusesEntry eq old new k e.1 e))
+vacant_refuses eq old new k v (Ok a) refuses is = tt
+vacant_refuses eq old new k v (Err e) refuses is =
+    subst (λ u. RefusesEntry eq old new k u e) (sym (ap (λ x. x.1) is)) refuses
+
+-- the value that was made is lent or handed back
+module _ {V : Type 0} (Made : V → Type 0) {v : V} (made : Made v) where
+  pub made_lent : {E : Type 0} (r : Result (MutBor V) E) → IfOk r (λ x. x.now ≡ v) → IfOk r (λ x. Made x.now)
+  made_lent (Ok x) is = subst Made (sym is) made
+  made_lent (Err e) is = tt
+
+  pub made_back : {K A : Type 0} (k : K) (r : Result A (K × V)) → IfErr r (λ e. e ≡ (k, v))
+      → IfErr r (λ e. e.0 ≡ k) × IfErr r (λ e. Made e.1)
+  made_back k (Ok a) is = (tt, tt)
+  made_back k (Err e) is = (ap (λ x. x.0) is, subst Made (sym (ap (λ x. x.1) is)) made)
+
+  -- the same if making it may fail
+  pub try_made_lent : {W E : Type 0} (of : W → V) (r : Result (MutBor W) E) → IfOk r (λ x. v ≡ of x.now)
+      → IfOk r (λ x. Made (of x.now))
+  try_made_lent of (Ok x) is = subst Made is made
+  try_made_lent of (Err e) is = tt
+
+pub try_made_back : {K V E A : Type 0} (Made : Result V E → Type 0) {m : Result V E} (made : Made m) (k : K)
+    (r : Result A (TryInsertError K V E))
+    → IfErr r (HandsBack (λ x. m ≡ x) k)
+    → IfErr r (HandsBack Made k)
+try_made_back Made made k (Ok a) is = tt
+try_made_back Made made k (Err (Make q e)) is = (is.0, subst Made is.1 made)
+try_made_back Made made k (Err (Memory pair)) is = (is.0, subst Made is.1 made)

@@ -9,6 +9,7 @@ pub mod EntryUpdates
 pub mod Extending
 pub mod Indexing
 pub mod LastMoved
+pub mod MovedLent
 pub mod Outcomes
 pub mod LendAtPlace
 pub mod LendForGood

@@ -2,6 +2,7 @@
 use Rattle.hashlink_map.proofs.Names
 use Names.{◌≡◌, ◌≢◌, ℕ, zero, suc, ◌+◌, ◌-◌, ◌<◌, ◌≤◌, List, [], ◌∷◌, length, ◌++◌, map, take, Option, None}
 use Names.{Some, refl, ap, ap₂, sym, subst, length-take-le, ◌∙◌, arith, slice_get, OnSome, option_map}
+use Names.{value_at}
 use Names.{set_value_at, MapState, map_state, with_value, first_of, last_of, Keyed, entries_of, state_of}
 use Names.{pair_with_value, with_value_at, values-renewed_value, length-map, PlacesLeft, WritingWalk}
 use Names.{writing_walk, walk_with, walk_in, walk_rest, WritesSoFar, after_front, last_place, after_back}
@@ -95,15 +96,7 @@ module _ {K V S : Type 0} where
       (values-renewed_value m.nodes i v)
       (place_number-renewed (pair_with_value v) m.nodes i (Some p.first))
 
-  -- at the node that was taken
-  pub taken-written : (m : Keyed K V S) (old new : PlacesLeft Node) (n : Node) (j : ℕ)
-      (stepped : WritingWalk K V S)
-      → TakesPlace m (walk_in (λ p. p) m old) (walk_in (λ p. p) m new) j stepped (Some n) → (v : V)
-      → walk_in (λ p. p) (with_value_at m n v) new ≡ walk_with stepped j v
-  taken-written m old new n j stepped takes v =
-      written-there m new n v ∙ ap₂ (λ s k. walk_with s k v) takes.3 takes.1
-
-  -- what is read there
+  -- the pair at the node that was taken
   pub first-taken : (m : Keyed K V S) (old : PlacesLeft Node) (n : Node) (new stepped : WritingWalk K V S)
       → TakesPlace m (walk_in (λ p. p) m old) new (walk_in (λ p. p) m old).at stepped (Some n)
       → slice_get (entries_of m) (place_number m.nodes (Some n))
@@ -122,6 +115,38 @@ module _ {K V S : Type 0} where
       ap (slice_get (entries_of m)) takes.1
       ∙ sym (last-of_part (entries_of m) w.at w.left takes.2
       (omega (arith, stands.few, length-map m.nodes (λ e. e.1))))
+
+-- ---- the value at the node that was taken is lent
+module _ {K V S : Type 0} (m : Keyed K V S) (old new : PlacesLeft Node) (n : Node) {v : V}
+    (there : value_at (entries_of m) (place_number m.nodes (Some n)) ≡ Some v) where
+  -- the walk with any value written at the node, how many places are left, and the value before that
+  abbrev Lent : ℕ → WritingWalk K V S → Option (K × V) → Type 0
+  Lent j stepped e =
+      ((w : V) → walk_in (λ p. p) (with_value_at m n w) new ≡ walk_with stepped j w)
+      × (new.left ≡ stepped.left) × (Some v ≡ option_map (λ e. e.1) e)
+
+  lent-taken : (j : ℕ) (stepped : WritingWalk K V S) (e : Option (K × V))
+      → TakesPlace m (walk_in (λ p. p) m old) (walk_in (λ p. p) m new) j stepped (Some n)
+      → slice_get (entries_of m) (place_number m.nodes (Some n)) ≡ e
+      → Lent j stepped e
+  lent-taken j stepped e takes is = (
+    λ w. written-there m new n w ∙ ap₂ (λ s k. walk_with s k w) takes.3 takes.1,
+    ap (λ s. s.left) takes.3,
+    sym there ∙ ap (option_map (λ e. e.1)) is,
+  )
+
+  pub lent-first : (stepped : WritingWalk K V S)
+      → TakesPlace m (walk_in (λ p. p) m old) (walk_in (λ p. p) m new) (walk_in (λ p. p) m old).at stepped
+      (Some n)
+      → Lent (walk_in (λ p. p) m old).at stepped (first_of (walk_rest (walk_in (λ p. p) m old)))
+  lent-first stepped takes = lent-taken _ stepped _ takes (first-taken m old n _ stepped takes)
+
+  pub lent-last : (stepped : WritingWalk K V S) → StandsIn (λ p. p) m.nodes old
+      → TakesPlace m (walk_in (λ p. p) m old) (walk_in (λ p. p) m new) (last_place (walk_in (λ p. p) m old))
+      stepped (Some n)
+      → Lent (last_place (walk_in (λ p. p) m old)) stepped (last_of (walk_rest (walk_in (λ p. p) m old)))
+  lent-last stepped stands takes =
+      lent-taken _ stepped _ takes (last-taken m old n _ stepped stands takes)
 
 -- ---- lemmas for a caller
 pub on-some : {A : Type 0} {r : Option A} {x : A} {P : Type 0} → r ≡ Some x → OnSome r P → P

@@ -28,8 +28,7 @@ impl<K: Eq + Hash, V, S: BuildHasher> LinkedHashMap<K, V, S> {
         ensures value { option_copied_mut result ≡ lookup (Q.matches key) (entries_of self.old) }
         ensures distinct { IsEntries K.eq (entries_of self.old) }
     {
-        let hash = self.list.hash_of(key);
-        match self.list.find(hash, key) {
+        match self.find(key) {
             Some(node) => {
                 self.list.move_after(node, None);
                 Some(self.list.value_mut(node))
@@ -51,8 +50,7 @@ impl<K: Eq + Hash, V, S: BuildHasher> LinkedHashMap<K, V, S> {
         ensures value { option_copied_mut result ≡ lookup (Q.matches key) (entries_of self.old) }
         ensures distinct { IsEntries K.eq (entries_of self.old) }
     {
-        let hash = self.list.hash_of(key);
-        match self.list.find(hash, key) {
+        match self.find(key) {
             Some(node) => {
                 self.list.move_before(node, None);
                 Some(self.list.value_mut(node))

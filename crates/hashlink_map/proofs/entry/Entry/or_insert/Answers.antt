@@ -1,6 +1,5 @@
-use Rattle.std.proofs.Common.{rules}
 use Rattle.hashlink_map.proofs.Names.{refl}
-use Rattle.hashlink_map.proofs.Answering.{or_default, no_refusal, no_pair}
+use Rattle.hashlink_map.proofs.Answering.{or_default, no_refusal, no_pair, vacant_puts, vacant_refuses}
 use Rattle.hashlink_map.proofs.entry.Entry.or_insert.Goals as goal
 
 pub returns-in-Occupied : goal.returns-in-Occupied
@@ -19,12 +18,10 @@ returns-in-Occupied g c =
 
 pub returns-in-Vacant : goal.returns-in-Vacant
 returns-in-Vacant g c =
+    let r = c.insert.result in
+    let e = c.insert.ensures in
+    let f = c.insert.follows in
     rw c.in-Vacant.is (
-      search rules,
-      record {
-        lends = tt;
-        updates = c.insert.ensures.updates;
-        value = search rules;
-        given = search rules;
-      },
+      (refl, (λ w ok. vacant_puts (f.holds w ok)), vacant_refuses _ _ _ _ _ r f.holds-at-none e.handed_back),
+      record { lends = tt; updates = e.updates; given = e.handed_back; value = e.value },
     )

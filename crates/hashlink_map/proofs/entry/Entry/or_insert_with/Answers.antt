@@ -1,6 +1,6 @@
-use Rattle.std.proofs.Common.{rules}
 use Rattle.hashlink_map.proofs.Names.{refl}
-use Rattle.hashlink_map.proofs.Answering.{or_made, no_refusal, no_pair}
+use Rattle.hashlink_map.proofs.Answering.{or_made, no_refusal, no_pair, vacant_puts, vacant_refuses}
+use Rattle.hashlink_map.proofs.Answering.{made_lent, made_back}
 use Rattle.hashlink_map.proofs.entry.Entry.or_insert_with.Goals as goal
 
 pub returns-in-Occupied : goal.returns-in-Occupied
@@ -20,13 +20,17 @@ returns-in-Occupied g c =
 
 pub returns-in-Vacant : goal.returns-in-Vacant
 returns-in-Vacant g c =
+    let r = c.insert.result in
+    let e = c.insert.ensures in
+    let f = c.insert.follows in
+    let back = made_back (g.F.FnOnce.post c.args.default tt) c.default.ensures _ r e.handed_back in
     rw c.in-Vacant.is (
-      search rules,
+      (refl, (λ w ok. vacant_puts (f.holds w ok)), vacant_refuses _ _ _ _ _ r f.holds-at-none e.handed_back),
       record {
         lends = tt;
-        updates = c.insert.ensures.updates;
-        value = search rules;
-        given = search rules;
-        made = search rules;
+        updates = e.updates;
+        value = made_lent (g.F.FnOnce.post c.args.default tt) c.default.ensures r e.value;
+        given = back.0;
+        made = back.1;
       },
     )

@@ -1,6 +1,6 @@
-use Rattle.std.proofs.Common.{rules}
-use Rattle.hashlink_map.proofs.Names.{refl}
-use Rattle.hashlink_map.proofs.Answering.{or_made, no_refusal, no_pair}
+use Rattle.hashlink_map.proofs.Names.{refl, Ok}
+use Rattle.hashlink_map.proofs.Answering.{or_made, no_refusal, no_pair, vacant_puts, try_made_lent}
+use Rattle.hashlink_map.proofs.Answering.{try_made_back}
 use Rattle.hashlink_map.proofs.entry.Entry.or_try_insert_with.Goals as goal
 
 pub returns-in-Occupied : goal.returns-in-Occupied
@@ -19,12 +19,16 @@ returns-in-Occupied g c =
 
 pub returns-in-Vacant : goal.returns-in-Vacant
 returns-in-Vacant g c =
+    let r = c.try_insert.result in
+    let e = c.try_insert.ensures in
+    let f = c.try_insert.follows in
+    let Made = g.F.FnOnce.post c.args.default tt in
     rw c.in-Vacant.is (
-      search rules,
+      (refl, (λ w ok. vacant_puts (f.holds w ok)), f.holds-at-none),
       record {
         lends = tt;
-        updates = c.try_insert.ensures.updates;
-        value = search rules;
-        handed_back = search rules;
+        updates = e.updates;
+        value = try_made_lent Made c.default.ensures Ok r e.value;
+        handed_back = try_made_back Made c.default.ensures _ r e.handed_back;
       },
     )

@@ -1,5 +1,5 @@
-use Rattle.hashlink_map.proofs.Names.{refl, sym, ap, ◌∙◌, option_map, still_standing}
-use Rattle.hashlink_map.proofs.Walking.{taken-written, first-taken}
+use Rattle.hashlink_map.proofs.Names.{refl, still_standing}
+use Rattle.hashlink_map.proofs.Walking.{lent-first}
 use Rattle.hashlink_map.proofs.iter_mut.IterMut+K+V+S.next_value.Goals as goal
 
 pub invariant_of-self-lent : goal.invariant_of-self-lent
@@ -9,13 +9,6 @@ pub returns-in-Some : goal.returns-in-Some
 returns-in-Some g c =
     let o = c.args.self.now in
     let takes = c.in-Some.ensures.takes in
-    let step = taken-written o.map.now o.places c.take_first.new.self c.in-Some.node _ _ takes in (
-      (refl, (λ w. ((refl, step w), ap (λ s. s.left) (step w))), tt),
-      record {
-        lends = tt;
-        value =
-            sym c.value_at_mut.ensures.value
-            ∙ ap (option_map (λ e. e.1)) (first-taken o.map.now o.places c.in-Some.node _ _ takes);
-        left = takes.2;
-      },
-    )
+    let lent = lent-first o.map.now o.places c.take_first.new.self c.in-Some.node
+    c.value_at_mut.ensures.value _ takes in
+    ((refl, (λ w. ((refl, lent.0 w), lent.1)), tt), record { lends = tt; value = lent.2; left = takes.2 })
