@@ -117,6 +117,7 @@ impl<'a, K: Eq + Hash, V, S: BuildHasher> RawVacantEntryMut<'a, K, V, S> {
     /// It allocates only if no node is free. A full table then grows first, in linear time in the new
     /// capacity. If an allocation fails, it returns the pair in `Err` and changes no entry; the room may have
     /// grown.
+    #[inline]
     pub fn insert_entry_hashed_nocheck(
         self,
         hash: u64,
@@ -168,8 +169,6 @@ impl<'a, K: Eq + Hash, V, S: BuildHasher> RawVacantEntryMut<'a, K, V, S> {
         ensures last { IfOk result (λ o. raw_place o ≡ length (entries_of (raw_vacant_map self.entry).now)) }
         ensures handed_back { IfErr result (λ p. p ≡ (key, value)) }
     {
-        let RawVacantEntryMut { map } = self;
-        let node = map.push_back(hash, key, value)?;
-        Ok(RawOccupiedEntryMut { map, node })
+        self.insert_entry_hashed_nocheck(hash, key, value)
     }
 }

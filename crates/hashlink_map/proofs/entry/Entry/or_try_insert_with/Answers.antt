@@ -1,4 +1,4 @@
-use Rattle.hashlink_map.proofs.Names.{refl, Ok}
+use Rattle.hashlink_map.proofs.Names.{refl}
 use Rattle.hashlink_map.proofs.Answering.{or_made, no_refusal, no_pair, vacant_puts, try_made_lent}
 use Rattle.hashlink_map.proofs.Answering.{try_made_back}
 use Rattle.hashlink_map.proofs.entry.Entry.or_try_insert_with.Goals as goal
@@ -28,7 +28,7 @@ returns-in-Vacant g c =
       record {
         lends = tt;
         updates = e.updates;
-        value = try_made_lent Made c.default.ensures Ok r e.value;
+        value = try_made_lent Made c.default.ensures r e.value;
         handed_back = try_made_back Made c.default.ensures _ r e.handed_back;
       },
     )

@@ -1,16 +1,15 @@
-use Rattle.std.proofs.Common.{rules}
 use Rattle.hashlink_model.proofs.Updates.{updates-pop_back}
 use Rattle.hashlink_map.proofs.Taking.{pop-takes_last}
 use Rattle.hashlink_map.proofs.map.LinkedHashMap.pop_back.Goals as goal
 
-pub returns-clause-pops : goal.returns-clause-pops
-returns-clause-pops g c = search rules
-
-pub returns-clause-entries : goal.returns-clause-entries
-returns-clause-entries g c = pop-takes_last _ _ _ (returns-clause-pops g c)
-
-pub returns-clause-updates : goal.returns-clause-updates
-returns-clause-updates g c =
-    updates-pop_back g.K.PartialEq.eq g.met.K.Eq.laws c.pop_back.result _ _
-    (rw c.self.view_is at c.pop_back.ensures.was_sound.distinct)
-    (returns-clause-entries g c)
+pub returns : goal.returns
+returns g c =
+    let e = c.pop_back.ensures in
+    let takes = pop-takes_last _ _ _ e.pops in
+    rw (← c.self.view_is) (record {
+      pops = e.pops;
+      entries = takes;
+      updates = updates-pop_back g.K.PartialEq.eq g.met.K.Eq.laws c.pop_back.result _ _ e.was_sound.distinct
+          takes;
+      distinct = e.sound.distinct;
+    })
