@@ -120,33 +120,16 @@ module _ {K V S : Type 0} where
 module _ {K V S : Type 0} (m : Keyed K V S) (old new : PlacesLeft Node) (n : Node) {v : V}
     (there : value_at (entries_of m) (place_number m.nodes (Some n)) ≡ Some v) where
   -- the walk with any value written at the node, how many places are left, and the value before that
-  abbrev Lent : ℕ → WritingWalk K V S → Option (K × V) → Type 0
-  Lent j stepped e =
-      ((w : V) → walk_in (λ p. p) (with_value_at m n w) new ≡ walk_with stepped j w)
-      × (new.left ≡ stepped.left) × (Some v ≡ option_map (λ e. e.1) e)
-
-  lent-taken : (j : ℕ) (stepped : WritingWalk K V S) (e : Option (K × V))
+  pub lent-taken : (j : ℕ) (stepped : WritingWalk K V S) (e : Option (K × V))
       → TakesPlace m (walk_in (λ p. p) m old) (walk_in (λ p. p) m new) j stepped (Some n)
       → slice_get (entries_of m) (place_number m.nodes (Some n)) ≡ e
-      → Lent j stepped e
+      → ((w : V) → walk_in (λ p. p) (with_value_at m n w) new ≡ walk_with stepped j w)
+      × (new.left ≡ stepped.left) × (Some v ≡ option_map (λ e. e.1) e)
   lent-taken j stepped e takes is = (
     λ w. written-there m new n w ∙ ap₂ (λ s k. walk_with s k w) takes.3 takes.1,
     ap (λ s. s.left) takes.3,
     sym there ∙ ap (option_map (λ e. e.1)) is,
   )
-
-  pub lent-first : (stepped : WritingWalk K V S)
-      → TakesPlace m (walk_in (λ p. p) m old) (walk_in (λ p. p) m new) (walk_in (λ p. p) m old).at stepped
-      (Some n)
-      → Lent (walk_in (λ p. p) m old).at stepped (first_of (walk_rest (walk_in (λ p. p) m old)))
-  lent-first stepped takes = lent-taken _ stepped _ takes (first-taken m old n _ stepped takes)
-
-  pub lent-last : (stepped : WritingWalk K V S) → StandsIn (λ p. p) m.nodes old
-      → TakesPlace m (walk_in (λ p. p) m old) (walk_in (λ p. p) m new) (last_place (walk_in (λ p. p) m old))
-      stepped (Some n)
-      → Lent (last_place (walk_in (λ p. p) m old)) stepped (last_of (walk_rest (walk_in (λ p. p) m old)))
-  lent-last stepped stands takes =
-      lent-taken _ stepped _ takes (last-taken m old n _ stepped stands takes)
 
 -- ---- lemmas for a caller
 pub on-some : {A : Type 0} {r : Option A} {x : A} {P : Type 0} → r ≡ Some x → OnSome r P → P

@@ -1,6 +1,6 @@
-use Rattle.hashlink_map.proofs.Names.{refl}
-use Rattle.hashlink_map.proofs.Answering.{or_made, no_refusal, no_pair, vacant_puts, try_made_lent}
-use Rattle.hashlink_map.proofs.Answering.{try_made_back}
+use Rattle.hashlink_map.proofs.Names.{refl, rules, subst}
+use Rattle.std.proofs.lemmas.Result.{IfOk-weaker}
+use Rattle.hashlink_map.proofs.Answering.{or_made, no_refusal, no_pair, vacant_puts}
 use Rattle.hashlink_map.proofs.entry.Entry.or_try_insert_with.Goals as goal
 
 pub returns-in-Occupied : goal.returns-in-Occupied
@@ -19,16 +19,15 @@ returns-in-Occupied g c =
 
 pub returns-in-Vacant : goal.returns-in-Vacant
 returns-in-Vacant g c =
-    let r = c.try_insert.result in
     let e = c.try_insert.ensures in
     let f = c.try_insert.follows in
-    let Made = g.F.FnOnce.post c.args.default tt in
     rw c.in-Vacant.is (
       (refl, (λ w ok. vacant_puts (f.holds w ok)), f.holds-at-none),
       record {
         lends = tt;
         updates = e.updates;
-        value = try_made_lent Made c.default.ensures r e.value;
-        handed_back = try_made_back Made c.default.ensures _ r e.handed_back;
+        value = IfOk-weaker c.try_insert.result _ _
+            (λ v is. subst (g.F.FnOnce.post c.args.default tt) is c.default.ensures) e.value;
+        handed_back = search rules;
       },
     )
