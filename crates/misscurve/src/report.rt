@@ -60,10 +60,7 @@ fn write_head<W: Write>(writer: &mut W, accesses: u64, keys: u64, parts: u64) ->
     }
     let uses = accesses.saturating_mul(parts);
     let all = keys.saturating_mul(parts);
-    writeln!(
-        writer,
-        "# {uses} uses of {all} keys\ncapacity misses ratio"
-    )
+    writeln!(writer, "# {uses} uses of {all} keys\ncapacity misses ratio")
 }
 
 /// The writer of the table's lines, and what they are computed from.
