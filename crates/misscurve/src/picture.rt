@@ -45,49 +45,30 @@ pub fn write_picture<W: Write, K: Eq + Hash, S: BuildHasher>(
     curve: &MissCurve<K, S>,
     parts: u64,
 ) -> io::Result<()> {
-    let uses = curve.accesses().saturating_mul(parts);
+    let accesses = curve.accesses();
+    let uses = accesses.saturating_mul(parts);
     let keys = (curve.distinct() as u64).saturating_mul(parts);
     let width = across(keys).saturating_add(OCTAVE);
     write_head(writer, width, uses, keys, note(parts))?;
     write_lines(writer, width)?;
     write_axes(writer, width)?;
-    write_cold(writer, curve, width)?;
-    write_curve(writer, curve, width, parts)?;
-    writeln!(writer, "</svg>")?;
-    writer.flush()
-}
-
-/// Writes the dashed line.
-fn write_cold<W: Write, K: Eq + Hash, S: BuildHasher>(
-    writer: &mut W,
-    curve: &MissCurve<K, S>,
-    width: u64,
-) -> io::Result<()> {
-    let cold = down(ratio_of(curve.distinct() as u64, curve.accesses()));
-    writeln!(
-        writer,
-        "<path d=\"M0 {cold}H{width}\" stroke=\"red\" stroke-dasharray=\"4\" fill=\"none\"/>"
-    )
-}
-
-/// Writes the curve, with a step for each capacity at which the misses fall.
-fn write_curve<W: Write, K: Eq + Hash, S: BuildHasher>(
-    writer: &mut W,
-    curve: &MissCurve<K, S>,
-    width: u64,
-    parts: u64,
-) -> io::Result<()> {
-    let accesses = curve.accesses();
+    let cold = down(ratio_of(curve.distinct() as u64, accesses));
     let first = down(ratio_of(accesses, accesses));
-    write!(writer, "<path d=\"M0 {first}")?;
+    write!(
+        writer,
+        "<path d=\"M0 {cold}H{width}\" stroke=\"red\" stroke-dasharray=\"4\" fill=\"none\"/>\n\
+         <path d=\"M0 {first}"
+    )?;
     for (capacity, misses) in curve.falls() {
         let x = across((capacity as u64).saturating_mul(parts));
         write!(writer, "H{x}V{}", down(ratio_of(misses, accesses)))?;
     }
     writeln!(
         writer,
-        "H{width}\" stroke=\"black\" stroke-width=\"2\" fill=\"none\"/>"
-    )
+        "H{width}\" stroke=\"black\" stroke-width=\"2\" fill=\"none\"/>\n\
+         </svg>"
+    )?;
+    writer.flush()
 }
 
 /// Returns the note of a picture that shows only some of the keys.

@@ -36,93 +36,68 @@ pub fn write_table<W: Write, K: Eq + Hash, S: BuildHasher>(
     curve: &MissCurve<K, S>,
     options: Options,
 ) -> io::Result<()> {
+    if options.parts > 1 {
+        writeln!(writer, "# an estimate from one key in {}", options.parts)?;
+    }
     let accesses = curve.accesses();
-    write_head(writer, accesses, curve.distinct() as u64, options.parts)?;
-    let mut table = Table {
+    let uses = accesses.saturating_mul(options.parts);
+    let keys = (curve.distinct() as u64).saturating_mul(options.parts);
+    writeln!(
+        writer,
+        "# {uses} uses of {keys} keys\ncapacity misses ratio"
+    )?;
+    let mut row = Row {
         writer,
         accesses,
         parts: options.parts,
-        is_whole: options.form == Form::WholeTable,
-        power: 1,
-        misses: accesses,
-        told: WHOLE,
     };
+    let mut before = accesses;
+    let mut told = WHOLE;
+    let mut power = 1usize;
     for (capacity, misses) in curve.falls() {
-        table.write_fall(capacity, misses)?;
+        for _ in 0..64 {
+            if power >= capacity {
+                break;
+            }
+            row.write(power, before)?;
+            told = ratio_of(before, accesses);
+            power = power.saturating_mul(2);
+        }
+        let ratio = ratio_of(misses, accesses);
+        if options.form == Form::WholeTable
+            || capacity == power
+            || ratio.saturating_add(100) <= told
+        {
+            row.write(capacity, misses)?;
+            told = ratio;
+        }
+        if capacity == power {
+            power = power.saturating_mul(2);
+        }
+        before = misses;
     }
-    table.writer.flush()
-}
-
-/// Writes the lines above the table.
-fn write_head<W: Write>(writer: &mut W, accesses: u64, keys: u64, parts: u64) -> io::Result<()> {
-    if parts > 1 {
-        writeln!(writer, "# an estimate from one key in {parts}")?;
-    }
-    let uses = accesses.saturating_mul(parts);
-    let all = keys.saturating_mul(parts);
-    writeln!(writer, "# {uses} uses of {all} keys\ncapacity misses ratio")
+    row.writer.flush()
 }
 
 /// The writer of the table's lines, and what they are computed from.
 #[derive(Drop)]
-struct Table<'a, W: Write> {
+struct Row<'a, W: Write> {
     writer: &'a mut W,
     accesses: u64,
     parts: u64,
-    /// Whether each capacity at which the misses fall has a line.
-    is_whole: bool,
-    /// The next power of two. Each one has a line.
-    power: usize,
-    /// The misses at the last capacity.
-    misses: u64,
-    /// The ratio in the last line.
-    told: u64,
 }
 
-impl<'a, W: Write> Table<'a, W> {
-    /// Writes the lines up to a capacity at which the misses fall. If it is no power of two, it has a line
-    /// only if the ratio has fallen by a hundredth since the last one, or if the whole table is written.
-    fn write_fall(&mut self, capacity: usize, misses: u64) -> io::Result<()> {
-        self.write_powers(capacity)?;
-        self.misses = misses;
-        let ratio = ratio_of(misses, self.accesses);
-        if capacity == self.power {
-            self.write_power()
-        } else if self.is_whole || ratio.saturating_add(100) <= self.told {
-            self.write_line(capacity)
-        } else {
-            Ok(())
-        }
-    }
-
-    /// Writes the lines of the powers of two below a capacity.
-    fn write_powers(&mut self, capacity: usize) -> io::Result<()> {
-        for _ in 0..64 {
-            if self.power >= capacity {
-                break;
-            }
-            self.write_power()?;
-        }
-        Ok(())
-    }
-
-    /// Writes the line of the next power of two.
-    fn write_power(&mut self) -> io::Result<()> {
-        let power = self.power;
-        self.power = power.saturating_mul(2);
-        self.write_line(power)
-    }
-
+impl<'a, W: Write> Row<'a, W> {
     /// Writes the misses at a capacity, each multiplied by the number of parts.
-    fn write_line(&mut self, capacity: usize) -> io::Result<()> {
-        self.told = ratio_of(self.misses, self.accesses);
+    fn write(&mut self, capacity: usize, misses: u64) -> io::Result<()> {
+        let ratio = ratio_of(misses, self.accesses);
         let places = (capacity as u64).saturating_mul(self.parts);
-        let total = self.misses.saturating_mul(self.parts);
+        let total = misses.saturating_mul(self.parts);
         writeln!(
             self.writer,
             "{places} {total} {}.{:04}",
-            self.told / WHOLE,
-            self.told % WHOLE
+            ratio / WHOLE,
+            ratio % WHOLE
         )
     }
 }
