@@ -8,7 +8,7 @@ use crate::walks::{sum_of_owned, sum_of_pairs};
 
 /// A look-up of a key, and an insert where it is not there.
 #[inline(always)]
-pub fn use_key(cache: &mut Cache, place: u64, key: &u64) -> u64 {
+fn use_key(cache: &mut Cache, place: u64, key: &u64) -> u64 {
     match cache.get(key) {
         Some(value) => *value,
         None => insert(cache, place, key),

@@ -1,6 +1,5 @@
 //! Containers for the rows.
 
-use crate::caches::use_key;
 use crate::keys::Keys;
 use hashlink::{LinkedHashMap, LinkedHashSet, LruCache};
 use std::hint::black_box;
@@ -95,7 +94,7 @@ pub fn lone_set(keys: &Keys) -> LoneSet {
 fn cache_of(keys: &Keys, capacity: usize) -> Cache {
     let mut cache = Cache::new(capacity);
     for (place, key) in keys.held.iter().rev().enumerate() {
-        use_key(&mut cache, place as u64, key);
+        cache.insert(*key, place as u64);
     }
     black_box(cache)
 }

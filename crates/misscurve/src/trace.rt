@@ -69,7 +69,7 @@ fn without_end(line: &[u8]) -> &[u8]
     }
 }
 
-/// Records the line, if it is in the part that is read. It allocates only for a new key.
+/// Records the line, if it is in the part that is read. It makes a key only for a new line.
 fn record<S: BuildHasher>(
     curve: &mut MissCurve<Vec<u8>, S>,
     alloc: Global,
