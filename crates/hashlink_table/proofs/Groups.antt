@@ -22,10 +22,6 @@ group_within b m low whole = omega (arith, low, whole)
 pub grouped_in : (b at : ℕ) → b - b % 16 ≤ at → at < b - b % 16 + 16 → b / 16 ≡ at / 16
 grouped_in b at from to = omega (arith, from, to)
 
--- a number that is the first of a group is the first of each of its buckets' groups
-pub one_base : (base b : ℕ) → base % 16 ≡ 0 → base ≤ b → b < base + 16 → base ≡ b - b % 16
-one_base base b whole from to = omega (arith, whole, from, to)
-
 pub from_base : (b at : ℕ) → b / 16 ≡ at / 16 → b - b % 16 ≤ at
 from_base b at same = omega (arith, same)
 

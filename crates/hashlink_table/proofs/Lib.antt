@@ -1,4 +1,5 @@
 pub mod Names
+pub mod Begins
 pub mod Doubling
 pub mod Groups
 pub mod Linking

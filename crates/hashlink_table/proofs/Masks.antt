@@ -1,12 +1,12 @@
 -- The bits of a mask, one for each cell of a group that passes a test.
-use Rattle.hashlink_table.proofs.Names.{◌≡◌, ℕ, zero, suc, ◌+◌, ◌-◌, ◌*◌, ◌/◌, ◌%◌, ◌^◌, ◌<◌, ◌≤◌, Bool, true}
-use Rattle.hashlink_table.proofs.Names.{false, cond, not, List, [], ◌∷◌, map, length, drop, get_or, count_by}
-use Rattle.hashlink_table.proofs.Names.{None, Some, IsSome, inl, inr, Option, refl, sym, ap, ◌∙◌, subst}
-use Rattle.hashlink_table.proofs.Names.{arith, is_none, prefix_len, cases_eq, false≢true, true≢false}
+use Rattle.hashlink_table.proofs.Names.{◌≡◌, ◌≢◌, ℕ, zero, suc, ◌+◌, ◌-◌, ◌*◌, ◌/◌, ◌^◌, ◌<◌, ◌≤◌, Bool}
+use Rattle.hashlink_table.proofs.Names.{true, false, cond, not, List, [], ◌∷◌, map, length, drop, get_or}
+use Rattle.hashlink_table.proofs.Names.{count_by, None, Some, IsSome, Option, refl, sym, ap, ◌∙◌, subst}
+use Rattle.hashlink_table.proofs.Names.{arith, is_none, prefix_len, eq-eqb, eqb-true, not-false, true≢false}
 use Rattle.hashlink_table.proofs.Names.{drop-drop, get_or-drop, length-drop, take_all, sum_by-cons}
 use Rattle.hashlink_table.proofs.Names.{length-chunk, get_or-chunk, trailing_mask_l, none_from_empty_mask}
 use Rattle.hashlink_table.proofs.Names.{one-add, count_trailing_zeros, mask_l, shr-shr, Cell, END, kept_at}
-use Rattle.hashlink_table.proofs.Names.{next_at, AreTaken, IsFilled, bare_cell, lanes_of}
+use Rattle.hashlink_table.proofs.Names.{next_at, AreTaken, bare_cell, begins, lanes_of}
 
 module _ {X : Type 0} (p : X → Bool) where
   -- the first element that passes is the one at r, and the elements after it have the rest of the mask
@@ -172,6 +172,17 @@ module _ {N : Type 0} where
       some_by None e = absurd (true≢false e)
       some_by (Some x) e = refl
 
+  -- the bits of a whole mask
+  all : (cells : List (Cell N)) (base : ℕ) (q : Cell N → Bool)
+      → IsLeft cells base q base (mask_l (map q (lanes_of cells base)))
+  all cells base q = record {
+    low = omega arith;
+    high = omega arith;
+    bits =
+        let e : 0 ≡ base - base = omega arith in
+        ap (λ n. mask_l (map q (drop n (lanes_of cells base)))) e;
+  }
+
   -- if it is not, its lowest bit is that of a free cell
   pub record IsFree (cells : List (Cell N)) (base at : ℕ) : Type 0 where
     pub from : base ≤ at
@@ -183,31 +194,26 @@ module _ {N : Type 0} where
       → IsFree cells base
       (base + count_trailing_zeros 64 (mask_l (map (λ c. is_none c.kept) (lanes_of cells base))))
   first_free cells base room some =
-      let none : Cell N → Bool = λ c. is_none c.kept in
-      let all : IsLeft cells base none base (mask_l (map none (lanes_of cells base))) = record {
-        low = omega arith;
-        high = omega arith;
-        bits =
-            let e : 0 ≡ base - base = omega arith in
-            ap (λ n. mask_l (map none (drop n (lanes_of cells base)))) e;
-      } in
-      let h = hit room all some in
+      let h = hit room (all cells base (λ c. is_none c.kept)) some in
       record { from = omega arith; to = h.to; none = none_by (kept_at cells _) h.here }
     where
       none_by : {A : Type 0} (o : Option A) → is_none o ≡ true → o ≡ None
       none_by None e = refl
       none_by (Some x) e = absurd (true≢false (sym e))
 
-  -- if it is not, no bucket of the group has a chain
-  pub no_chain : (slots : List (Cell N)) (base b : ℕ) → base ≡ b - b % 16 → base + 16 ≤ length slots
-      → IsFilled slots
-      → (mask_l (map (λ c. is_none c.kept) (lanes_of slots base)) ≡ 0 → ⊥)
-      → next_at slots b ≡ END
-  no_chain slots base b at room filled some =
-      let f = first_free slots base room some in
-      let low : b < length slots = omega (arith, at, room) in
-      elim (cases_eq (next_at slots b) END) as (λ _. next_at slots b ≡ END) [
-        | inl e ↦ e
-        | inr ne ↦ absurd (false≢true (subst IsSome f.none (filled b low ne _
-            (omega (arith, at, f.from)) (omega (arith, at, f.to)))))
-      ]
+  -- the lowest bit of the mask of the buckets at which chains begin is that of such a bucket
+  pub first_begin : (cells : List (Cell N)) (base : ℕ) → base + 16 ≤ length cells
+      → (mask_l (map begins (lanes_of cells base)) ≡ 0 → ⊥)
+      → let at = base + count_trailing_zeros 64 (mask_l (map begins (lanes_of cells base))) in
+      (base ≤ at) × (at < base + 16) × (next_at cells at ≢ END)
+  first_begin cells base room some =
+      let h = hit room (all cells base begins) some in
+      (omega arith, h.to, λ e. true≢false (sym h.here ∙ ap not (eq-eqb _ END e)))
+
+  -- if it is empty, no bucket of the group has a chain
+  pub none_begin : (cells : List (Cell N)) (base : ℕ) → base + 16 ≤ length cells
+      → mask_l (map begins (lanes_of cells base)) ≡ 0
+      → (b : ℕ) → base ≤ b → b < base + 16 → next_at cells b ≡ END
+  none_begin cells base room empty b from to =
+      eqb-true (next_at cells b) END
+      (not-false _ (none_from_empty_mask begins cells base 16 bare_cell room empty b from to))

@@ -5,9 +5,9 @@ pub use Rattle.hashlink_table.specs.Chains.{IsSound, IsThreaded, SameNodes, chai
 pub use Rattle.hashlink_table.specs.Chains.{kept_at, kept_by, links_of, next_at, nodes_in, stored_in}
 pub use Rattle.hashlink_table.specs.Chains.{with_node}
 pub use Rattle.hashlink_table.specs.Contents.{AreBuckets, CanAsk, Contents, agreeing, len_of}
-pub use Rattle.hashlink_table.specs.Slots.{IsStored, IsTagged, Row, cells_in, doubled, high_half, high_kept}
-pub use Rattle.hashlink_table.specs.Slots.{kept_may_be, lanes_of, low_half, low_kept, may_be, parted, slot}
-pub use Rattle.hashlink_table.specs.Slots.{with_kept, with_next, without_kept}
+pub use Rattle.hashlink_table.specs.Slots.{AreSlots, IsStored, IsTagged, Row, begins, cells_in, doubled, flag_of}
+pub use Rattle.hashlink_table.specs.Slots.{high_half, high_kept, kept_may_be, lanes_of, low_half, low_kept, may_be}
+pub use Rattle.hashlink_table.specs.Slots.{parted, slot, with_kept, with_next, without_kept}
 pub use Rattle.hashlink_table.specs.Stored.{bare_cell, tag_of}
 pub use Rattle.hashlink_table.specs.declared.hashed.Hashed.{Hashed}
 pub use Rattle.hashlink_table.specs.declared.store.cell.Cell.{Cell}

@@ -20,6 +20,11 @@ element [] i low = absurd (omega arith)
 element (x ∷ xs) zero low = (x, λ d. refl)
 element (x ∷ xs) (suc i) low = element xs i (omega arith)
 
+-- tests of sixteen elements
+pub map-chunk : {X : Type 0} (f : X → Bool) (base : ℕ) (xs : List X)
+    → chunk base 16 (map f xs) ≡ map f (chunk base 16 xs)
+map-chunk f base xs = ap (take 16) (drop-map f base xs) ∙ take-map f 16 (drop base xs)
+
 -- a tag is not 0
 tag_some : (hash : ℕ) → eqb (tag_of hash) 0 ≡ false
 tag_some hash = ne_eqb (tag_of hash) 0 (λ e. omega (arith, e))
@@ -125,11 +130,7 @@ module _ {N : Type 0} {ts : List ℕ} {ns : List N} {rs : List Rest} {v : List (
   group_tests p q agree base bits bytes is at =
       let same : map p bytes ≡ map q v
       = ap (map p) (at ∙ h.tags) ∙ tests-cells p q agree h.rows h.stored ∙ ap (map q) (sym cells) in
-      is ∙ ap mask_l (sym (map-chunk p bytes) ∙ ap (chunk base 16) same ∙ map-chunk q v)
-    where
-      map-chunk : {X : Type 0} (f : X → Bool) (xs : List X) → chunk base 16 (map f xs)
-          ≡ map f (chunk base 16 xs)
-      map-chunk f xs = ap (take 16) (drop-map f base xs) ∙ take-map f 16 (drop base xs)
+      is ∙ ap mask_l (sym (map-chunk p base bytes) ∙ ap (chunk base 16) same ∙ map-chunk q base v)
 
   -- a cell is written
   pub written : (i : ℕ) (row : Row N) (us : List ℕ) (ms : List N) (ds : List Rest) (d : Cell N)

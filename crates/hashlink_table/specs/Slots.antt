@@ -1,5 +1,5 @@
 -- The slots, as they are stored and as contracts see them.
-use Rattle.std.specs.Prelude.{◌≡◌, ℕ, ◌+◌, ◌*◌, ◌%◌, ◌≤◌, ◌==◌, ◌⊎◌, Bool, false, cond, ltb, List}
+use Rattle.std.specs.Prelude.{◌≡◌, ℕ, ◌+◌, ◌*◌, ◌%◌, ◌≤◌, ◌==◌, ◌⊎◌, Bool, false, cond, ltb, not, List}
 use Rattle.std.specs.Prelude.{◌++◌, slice_index_or, slice_set, length, map, Option, None, Some}
 use Rattle.std.specs.List.{zip, All}
 use Rattle.std.specs.Simd.Lanes.{chunk}
@@ -48,6 +48,18 @@ module _ {N : Type 0} where
     pub nodes : ns ≡ map (λ row. row.node) rows
     pub rests : rs ≡ map (λ row. row.rest) rows
     pub stored : All IsStored rows
+
+  -- a chain begins at the cell's bucket; the byte that tells it
+  abbrev pub begins : Cell N → Bool
+  begins c = not (c.next == END)
+
+  abbrev pub flag_of : Cell N → ℕ
+  flag_of c = cond (begins c) 1 0
+
+  -- the lists store the slots
+  pub record AreSlots (ts : List ℕ) (ns : List N) (rs : List Rest) (fs : List ℕ) : Type 0 where
+    pub tagged : IsTagged ts ns rs
+    pub flagged : fs ≡ map flag_of (cells_in ts ns rs)
 
   -- the sixteen cells from `base` on
   abbrev pub lanes_of : List (Cell N) → ℕ → List (Cell N)

@@ -134,10 +134,10 @@ pub fn seek<N: Copy, F: Fn(N) -> bool, L: Ledger>(
         let spot = Spot::Slot(at);
         return Some(Found { spot, node });
     }
-    if slots.free(base) != 0 {
-        return None; // no bucket of the group has a chain
-    }
     let bucket = bucket_of(hash, buckets);
+    if !slots.has_chain(bucket) {
+        return None; // no chain begins at the bucket
+    }
     match seek_overflow(slots, cells, bucket, hash, is_match, steps) {
         Some((at, node)) => {
             let spot = Spot::Overflow(at);

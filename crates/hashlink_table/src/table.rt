@@ -32,7 +32,7 @@ const MIN_ROOM: usize = 4;
 /// Nodes by their hashes.
 ///
 /// A new table does not allocate. One with room has at least 16 buckets: one for each node of its room, or
-/// two in a small table, and after a shrink up to twice as many. A bucket takes 9 bytes and a node. An
+/// two in a small table, and after a shrink up to twice as many. A bucket takes 10 bytes and a node. An
 /// overflow cell for each node of the room takes 8 bytes and a node. After a growth that failed, the table
 /// may have memory for up to eight times as many overflow cells.
 pub struct Table<N> {

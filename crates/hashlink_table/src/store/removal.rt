@@ -66,23 +66,17 @@ fn take_out<N: Copy>(
 
 // Returns the first bucket of a group that has a chain.
 fn first_chained<N: Copy>(slots: &Slots<N>, base: usize) -> Option<usize>
-    requires within { base + LANES ≤ length slots.now }
-    requires base { base % LANES ≡ 0 }
-    requires filled { IsFilled slots.now }
+    requires { base + LANES ≤ length slots.now }
     ensures some { IfSome result (λ bucket. (base ≤ bucket) × (bucket < base + LANES)
         × (next_at slots.now bucket ≢ END)) }
     ensures none { IfNone result
         ((bucket : ℕ) → base ≤ bucket → bucket < base + LANES → next_at slots.now bucket ≡ END) }
 {
-    if slots.free(base) != 0 {
+    let chains = slots.chains(base);
+    if chains == 0 {
         return None;
     }
-    for bucket in base..base + LANES {
-        if slots.next(bucket) != END {
-            return Some(bucket);
-        }
-    }
-    None
+    Some(base + chains.trailing_zeros() as usize)
 }
 
 // Removes the node that a search found. If it was in a slot and a bucket of the group has a chain, the first

@@ -1,13 +1,13 @@
 //! The slots, in groups.
-ghost use Rattle.std.specs.Prelude.{◌≡◌, ◌+◌, ◌*◌, ◌^◌, ◌<◌, ◌≤◌, ◌++◌, [], IfOk, IfSome, IsSome, OnErr};
-ghost use Rattle.std.specs.Prelude.{OnOk, Some};
+ghost use Rattle.std.specs.Prelude.{◌≡◌, ◌≢◌, ◌+◌, ◌*◌, ◌^◌, ◌<◌, ◌≤◌, ◌++◌, ◌↔◌, [], IfOk, IfSome};
+ghost use Rattle.std.specs.Prelude.{IsSome, IsTrue, OnErr, OnOk, Some};
 ghost use Rattle.std.specs.Prelude.{length, map, replicate, is_none};
 ghost use Rattle.std.specs.Int.{IsPowerOfTwo};
 ghost use Rattle.std.specs.Simd.Lanes.{mask_l};
 ghost use Rattle.hashlink_table.specs.Chains.{kept_at, next_at};
 ghost use Rattle.hashlink_table.specs.Stored.{bare_cell, tag_of};
 ghost use Rattle.hashlink_table.specs.Slots.{may_be, lanes_of, with_kept, without_kept, with_next};
-ghost use Rattle.hashlink_table.specs.Slots.{cells_in, doubled, parted, IsTagged};
+ghost use Rattle.hashlink_table.specs.Slots.{begins, cells_in, doubled, parted, IsTagged};
 
 use super::bucket::bucket_of;
 use super::cell::END;
@@ -28,25 +28,27 @@ pub struct Rest {
 
 /// The slots, one for each bucket. Sixteen make a group, and a node may be in any slot of its bucket's group.
 ///
-/// Apart from the slots there is a byte for each of them: 0 if the slot has no node, and else a tag of the
-/// node's hash. A search compares the tags of a group at once.
+/// Apart from the slots there are two bytes for each of them. The first is 0 if the slot has no node, and else
+/// a tag of the node's hash. A search compares the tags of a group at once. The second is 1 if a chain begins
+/// at the bucket, and else 0, so that a search for an absent key seldom reads a link.
 #[derive(Drop)]
 pub struct Slots<N> {
     tags: Vec<u8>,
     nodes: Vec<N>,
     rests: Vec<Rest>,
+    begins: Vec<u8>,
 }
 
 impl<N> Model for Slots<N> {
     ghost use Rattle.std.specs.Prelude.{List};
     ghost use Rattle.hashlink_table.specs.declared.store.cell.Cell.{Cell};
-    ghost use Rattle.hashlink_table.specs.Slots.{cells_in, IsTagged};
+    ghost use Rattle.hashlink_table.specs.Slots.{cells_in, AreSlots};
 
     ghost Value = { List (Cell N) };
 
     ghost view = { λ o. cells_in o.tags.items o.nodes.items o.rests.items };
 
-    ghost invariant = { λ o. IsTagged o.tags.items o.nodes.items o.rests.items };
+    ghost invariant = { λ o. AreSlots o.tags.items o.nodes.items o.rests.items o.begins.items };
 }
 
 // Returns the tag of a hash. It has the four bits that select the hash's bucket in its group, and four on
@@ -98,6 +100,7 @@ impl<N: Copy> Slots<N> {
             tags: Vec::new(alloc),
             nodes: Vec::new(alloc),
             rests: Vec::new(alloc),
+            begins: Vec::new(alloc),
         }
     }
 
@@ -112,7 +115,13 @@ impl<N: Copy> Slots<N> {
             link: END as u32,
         };
         let rests = repeated(alloc, bare, count)?;
-        Ok(Slots { tags, nodes, rests })
+        let begins = repeated(alloc, 0, count)?;
+        Ok(Slots {
+            tags,
+            nodes,
+            rests,
+            begins,
+        })
     }
 
     /// Doubles the slots, and ends all chains. The node of a slot stays, or moves to the same place in the
@@ -131,6 +140,7 @@ impl<N: Copy> Slots<N> {
         for at in 0..count {
             part(tags, nodes, rests, at, count);
         }
+        self.begins.fill(0);
         Ok(())
     }
 
@@ -143,6 +153,7 @@ impl<N: Copy> Slots<N> {
         self.rests.reserve_exact(count)?;
         self.nodes.reserve_exact(count)?;
         self.tags.reserve_exact(count)?;
+        self.begins.reserve_exact(count)?;
         let bare = Rest {
             hash: 0,
             link: END as u32,
@@ -150,6 +161,7 @@ impl<N: Copy> Slots<N> {
         add_repeated(&mut self.rests, bare, count);
         add_repeated(&mut self.nodes, filler, count);
         add_repeated(&mut self.tags, 0, count);
+        add_repeated(&mut self.begins, 0, count);
         Ok(())
     }
 
@@ -171,6 +183,25 @@ impl<N: Copy> Slots<N> {
         self.rests[bucket].link as usize
     }
 
+    /// Returns whether a chain begins at the bucket.
+    #[inline]
+    pub fn has_chain(&self, bucket: usize) -> bool
+        requires { bucket < length self.now }
+        ensures { IsTrue result ↔ (next_at self.now bucket ≢ END) }
+    {
+        self.begins[bucket] != 0
+    }
+
+    /// Returns at which of the sixteen buckets from `base` on a chain begins, one bit for each.
+    #[inline]
+    pub fn chains(&self, base: usize) -> u64
+        requires { base + LANES ≤ length self.now }
+        ensures lanes { result ≡ mask_l (map begins (lanes_of self.now base)) }
+        ensures small { base + LANES < 2 ^ 64 }
+    {
+        lanes_with(&self.begins, base, 1)
+    }
+
     /// Sets the first link of the bucket's chain.
     #[inline]
     pub fn set_next(&mut self, bucket: usize, to: usize)
@@ -179,6 +210,7 @@ impl<N: Copy> Slots<N> {
         ensures { self.new ≡ with_next self.old bucket to }
     {
         self.rests[bucket].link = to as u32;
+        self.begins[bucket] = (to != END) as u8;
     }
 
     /// Returns the node of a slot that has to have one, for a search. It takes a step.
@@ -258,5 +290,6 @@ impl<N: Copy> Slots<N> {
             hash: 0,
             link: END as u32,
         });
+        self.begins.fill(0);
     }
 }

@@ -1,9 +1,9 @@
 use Rattle.hashlink_table.proofs.Names.{ℕ, ◌+◌, ◌-◌, ◌%◌, ◌<◌, ◌≤◌, ◌≡◌, ◌++◌, count_by, eqb, false, length}
-use Rattle.hashlink_table.proofs.Names.{Some, refl, ap, ◌∙◌, arith, eq-eqb, eqb-true, chain_at, chain_of}
-use Rattle.hashlink_table.proofs.Names.{kept_at, nodes_in, lanes_of, may_be, Slot, Overflow, tag_of}
+use Rattle.hashlink_table.proofs.Names.{Some, inl, inr, refl, sym, ap, ◌∙◌, arith, cases_eq, eq-eqb, eqb-true}
+use Rattle.hashlink_table.proofs.Names.{false≢true, chain_at, chain_of, kept_at, next_at, nodes_in, lanes_of}
+use Rattle.hashlink_table.proofs.Names.{may_be, END, Slot, Overflow, tag_of}
 use Rattle.hashlink_table.proofs.Linking.{chain_at_within, positive_by_power}
-use Rattle.hashlink_table.proofs.Groups.{from_base, group_within, grouped_in, to_base}
-use Rattle.hashlink_table.proofs.Masks.{no_chain}
+use Rattle.hashlink_table.proofs.Groups.{from_base, grouped_in, to_base}
 use Rattle.hashlink_table.proofs.Moving.{within_kept}
 use Rattle.hashlink_table.proofs.Views.{contains_found, looked_at, none_left, tag_agrees}
 use Rattle.hashlink_table.proofs.Walks.{bucket_begun}
@@ -67,18 +67,21 @@ none_in_slots g c at node kept =
     c.in_default.ensures.none at node (omega (arith, first, from_base b at same))
     (omega (arith, first, to_base b at same)) kept
 
-pub returns-then-free-ne0-clause-none : goal.returns-then-free-ne0-clause-none
-returns-then-free-ne0-clause-none g c =
+-- no chain begins at the bucket
+pub returns-then-not-has_chain-clause-none : goal.returns-then-not-has_chain-clause-none
+returns-then-not-has_chain-clause-none g c =
     none_left c.args.slots.now c.args.cells.now c.args.hash _
-    (none_in_slots g (goal.at.returns-then-free-ne0-clause-none g c).In_default)
+    (none_in_slots g (goal.at.returns-then-not-has_chain-clause-none g c).In_default)
     (λ cell node is.
     let slots = c.args.slots.now in let cells = c.args.cells.now in
     let m = length slots in let b = c.args.hash % m in
     let low : b < m = omega (arith, positive_by_power m c.requires.masked) in
-    let base = group g (goal.at.returns-then-free-ne0-clause-none g c).After-base_of-base in
-    let none = no_chain slots c.base_of-base.result b base
-    (omega (arith, group_within b m low c.requires.whole, base)) c.requires.arranged.1.filled
-    (λ e. c.if-free-ne0.true (c.free.ensures.lanes ∙ e)) in
+    let bucket = c.bucket_of-bucket.ensures ∙ ap (λ k. c.args.hash % k) c.len-buckets.ensures in
+    let none : next_at slots b ≡ END = elim (cases_eq (next_at slots b) END) as (λ _. next_at slots b ≡ END) [
+      | inl e ↦ e
+      | inr ne ↦
+          absurd (false≢true (c.if-not-has_chain.ensures.1 (λ e. ne (ap (next_at slots) (sym bucket) ∙ e))))
+    ] in
     let on : chain_at m cells cell ≡ b
     = chain_at_within m cells cell (within_kept cells cell _ is) ∙ ap (chain_of m) is in
     absurd (bucket_begun slots cells _ b cell c.requires.arranged.1.linked low on none))
@@ -92,9 +95,9 @@ pub returns-in-Some-clause-cost : goal.returns-in-Some-clause-cost
 returns-in-Some-clause-cost g c =
     omega (arith, looked g (goal.at.returns-in-Some-clause-cost g c).After-base_of-base)
 
-pub returns-then-free-ne0-clause-cost : goal.returns-then-free-ne0-clause-cost
-returns-then-free-ne0-clause-cost g c =
-    omega (arith, looked g (goal.at.returns-then-free-ne0-clause-cost g c).After-base_of-base)
+pub returns-then-not-has_chain-clause-cost : goal.returns-then-not-has_chain-clause-cost
+returns-then-not-has_chain-clause-cost g c =
+    omega (arith, looked g (goal.at.returns-then-not-has_chain-clause-cost g c).After-base_of-base)
 
 pub returns-in-Some-seek_overflow-clause-cost : goal.returns-in-Some-seek_overflow-clause-cost
 returns-in-Some-seek_overflow-clause-cost g c =

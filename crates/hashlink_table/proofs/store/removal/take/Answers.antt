@@ -81,8 +81,8 @@ returns-in-Some-clause-nodes g c =
     (omega (arith, here, same_length slots t.new.slots t.ensures.slots)) refl
     (kept-same slots t.new.slots t.ensures.slots at ∙ is))))
 
-pub first_chained-requires-clause-within : goal.first_chained-requires-clause-within
-first_chained-requires-clause-within g c = grind (arith, common_steps)
+pub first_chained-requires : goal.first_chained-requires
+first_chained-requires g c = grind (arith, common_steps)
 
 pub set_free-requires : goal.set_free-requires
 set_free-requires g c = grind (arith, common_steps)

@@ -1,6 +1,7 @@
 -- Each cell is doubled in turn, and the lists keep their lengths.
-use Rattle.hashlink_table.proofs.Names.{◌≡◌, ◌*◌, length, replicate, length-replicate, refl, sym, ◌∙◌, subst}
-use Rattle.hashlink_table.proofs.Names.{arith, IsPowerOfTwo, with_items, with_items_is, bare_cell}
+use Rattle.hashlink_table.proofs.Names.{◌≡◌, ◌*◌, length, replicate, length-append, length-replicate, refl}
+use Rattle.hashlink_table.proofs.Names.{sym, ap, ◌∙◌, subst, arith, IsPowerOfTwo, with_items, with_items_is, bare_cell}
+use Rattle.hashlink_table.proofs.Begins.{flags-doubled, flags_long, stored_with}
 use Rattle.hashlink_table.proofs.Storing.{sizes}
 use Rattle.hashlink_table.proofs.Doubling.{doubled-all, doubled-none, doubled-on, twice_power}
 use Rattle.hashlink_table.proofs.store.slots.Slots.double.Given as given
@@ -14,7 +15,7 @@ loop-at-init g c =
       c.as_mut_slice-rests.ensures.value,
     )
     (record {
-      tagged = c.self.invariant;
+      tagged = c.self.invariant.tagged;
       halves = rw (c.self.view_is, c.in_ok-widen.ensures.ok)
           (doubled-none c.args.self.now (replicate c.len-count.result bare_cell)
           (length-replicate c.len-count.result bare_cell ∙ c.len-count.ensures));
@@ -45,7 +46,7 @@ loop-at-preserved g c = record {
 }
 
 -- the lists afterwards
-module _ (g : given.Over) (c : goal.After-self-in-loop-at-2-1 g) where
+module _ (g : given.Over) (c : goal.After-fill g) where
   tags : (with_items c.self.inside.tags c.loop-at.tags).items ≡ c.loop-at.tags
   tags =
       with_items_is c.self.inside.tags c.loop-at.tags (c.loop-at.auto.tags ∙ c.as_mut_slice-tags.ensures.len)
@@ -61,7 +62,22 @@ module _ (g : given.Over) (c : goal.After-self-in-loop-at-2-1 g) where
       (c.loop-at.auto.rests ∙ c.as_mut_slice-rests.ensures.len)
 
 pub invariant_of-self : goal.invariant_of-self
-invariant_of-self g c = rw (tags g c, nodes g c, rests g c) c.loop-at.invariant.tagged
+invariant_of-self g c =
+    rw (tags g c, nodes g c, rests g c)
+    (stored_with (
+      c.loop-at.invariant.tagged,
+      doubled-all c.args.self.now c.loop-at.at _
+          (omega (arith, c.loop-at-test.false, c.loop-at.auto.at-end, c.len-count.ensures))
+          c.loop-at.invariant.halves,
+    )
+    (c.fill.ensures.items (λ y e. e) ∙ flags-doubled c.args.self.now _
+    (omega (
+      arith,
+      c.self.inside.begins.ok.0 ∙ flags_long c.self.invariant c.self.view_is
+          ∙ ap length c.in_ok-widen.ensures.ok,
+      length-append c.args.self.now (replicate c.len-count.result (bare_cell {N = g.row.N.Denot})),
+      length-replicate c.len-count.result (bare_cell {N = g.row.N.Denot}) ∙ c.len-count.ensures,
+    )))).0
 
 pub returns-clause-ok : goal.returns-clause-ok
 returns-clause-ok g c =

@@ -3,4 +3,4 @@ use Rattle.hashlink_table.proofs.Storing.{sizes}
 use Rattle.hashlink_table.proofs.store.slots.Slots.len.Goals as goal
 
 pub returns : goal.returns
-returns g c = omega (arith, sizes c.self.invariant c.self.view_is)
+returns g c = omega (arith, sizes c.self.invariant.tagged c.self.view_is)

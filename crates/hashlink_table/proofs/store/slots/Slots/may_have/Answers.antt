@@ -4,13 +4,13 @@ use Rattle.hashlink_table.proofs.store.slots.Slots.may_have.Goals as goal
 
 pub lanes_with-requires : goal.lanes_with-requires
 lanes_with-requires g c =
-    omega (arith, ap length c.deref.ensures.value, sizes c.self.invariant c.self.view_is)
+    omega (arith, ap length c.deref.ensures.value, sizes c.self.invariant.tagged c.self.view_is)
 
 pub returns-clause-lanes : goal.returns-clause-lanes
 returns-clause-lanes g c =
-    group_tests c.self.invariant c.self.view_is (λ t. eqb t (tag_of c.args.hash)) (may_be c.args.hash)
+    group_tests c.self.invariant.tagged c.self.view_is (λ t. eqb t (tag_of c.args.hash)) (may_be c.args.hash)
     (agrees_may_have c.args.hash) c.args.base _ _ (rw c.tag.ensures at c.lanes_with.ensures)
     c.deref.ensures.value
 
 pub returns-clause-small : goal.returns-clause-small
-returns-clause-small g c = omega (arith, c.self.inside.tags.small, sizes c.self.invariant c.self.view_is)
+returns-clause-small g c = omega (arith, c.self.inside.tags.small, sizes c.self.invariant.tagged c.self.view_is)
