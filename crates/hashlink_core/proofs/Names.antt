@@ -26,7 +26,7 @@ pub use Rattle.hashlink_model.proofs.Puts.{put-absent}
 pub use Rattle.hashlink_model.specs.Cursor.{following_place, preceding_place}
 pub use Rattle.hashlink_model.specs.Entries.{IsEntries, IsKeyTest, moved_at, place_left, place_of}
 pub use Rattle.hashlink_model.specs.Entries.{place_or_end, set_key_at, set_value_at}
-pub use Rattle.hashlink_model.specs.Entry.{key_at, replace_entry, value_at}
+pub use Rattle.hashlink_model.specs.Entry.{key_at, value_at}
 pub use Rattle.hashlink_model.specs.Many.{AcceptsAll, InsertsPair, StopsAt}
 pub use Rattle.hashlink_model.specs.Steps.{KeepsOnly, MovesMatchAndWrites, RemovesKey, RemovesMatch, Replaces}
 pub use Rattle.hashlink_model.specs.Steps.{Shrinks, WritesEntry, with_match_value, with_value_of}

@@ -94,7 +94,7 @@ list_any-here test xs x ys t =
 -- ---- the parts of a curve
 
 -- a use of a present key can be counted, and leaves this
-pub MovesPast-next : {K : Type 0} (test : K → Bool) (old new : List K) (d : ℕ) (reuses : Vec ℕ Global) (n : ℕ)
+MovesPast-next : {K : Type 0} (test : K → Bool) (old new : List K) (d : ℕ) (reuses : Vec ℕ Global) (n : ℕ)
     → MovesPast test old new d → IsTallied old reuses.items n → n + 1 < 2 ^ 64
     → CanCount (Some d) reuses × IsTallied new (tallied (Some d) reuses.items) (n + 1)
     × (list_any test new ≡ true)

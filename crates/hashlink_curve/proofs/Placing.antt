@@ -20,7 +20,7 @@ use Rattle.hashlink_model.proofs.Splits.{stands_from_lookup, lookup-here, key_fr
 use Rattle.hashlink_model.proofs.ByPlace.{moved_at-put, keys-set_value_at, length-set_value_at}
 use Rattle.hashlink_model.proofs.Puts.{IsEntries-put, put_back_absent, put_back_here}
 use Rattle.hashlink_map.specs.WritingWalk.{WritingWalk, after_front, walk_with}
-use Rattle.hashlink_curve.specs.Recency.{RecencyState, Rises, IsPlaced, PutsLast}
+use Rattle.hashlink_curve.specs.Recency.{RecencyState, Rises, IsPlaced, PutsKeyLast}
 use Rattle.hashlink_curve.proofs.Sums.{count_by-middle, count_by-cons}
 
 pub same_keys : {K : Type 0} {s t : RecencyState K} → s ≡ t → s.keys ≡ t.keys
@@ -256,7 +256,7 @@ module _ {K S : Type 0} (eq : K → K → Bool) (test : K → Bool) (tells : IsK
   -- its entry, which gets another place and then moves
   pub puts_found : {mid : MapState K ℕ S} {i j was : ℕ} → i ≡ j → place_of test es ≡ Some j
       → ReplacesValue old mid j next was → MovesAt mid new i (length mid.entries)
-      → PutsLast eq test es after next (Some was)
+      → PutsKeyLast eq test es after next (Some was)
   puts_found {i = i} {j = j} same at r m =
       let k = key_from_place test eq tells es j at in
       let there = subst (λ t. place_of t es ≡ Some j) k.1 at in
@@ -272,7 +272,7 @@ module _ {K S : Type 0} (eq : K → K → Bool) (test : K → Bool) (tells : IsK
 
   -- a new entry
   pub puts_made : {k : K} → test k ≡ true → AddsEntry eq old new k next (length old.entries)
-      → PutsLast eq test es after next None
+      → PutsKeyLast eq test es after next None
   puts_made {k = k} passes a =
       record {
         key = k;
@@ -283,7 +283,7 @@ module _ {K S : Type 0} (eq : K → K → Bool) (test : K → Bool) (tells : IsK
 
 -- afterwards
 module _ {K : Type 0} (eq : K → K → Bool) (laws : IsEquivalence eq) {test : K → Bool}
-    {es after : List (K × ℕ)} {next : ℕ} {was : Option ℕ} (p : PutsLast eq test es after next was) where
+    {es after : List (K × ℕ)} {next : ℕ} {was : Option ℕ} (p : PutsKeyLast eq test es after next was) where
   pub puts_distinct : IsEntries eq es → IsEntries eq after
   puts_distinct d = subst (IsEntries eq) (sym p.entries) (IsEntries-put eq laws es p.key next (length es) d)
 

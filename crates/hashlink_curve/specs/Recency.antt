@@ -26,9 +26,9 @@ pub record IsPlaced {K : Type 0} (eq : K → K → Bool) (es : List (K × ℕ)) 
   pub marked : Marked row (values_of es)
   pub within : next ≤ length row
 
--- the entry of a key goes last, to the place `next`, and had the place `was`. If there was none, it is a new
--- one. A key passes the test exactly if it is equal to that key
-pub record PutsLast {K : Type 0} (eq : K → K → Bool) (test : K → Bool) (old new : List (K × ℕ)) (next : ℕ)
+-- the entry of a key goes last and takes the place `next`; it had the place `was`, or the entry is new. A key
+-- passes the test exactly if it is equal to that key
+pub record PutsKeyLast {K : Type 0} (eq : K → K → Bool) (test : K → Bool) (old new : List (K × ℕ)) (next : ℕ)
     (was : Option ℕ) : Type 0 where
   pub key : K
   pub tells : test ≡ eq key

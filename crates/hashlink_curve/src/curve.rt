@@ -96,7 +96,8 @@ impl<K: Eq + Hash, S: BuildHasher> MissCurve<K, S> {
     /// to be callable, and is called once. The key that it returns has to match the query, and is recorded.
     ///
     /// It takes as long as `record`, and hashes the query once. If memory runs out, if `make` fails, or after
-    /// 2 to the power of 64 less 1 uses, it returns `AllocError` and no count changes.
+    /// 2 to the power of 64 less 1 uses, it returns `AllocError` and no count changes. A key that is recorded
+    /// already needs no memory if `reserved` is not 0.
     pub fn record_with<Q: Equivalent<K>, F: FnOnce() -> Result<K, AllocError>>(
         &mut self,
         query: Q,

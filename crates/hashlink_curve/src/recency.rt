@@ -6,7 +6,7 @@ ghost use Rattle.std.specs.Map.{keys_of, lookup};
 ghost use Rattle.std.specs.Set.{is_member};
 ghost use Rattle.hashlink_core.specs.Keyed.{entries_of};
 ghost use Rattle.hashlink_curve.specs.Curve.{CanMakeMatch};
-ghost use Rattle.hashlink_curve.specs.Recency.{Touches, TouchesMatch, IsPlaced, KeepsKeys, PutsLast};
+ghost use Rattle.hashlink_curve.specs.Recency.{Touches, TouchesMatch, IsPlaced, KeepsKeys, PutsKeyLast};
 
 use crate::marks::Marks;
 use hashlink_map::{Equivalent, LinkedHashMap, RawEntryMut};
@@ -146,8 +146,8 @@ impl<K: Eq + Hash, S: BuildHasher> Recency<K, S> {
 }
 
 /// Moves the entry of the key that the query matches to the back and gives it the place `next`. Returns the
-/// place that it had. If no key matches, it inserts the key that `make` returns with that place at the back,
-/// and returns `None`. It hashes the query once. If it fails, no entry changes.
+/// place that it had. If no key matches, it inserts the key that `make` returns at the back, with the place
+/// `next`, and returns `None`. It hashes the query once. If it fails, no entry changes.
 fn put_last<K: Eq + Hash, S: BuildHasher, Q: Equivalent<K>, F: FnOnce() -> Result<K, AllocError>>(
     places: &mut LinkedHashMap<K, usize, S>,
     query: Q,
@@ -159,7 +159,7 @@ where
     F: Drop,
     requires { CanMakeMatch (Q.matches query) (F.pre make) (λ k. F.post make (Ok k))
         (keys_of (entries_of places.old)) }
-    ensures put { IfOk result (PutsLast K.eq (Q.matches query) (entries_of places.old)
+    ensures put { IfOk result (PutsKeyLast K.eq (Q.matches query) (entries_of places.old)
         (entries_of places.new) next) }
     ensures absent { OnErr result (lookup (Q.matches query) (entries_of places.old) ≡ None) }
     ensures unchanged { OnErr result (entries_of places.new ≡ entries_of places.old) }

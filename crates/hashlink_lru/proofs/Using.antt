@@ -33,7 +33,8 @@ last-kept : {K V : Type 0} (es : List (K × V)) (n : ℕ) → 1 ≤ n → last_o
 last-kept es n one =
     let few = length-last_entries es n in
     ⊎_elim (λ (all : length es < n). ap last_of (last_entries-within es n (omega arith)))
-    (λ (more : n ≤ length es). sym (last_of-append (take (length es - n) es) (last_entries es n) (omega arith))
+    (λ (more : n ≤ length es).
+    sym (last_of-append (take (length es - n) es) (last_entries es n) (omega arith))
     ∙ ap last_of (last_entries-end es n)) (cases_lt (length es) n)
 
 last-written : {K V : Type 0} (es : List (K × V)) (k : K) (v w : V)

@@ -9,7 +9,6 @@ use Names.{Model, Ty, Val, full_share, fact, fact_i, fact_use, lone, part_out, R
 use Names.{null_ptr, block_lent, block_owns, blocks_lent, blocks_own, links_offset, is_small, Links, Kept}
 use Names.{alter, entry_in, same_node, Node, ap, option_map, ty_int, w64, vint, number_word, number_offset}
 use Names.{number_of, pair_owns, lies_at, links_of, deed_owns, fsep, in_a_block, rewrite, usize, uint_out}
-use Names.{fjoin}
 
 -- what a lookup found
 pub found : {X : Type 0} (o : Option X) → IsSome o → (x : X) × (o ≡ Some x)

@@ -241,20 +241,20 @@ module _ {K V : Type 0} where
       }
 
   -- ---- the ends of the ring
-  -- the node has an entry, and `join` gives this entry back to the others
+  -- the node has an entry, and `join` puts this entry back among the others
   pub record IsEnd (join : Node × Held K V → Entries K V → Entries K V) (n : Node) (es : Entries K V) :
       Type 0 where
     pub value : Held K V
     pub looked : lookup (same_node n) es ≡ Some value
     pub is : es ≡ join (n, value) (remove_entry (same_node n) es)
 
-  -- it is given back to what is left without it
+  -- what is left without the entry, and the entry put back
   joined : {join : Node × Held K V → Entries K V → Entries K V} {n : Node} {es rest : Entries K V}
       {h : Held K V} → IsEnd join n es → lookup (same_node n) es ≡ Some h
       → rest ≡ remove_entry (same_node n) es → es ≡ join (n, h) rest
   joined {join} {n} e found left = e.is ∙ (λ i. join (n, same_some (sym e.looked ∙ found) i) (sym left i))
 
-  -- the two ways to give it back
+  -- the two ways to put it back
   abbrev in_front : Node × Held K V → Entries K V → Entries K V
   in_front e es = e ∷ es
 
@@ -315,5 +315,5 @@ pub ruleset at_nodes = (holds_out, has_out, bare_now, has_yet, spare_has, spare_
 
 pub ruleset at_ends = (first_held, last_held, shrinks, guard_gone)
 
--- each goal of a call that no answer proves is proved by one of these lemmas
+-- a goal of a call that no answer proves is first tried by these lemmas
 pub ruleset ring_calls = (ring_facts, neighbours, at_nodes, at_ends)

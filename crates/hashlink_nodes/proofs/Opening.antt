@@ -158,7 +158,7 @@ module _ {K V : Type 0} where
     pub guard_of : (m : Node) → Holds v.entries m → (g : Node) × (n.guard ≡ Some g)
     guard_of m there = guarded (λ is. cc (subst (λ (r : Ring K V). Holds r.entries m) (empty is) there))
 
-    -- or an entry, or a free node
+    -- likewise if it has an entry or a free node
     pub entry_guard : 0 < length v.entries → IsSome n.guard
     entry_guard some =
         ap is_some (guarded (λ is. omega (arith, some, ap (λ (r : Ring K V). length r.entries) (empty is)))).1

@@ -30,13 +30,15 @@ returns g c =
       (
         refl,
         λ w ok. used_and_written eq g.met.K.Eq.laws _ old new c.args.key _ c.len-before.ensures.len
-            c.len-before.ensures.distinct made w (state_of (l.lender w)) (on-some c.unwrap.ensures (l.holds w)),
+            c.len-before.ensures.distinct made w (state_of (l.lender w))
+            (on-some c.unwrap.ensures (l.holds w)),
         tt,
       ),
       record {
         lends = tt;
         updates = updates-used eq g.met.K.Eq.laws old c.args.key c.len-before.ensures.distinct;
-        value = lent_value eq _ old.map new c.args.key made v (rw c.unwrap.ensures at c.lend_last.ensures.value);
+        value = lent_value eq _ old.map new c.args.key made v
+            (rw c.unwrap.ensures at c.lend_last.ensures.value);
         given = tt;
         made = tt;
       },
