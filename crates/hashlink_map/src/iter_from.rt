@@ -62,7 +62,7 @@ impl<'a, K: Eq + Hash, V, S: BuildHasher> Iterator for IterFrom<'a, K, V, S> {
 
     ghost remaining = { λ s. at_most (length s) };
 
-    #[inline]
+    #[inline(always)]
     fn next(&mut self) -> Option<(&'a K, &'a V)> {
         let map = self.map;
         let node = self.place?;

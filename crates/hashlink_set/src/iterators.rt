@@ -2,7 +2,7 @@
 ghost use Rattle.hashlink_set.specs.Walks.{GivesFromTwo};
 
 /// Returns the next item of `first` or, if it has none, of `second`. It costs what the steps cost.
-#[inline]
+#[inline(always)]
 pub(crate) fn next_of_two<X, A: Iterator<Item = X>, B: Iterator<Item = X>>(
     first: &mut A,
     second: &mut B,

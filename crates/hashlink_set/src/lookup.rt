@@ -7,6 +7,7 @@ use hashlink_map::LinkedHashMap;
 use std::hash::{BuildHasher, Hash};
 
 /// Returns whether an equal element is present. The element is hashed once.
+#[inline(always)]
 pub(crate) fn contains<T: Eq + Hash, S: BuildHasher>(
     map: &LinkedHashMap<T, (), S>,
     element: &T,

@@ -75,7 +75,7 @@ impl<'a, T: Eq + Hash, S: BuildHasher, const HAS: bool> Iterator for Sifted<'a, 
 
     ghost remaining = { λ s. at_most (length (sifted_rest T.eq HAS s)) };
 
-    #[inline]
+    #[inline(always)]
     fn next(&mut self) -> Option<&'a T> {
         while let Some(element) = self.iter.next() {
             if contains(self.other, element) == HAS {

@@ -53,7 +53,7 @@ impl<'a, T: Eq + Hash, S: BuildHasher> Iterator for SymmetricDifference<'a, T, S
 
     ghost remaining = { λ s. at_most (length (symmetric_difference_rest T.eq s)) };
 
-    #[inline]
+    #[inline(always)]
     fn next(&mut self) -> Option<&'a T> {
         next_of_two(&mut self.first, &mut self.second)
     }

@@ -51,7 +51,7 @@ impl<'a, T: Eq + Hash, S: BuildHasher> Iterator for Union<'a, T, S> {
 
     ghost remaining = { λ s. at_most (length (union_rest T.eq s)) };
 
-    #[inline]
+    #[inline(always)]
     fn next(&mut self) -> Option<&'a T> {
         next_of_two(&mut self.first, &mut self.second)
     }

@@ -79,6 +79,7 @@ impl<K: Eq + Hash, V, S: BuildHasher> KeyedList<K, V, S> {
 
     /// Removes the node's entry and returns it. The node is then free. It does not allocate, and stores three
     /// links.
+    #[inline]
     pub fn remove(&mut self, node: Node) -> (K, V)
         requires { Holds self.old.nodes node }
         ensures pair { slice_get (entries_of self.old) (place_number self.old.nodes (Some node))
