@@ -13,16 +13,15 @@ mod walk;
 mod words;
 
 pub use answers::{Answer, Answers, Name, Named, Pair, Stop, Tally, Word, are_written, number};
-pub use counts::Counts;
-pub use entry_call::{Ask, EndedCall, EntryCall, Give, Make, Put, PutVacant, There, Vacant};
+pub use counts::{Counts, add};
+pub use entry_call::{Ask, EntryCall, Give};
 pub use items::{Home, Item};
 pub use keep::{Keep, has_room, is_even, is_other, is_raised, read_keep};
 pub use line::{Line, Read, push, rest_of};
-pub use raw_call::{RawAsk, RawCall, RawGive, RawPut, RawThere};
+pub use raw_call::{RawAsk, RawCall, RawGive};
 pub use said::{
-    done, given, given_item, lent, lent_item, made, made_with_room, no_memory, no_memory_after,
-    put, room, set, shown, taken, taken_pair, write, write_item, write_pair,
+    Shown, done, made, made_with_room, no_memory, put, room, set, write, write_item, write_pair,
 };
 pub use steps::{Goes, Step};
-pub use walk::{Walk, walk_and_clone, walk_and_forget, walk_whole};
+pub use walk::{Exact, Walk, go, walk_and_clone, walk_and_forget, walk_whole};
 pub use words::Words;

@@ -2,7 +2,7 @@
 use crate::hashers::Hashing;
 use crate::items::{Answer, Answers, Home, Name, Stop, Word, Words, are_written, number, push};
 use crate::row::cut;
-use crate::spoken::{Stands, Voice, say_pairs, say_room, say_word, say_words};
+use crate::spoken::{Stands, Voice, say_all, say_room, say_word, say_words};
 use crate::texts::refuse;
 use hashlink::run::{
     CacheCommand, Command, EntryStep, Pair, PairCommand, Reply, Uses, run, run_cache, run_pair,
@@ -12,106 +12,28 @@ use hashlink::{LinkedHashMap, LruCache};
 use hashlink_text::{CacheLine, Line, pair_command};
 use std::alloc::{AllocError, Global};
 
+type Map = LinkedHashMap<u64, u64, Hashing>;
+
+type Cache = LruCache<u64, u64, Hashing>;
+
+type Replies = Result<Vec<Reply<u64, u64>>, AllocError>;
+
 /// A container that runs a list of commands.
 pub trait Listed: Sized {
-    /// Runs the lines as one list, and records the replies. Returns whether there was memory for them.
-    fn run(
-        &mut self,
-        alloc: Global,
-        lines: &[&str],
-        seen: Seen,
-        answers: &mut Answers,
-    ) -> Result<bool, Stop>;
+    type Command: Drop;
+
+    /// The command that a line spells.
+    fn command(alloc: Global, line: &str) -> Result<Self::Command, Stop>;
+
+    /// Runs the commands. What the closure of the run returns for a pair is the reply to a read, and whether a
+    /// keep keeps the pair: whether its value is even or, if `is_any`, always true.
+    fn replies(&mut self, commands: Vec<Self::Command>, is_any: bool) -> Replies;
 }
 
-impl Listed for LinkedHashMap<u64, u64, Hashing> {
-    fn run(
-        &mut self,
-        alloc: Global,
-        lines: &[&str],
-        seen: Seen,
-        answers: &mut Answers,
-    ) -> Result<bool, Stop> {
-        let commands = commands_of(alloc, lines)?;
-        say_all(replies_of(self, commands, seen), answers)
-    }
-}
+impl Listed for Map {
+    type Command = Command<u64, u64>;
 
-impl Listed for LruCache<u64, u64, Hashing> {
-    fn run(
-        &mut self,
-        alloc: Global,
-        lines: &[&str],
-        seen: Seen,
-        answers: &mut Answers,
-    ) -> Result<bool, Stop> {
-        let commands = commands_of(alloc, lines)?;
-        say_all(replies_of_cache(self, commands, seen), answers)
-    }
-}
-
-fn word_of((key, value): (&u64, &u64)) -> Word {
-    Word::pair((Name::of(*key), Name::of(*value)))
-}
-
-/// What the closure of a run returns for a pair, which is the reply to a read and whether a keep keeps the
-/// pair.
-#[derive(Clone, Copy)]
-pub enum Seen {
-    /// Whether the value is even.
-    Even,
-    /// True, for every pair.
-    Always,
-}
-
-fn is_even(_key: &u64, value: &u64) -> bool {
-    *value % 2 == 0
-}
-
-fn is_any(_key: &u64, _value: &u64) -> bool {
-    true
-}
-
-/// Runs the commands on a map.
-fn replies_of(
-    map: &mut LinkedHashMap<u64, u64, Hashing>,
-    commands: Vec<Command<u64, u64>>,
-    seen: Seen,
-) -> Result<Vec<Reply<u64, u64>>, AllocError> {
-    match seen {
-        Seen::Even => run(map, commands, &is_even),
-        Seen::Always => run(map, commands, &is_any),
-    }
-}
-
-/// Runs the commands on a cache.
-fn replies_of_cache(
-    cache: &mut LruCache<u64, u64, Hashing>,
-    commands: Vec<CacheCommand<u64, u64>>,
-    seen: Seen,
-) -> Result<Vec<Reply<u64, u64>>, AllocError> {
-    match seen {
-        Seen::Even => run_cache(cache, commands, &is_even),
-        Seen::Always => run_cache(cache, commands, &is_any),
-    }
-}
-
-/// A command that a line spells.
-trait Parsed: Sized {
-    fn parsed(alloc: Global, line: &str) -> Result<Self, Stop>;
-}
-
-/// The commands that the lines spell.
-fn commands_of<C: Parsed + Drop>(alloc: Global, lines: &[&str]) -> Result<Vec<C>, Stop> {
-    let mut commands = Vec::with_capacity(alloc, lines.len())?;
-    for line in lines {
-        push(&mut commands, C::parsed(alloc, cut(line).0)?)?;
-    }
-    Ok(commands)
-}
-
-impl Parsed for Command<u64, u64> {
-    fn parsed(alloc: Global, line: &str) -> Result<Command<u64, u64>, Stop> {
+    fn command(alloc: Global, line: &str) -> Result<Command<u64, u64>, Stop> {
         let mut words = Words::new(line);
         let (name, key) = (words.word(), words.number());
         match (name, words.rest) {
@@ -124,12 +46,22 @@ impl Parsed for Command<u64, u64> {
             },
         }
     }
+
+    fn replies(&mut self, commands: Vec<Command<u64, u64>>, is_any: bool) -> Replies {
+        run(
+            self,
+            commands,
+            &|_key: &u64, value: &u64| is_any || *value % 2 == 0,
+        )
+    }
 }
 
-impl Parsed for CacheCommand<u64, u64> {
-    fn parsed(alloc: Global, line: &str) -> Result<CacheCommand<u64, u64>, Stop> {
+impl Listed for Cache {
+    type Command = CacheCommand<u64, u64>;
+
+    fn command(alloc: Global, line: &str) -> Result<CacheCommand<u64, u64>, Stop> {
         if line.starts_with("entry ") {
-            return match Command::parsed(alloc, line)? {
+            return match Map::command(alloc, line)? {
                 Command::Entry(key, step) => Ok(CacheCommand::Entry(key, step)),
                 _ => Err(Stop::Unread),
             };
@@ -139,20 +71,27 @@ impl Parsed for CacheCommand<u64, u64> {
             _ => Err(Stop::Unread),
         }
     }
+
+    fn replies(&mut self, commands: Vec<CacheCommand<u64, u64>>, is_any: bool) -> Replies {
+        run_cache(
+            self,
+            commands,
+            &|_key: &u64, value: &u64| is_any || *value % 2 == 0,
+        )
+    }
 }
 
-/// Records the replies, and returns whether there are any.
-fn say_all(
-    replies: Result<Vec<Reply<u64, u64>>, AllocError>,
-    answers: &mut Answers,
-) -> Result<bool, Stop> {
-    let Ok(replies) = replies else {
-        return Ok(false);
-    };
-    for reply in replies.iter() {
-        answers.give(said(*reply))?;
+/// The commands that the lines spell.
+fn commands_of<C: Listed>(alloc: Global, lines: &[&str]) -> Result<Vec<C::Command>, Stop> {
+    let mut commands = Vec::with_capacity(alloc, lines.len())?;
+    for line in lines {
+        push(&mut commands, C::command(alloc, cut(line).0)?)?;
     }
-    Ok(true)
+    Ok(commands)
+}
+
+fn word_of((key, value): (&u64, &u64)) -> Word {
+    Word::pair((Name::of(*key), Name::of(*value)))
 }
 
 fn said(reply: Reply<u64, u64>) -> Answer {
@@ -183,31 +122,11 @@ pub fn are_runs_right<C: Listed + Stands + Drop>(
     voice: Voice<'_>,
 ) -> Result<bool, Stop> {
     let lines: Vec<&str> = lines.split('\n').collect(home.alloc)?;
-    let mut container = C::make(home, capacity);
-    if is_one {
-        return is_run_right(
-            &mut container,
-            home.alloc,
-            &lines,
-            Seen::Always,
-            answers,
-            voice,
-        );
-    }
-    are_halves_right(&mut container, home.alloc, &lines, answers, voice)
-}
-
-fn are_halves_right<C: Listed + Stands>(
-    container: &mut C,
-    alloc: Global,
-    lines: &[&str],
-    answers: &mut Answers,
-    voice: Voice<'_>,
-) -> Result<bool, Stop> {
-    let (first, second) = lines.split_at(lines.len() / 2);
+    let (first, second) = lines.split_at(if is_one { 0 } else { lines.len() / 2 });
+    let container = &mut C::make(home, capacity);
     Ok(
-        is_run_right(container, alloc, first, Seen::Even, answers, voice)?
-            && is_run_right(container, alloc, second, Seen::Even, answers, voice)?,
+        (is_one || is_run_right(container, home.alloc, first, false, answers, voice)?)
+            && is_run_right(container, home.alloc, second, is_one, answers, voice)?,
     )
 }
 
@@ -215,25 +134,29 @@ fn is_run_right<C: Listed + Stands>(
     container: &mut C,
     alloc: Global,
     lines: &[&str],
-    seen: Seen,
+    is_any: bool,
     answers: &mut Answers,
     voice: Voice<'_>,
 ) -> Result<bool, Stop> {
     answers.words.clear();
-    let is_run = container.run(alloc, lines, seen, answers)?;
-    say_run(is_run, answers, voice);
+    let commands = commands_of::<C>(alloc, lines)?;
+    say_replies(container.replies(commands, is_any), answers, voice)?;
     say_stand(container, voice);
     Ok(answers.tally.refused > 0 || are_replies_written(lines, answers.words.as_slice()))
 }
 
-/// Prints the replies of a run, or that there was no memory for it.
-fn say_run(is_run: bool, answers: &mut Answers, voice: Voice<'_>) {
-    if is_run {
-        let _ = answers.count_refused();
-        say_words(voice, answers.words.as_slice());
-    } else {
+/// Records and prints the replies of a run, or that there was no memory for it.
+fn say_replies(replies: Replies, answers: &mut Answers, voice: Voice<'_>) -> Result<(), Stop> {
+    let Ok(replies) = replies else {
         refuse(answers, voice);
+        return Ok(());
+    };
+    for reply in replies.iter() {
+        answers.give(said(*reply))?;
     }
+    let _ = answers.count_refused();
+    say_words(voice, answers.words.as_slice());
+    Ok(())
 }
 
 fn say_stand<C: Stands>(container: &C, voice: Voice<'_>) {
@@ -345,15 +268,11 @@ pub fn run_lines_of_uses(
 /// The pairs that the lines use.
 fn uses_of(alloc: Global, lines: &str) -> Result<Vec<(Name, u64)>, Stop> {
     let mut pairs = Vec::new(alloc);
-    let mut number = 0u64;
-    for line in lines.split('\n') {
-        number = number.saturating_add(1);
-        match pair_command(line.as_bytes()) {
-            Some(PairCommand::Use(group, value)) => {
-                push(&mut pairs, (Name { group, number }, value))?
-            }
-            _ => return Err(Stop::Unread),
-        }
+    for command in commands_of_pair(alloc, lines)?.iter() {
+        let PairCommand::Use(key, value) = command else {
+            return Err(Stop::Unread);
+        };
+        push(&mut pairs, (*key, *value))?;
     }
     Ok(pairs)
 }
@@ -373,7 +292,7 @@ fn say_found(cache: &LruCache<Name, u64>, found: &[Option<u64>], voice: Voice<'_
         }
         let _ = println!(rt; "");
         say_room(rt, cache.len(), cache.capacity());
-        say_pairs(rt, cache.iter());
+        say_all(rt, cache.iter());
         let _ = println!(rt; "");
     }
 }

@@ -1,9 +1,11 @@
 //! Containers that the lines of a row call, and how they are printed.
-use crate::calls::{Map, Set, Weighted, call_map, call_set, call_sets, compare, weighed};
+ghost use Rattle.std.specs.Iterator.{IsFinite};
+
+use crate::calls::{Map, Set, Weighted, call_map, call_set, call_sets, compare};
 use crate::hashers::Hashing;
-use crate::items::{Home, Line, Named, Stop, Word};
+use crate::items::{Home, Line, Named, Shown, Stop, Word};
 use hashlink::weighted::WeightedCache;
-use hashlink::{LinkedHashMap, LinkedHashSet, LruCache, linked_hash_map};
+use hashlink::{LinkedHashMap, LinkedHashSet, LruCache};
 use std::hash::Hash;
 
 /// Where answers and contents are printed: nowhere, unless the program is asked to print them.
@@ -28,9 +30,14 @@ pub fn say_room(rt: &HostRuntime, len: usize, capacity: usize) {
     let _ = print!(rt; "+ {len} {capacity}");
 }
 
-pub fn say_pairs<K: Named, V: Named>(rt: &HostRuntime, pairs: linked_hash_map::Iter<'_, K, V>) {
-    for (key, value) in pairs {
-        say_word(rt, Word::pair((key.name(), value.name())));
+pub fn say_all<I: Iterator>(rt: &HostRuntime, all: I)
+where
+    I::Item: Shown,
+    requires begins { I.can_next all }
+    requires ends { IsFinite (I.remaining all) }
+{
+    for it in all {
+        say_word(rt, it.shown());
     }
 }
 
@@ -50,7 +57,7 @@ impl<K: Named + Eq + Hash + Drop, V: Named + Drop> Stands for LinkedHashMap<K, V
 
     fn stand(&self, rt: &HostRuntime) {
         say_room(rt, self.len(), self.capacity());
-        say_pairs(rt, self.iter());
+        say_all(rt, self.iter());
     }
 }
 
@@ -61,9 +68,7 @@ impl<T: Named + Eq + Hash + Drop> Stands for LinkedHashSet<T, Hashing> {
 
     fn stand(&self, rt: &HostRuntime) {
         say_room(rt, self.len(), self.capacity());
-        for element in self.iter() {
-            say_word(rt, Word::item(element.name()));
-        }
+        say_all(rt, self.iter());
     }
 }
 
@@ -74,7 +79,7 @@ impl<K: Named + Eq + Hash + Drop, V: Named + Drop> Stands for LruCache<K, V, Has
 
     fn stand(&self, rt: &HostRuntime) {
         say_room(rt, self.len(), self.capacity());
-        say_pairs(rt, self.iter());
+        say_all(rt, self.iter());
     }
 }
 
@@ -86,9 +91,7 @@ impl Stands for Weighted {
     fn stand(&self, rt: &HostRuntime) {
         say_room(rt, self.len(), self.budget() as usize);
         say_word(rt, Word::Item(self.total(), 0));
-        for entry in self.iter() {
-            say_word(rt, weighed(entry));
-        }
+        say_all(rt, self.iter());
     }
 }
 

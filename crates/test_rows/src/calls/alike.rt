@@ -1,5 +1,5 @@
 //! Iterators over two sets, with their bounds, compared with a clone.
-use crate::items::{Item, Line, Name, Stop, Word, lent_item};
+use crate::items::{Item, Line, Name, Shown, Stop, Word};
 
 /// Records the bounds and the item of each step: for the given number of steps or, without a number, up to
 /// the end. After that no item may follow. A clone that is made after the first step has to return the same.
@@ -60,5 +60,5 @@ fn next_step<'s, I: Iterator<Item = &'s Item>>(walk: &mut I) -> [Word; 3]
         Some(most) => Word::count(most),
         None => Word::Nothing,
     };
-    [Word::count(least), most, lent_item(walk.next())]
+    [Word::count(least), most, walk.next().shown()]
 }

@@ -3,8 +3,7 @@ use crate::calls::cache_many::call_many;
 use crate::calls::entries::not_made;
 use crate::hashers::Hashing;
 use crate::items::{
-    Answer, Item, Line, Stop, Word, given, given_item, lent, lent_item, made, no_memory, put,
-    write, write_item,
+    Answer, Item, Line, Shown, Stop, Word, made, no_memory, put, write, write_item,
 };
 use crate::spoken::Spoken;
 use hashlink_lru::LruCache;
@@ -28,13 +27,13 @@ fn call_cache(cache: &mut Cache, line: &mut Line<'_>) -> Result<(), Stop> {
         "len" => Word::count(cache.len()),
         "is_empty" => Word::Is(cache.is_empty()),
         "capacity" => Word::count(cache.capacity()),
-        "peek_lru" => lent(cache.peek_lru()),
-        "back" => lent(cache.back()),
+        "peek_lru" => cache.peek_lru().shown(),
+        "back" => cache.back().shown(),
         "make_room" => {
             cache.make_room();
             Word::Done
         }
-        "remove_lru" => given(cache.remove_lru()),
+        "remove_lru" => cache.remove_lru().shown(),
         "clear" => {
             cache.clear();
             Word::Done
@@ -57,12 +56,12 @@ fn call_cache(cache: &mut Cache, line: &mut Line<'_>) -> Result<(), Stop> {
 pub fn call_of_key(cache: &mut Cache, name: &str, line: &mut Line<'_>) -> Result<(), Stop> {
     let key = line.item()?;
     let word = match name {
-        "get" => lent_item(cache.get(&key)),
-        "peek" => lent_item(cache.peek(&key)),
+        "get" => cache.get(&key).shown(),
+        "peek" => cache.peek(&key).shown(),
         "contains_key" => Word::Is(cache.contains_key(&key)),
-        "evicted_by" => lent(cache.evicted_by(&key)),
-        "remove" => given_item(cache.remove(&key)),
-        "remove_entry" => given(cache.remove_entry(&key)),
+        "evicted_by" => cache.evicted_by(&key).shown(),
+        "remove" => cache.remove(&key).shown(),
+        "remove_entry" => cache.remove_entry(&key).shown(),
         "get_mut" => write(cache.get_mut(&key), line.words.optional()),
         "peek_mut" => write(cache.peek_mut(&key), line.words.optional()),
         "get_or_try_insert_with" => return put_tried(cache, key, line),
@@ -76,7 +75,7 @@ fn put_pair(cache: &mut Cache, name: &str, key: Item, line: &mut Line<'_>) -> Re
     let value = line.item()?;
     let answer = match name {
         "insert" => put(cache.insert(key, value)),
-        "push" => pushed(cache.push(key, value)),
+        "push" => put(cache.push(key, value)),
         "get_or_insert_with" => match cache.get_or_insert_with(key, || value) {
             Ok(lent) => Answer::Word(write_item(lent, line.words.optional())),
             Err(pair) => no_memory(pair),
@@ -93,12 +92,4 @@ fn put_tried(cache: &mut Cache, key: Item, line: &mut Line<'_>) -> Result<(), St
         Err(error) => not_made(error),
     };
     line.give(answer)
-}
-
-/// The pair that left, or the one that is returned because an allocation failed.
-fn pushed(left: Result<Option<(Item, Item)>, (Item, Item)>) -> Answer {
-    match left {
-        Ok(left) => Answer::Word(given(left)),
-        Err(pair) => no_memory(pair),
-    }
 }

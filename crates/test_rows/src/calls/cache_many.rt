@@ -5,7 +5,7 @@ use crate::calls::extended::{TakesMany, extended, extended_by_trait, put_rest};
 use crate::calls::map_calls::call_map;
 use crate::calls::raw_entries::{call_found, put_found};
 use crate::items::{
-    Answer, EntryCall, Item, Line, RawCall, RawGive, Stop, Word, is_even, is_raised, lent,
+    Answer, EntryCall, Exact, Item, Line, RawCall, RawGive, Shown, Stop, Word, is_even, is_raised,
     walk_and_clone, walk_and_forget, walk_whole,
 };
 use hashlink_lru::LruCache;
@@ -16,8 +16,7 @@ use std::vec::IntoIter;
 /// Makes the call of this name, if it is one of these.
 pub fn call_many(cache: &mut Cache, name: &str, line: &mut Line<'_>) -> Result<(), Stop> {
     match name {
-        "retain" => retain(cache, line),
-        "retain_from" => retain_from(cache, line),
+        "retain" | "retain_from" => retain(cache, name, line),
         "inside" => call_map(cache.map_mut(), line),
         "entry" => call_entry_of(cache, line),
         "raw" => call_raw(cache, line),
@@ -28,7 +27,7 @@ pub fn call_many(cache: &mut Cache, name: &str, line: &mut Line<'_>) -> Result<(
         "iter_mut" => walk_whole(cache.iter_mut(), line),
         "drain" => walk_whole(cache.drain(), line),
         "forgotten_drain" => walk_and_forget(cache.drain(), 2, line),
-        "into_iter" => walk_whole(take(cache, line.home.alloc).into_iter(), line),
+        "into_iter" => walk_whole(Exact(take(cache, line.home.alloc).into_iter()), line),
         name if name.starts_with("extend") => put_rest(cache, name, line),
         _ => call_of_key(cache, name, line),
     }
@@ -45,21 +44,13 @@ impl TakesMany<(Item, Item)> for Cache {
     }
 }
 
-/// Keeps what the next word names.
-fn retain(cache: &mut Cache, line: &mut Line<'_>) -> Result<(), Stop> {
-    match line.words.word() {
-        "even" => cache.retain(is_even),
-        "odd" => cache.retain(is_raised),
-        _ => return Err(Stop::Unread),
-    }
-    line.say(Word::Done)
-}
-
-/// The same by `retain_from`, of a closure that is lent.
-fn retain_from(cache: &mut Cache, line: &mut Line<'_>) -> Result<(), Stop> {
-    match line.words.word() {
-        "even" => cache.retain_from(&mut is_even),
-        "odd" => cache.retain_from(&mut is_raised),
+/// Keeps what the next word names, by the call of this name.
+fn retain(cache: &mut Cache, name: &str, line: &mut Line<'_>) -> Result<(), Stop> {
+    match (name, line.words.word()) {
+        ("retain", "even") => cache.retain(is_even),
+        ("retain", "odd") => cache.retain(is_raised),
+        (_, "even") => cache.retain_from(&mut is_even),
+        (_, "odd") => cache.retain_from(&mut is_raised),
         _ => return Err(Stop::Unread),
     }
     line.say(Word::Done)
@@ -83,8 +74,8 @@ fn call_raw(cache: &mut Cache, line: &mut Line<'_>) -> Result<(), Stop> {
     let (key, call) = RawCall::of_key(line)?;
     let entries = cache.raw_entry_mut();
     match call {
-        RawCall::Give(RawGive::Make(make), value, new) => {
-            line.give(put_found(entries, make, key, value, new))
+        RawCall::Give(call @ (RawGive::OrInsert | RawGive::OrInsertWith), value, new) => {
+            line.give(put_found(entries, call, key, value, new))
         }
         call => call_found(entries.from_key(&key), call, line),
     }
@@ -94,5 +85,5 @@ fn call_raw(cache: &mut Cache, line: &mut Line<'_>) -> Result<(), Stop> {
 fn read_raw(cache: &Cache, line: &mut Line<'_>) -> Result<(), Stop> {
     let _way = line.words.word();
     let key = line.item()?;
-    line.say(lent(cache.raw_entry().from_key(&key)))
+    line.say(cache.raw_entry().from_key(&key).shown())
 }

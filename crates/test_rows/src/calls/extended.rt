@@ -1,7 +1,7 @@
 //! Results of extensions of containers, including std's `Extend`.
 ghost use Rattle.std.specs.Prelude.{List};
 
-use crate::items::{Answer, Item, Line, Read, Stop, Word, done, made, no_memory_after, rest_of};
+use crate::items::{Answer, Item, Line, Read, Shown, Stop, Word, done, made, rest_of};
 use hashlink_map::ExtendError;
 use std::alloc::Global;
 use std::vec::IntoIter;
@@ -54,7 +54,7 @@ pub fn make_of_kept<T: Read + Drop, C: FromIterator<T, Alloc = Global> + Drop>(
 pub fn extended(answer: Result<(), ExtendError<Item, Item>>) -> Answer {
     match answer {
         Ok(()) => Answer::Word(Word::Done),
-        Err(refused) => no_memory_after(refused.pair, refused.taken),
+        Err(refused) => Answer::BackAfter(refused.pair.shown(), refused.taken),
     }
 }
 

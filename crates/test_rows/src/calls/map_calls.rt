@@ -2,8 +2,8 @@
 use crate::calls::map_many::call_many;
 use crate::hashers::Hashing;
 use crate::items::{
-    Answer, Item, Line, Name, Stop, Word, done, given, given_item, has_room, lent, lent_item, made,
-    made_with_room, no_memory, put, room, write, write_item,
+    Answer, Item, Line, Name, Shown, Stop, Word, done, has_room, made, made_with_room, no_memory,
+    put, room, write, write_item,
 };
 use hashlink_map::LinkedHashMap;
 
@@ -13,12 +13,12 @@ pub type Map = LinkedHashMap<Item, Item, Hashing>;
 pub fn call_map(map: &mut Map, line: &mut Line<'_>) -> Result<(), Stop> {
     let name = line.words.word();
     let word = match name {
-        "front" => lent(map.front()),
-        "back" => lent(map.back()),
+        "front" => map.front().shown(),
+        "back" => map.back().shown(),
         "len" => Word::count(map.len()),
         "is_empty" => Word::Is(map.is_empty()),
-        "pop_front" => given(map.pop_front()),
-        "pop_back" => given(map.pop_back()),
+        "pop_front" => map.pop_front().shown(),
+        "pop_back" => map.pop_back().shown(),
         "clear" => {
             map.clear();
             Word::Done
@@ -57,12 +57,12 @@ fn ask_room(map: &mut Map, name: &str, line: &mut Line<'_>) -> Result<(), Stop> 
 pub fn call_of_key(map: &mut Map, name: &str, line: &mut Line<'_>) -> Result<(), Stop> {
     let key = line.item()?;
     let word = match name {
-        "get" => lent_item(map.get(&key)),
+        "get" => map.get(&key).shown(),
         "contains_key" => Word::Is(map.contains_key(&key)),
-        "get_key_value" => lent(map.get_key_value(&key)),
+        "get_key_value" => map.get_key_value(&key).shown(),
         "index" => index(map, &key),
-        "remove" => given_item(map.remove(&key)),
-        "remove_entry" => given(map.remove_entry(&key)),
+        "remove" => map.remove(&key).shown(),
+        "remove_entry" => map.remove_entry(&key).shown(),
         "get_mut" => write(map.get_mut(&key), line.words.optional()),
         "to_front" => write(map.to_front(&key), line.words.optional()),
         "to_back" => write(map.to_back(&key), line.words.optional()),

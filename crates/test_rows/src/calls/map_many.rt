@@ -8,19 +8,13 @@ use crate::calls::map_cursors::call_cursor;
 use crate::calls::raw_entries::{call_end, call_raw, read_raw};
 use crate::hashers::Hashing;
 use crate::items::{
-    Answer, Item, Keep, Line, Stop, Word, made, read_keep, shown, walk_and_clone, walk_and_forget,
-    walk_whole,
+    Answer, Exact, Item, Keep, Line, Shown, Stop, Word, made, read_keep, walk_and_clone,
+    walk_and_forget, walk_whole,
 };
 use hashlink_map::{IterFrom, LinkedHashMap};
 use std::alloc::Global;
 use std::mem;
 use std::vec::IntoIter;
-
-#[derive(Clone, Copy)]
-pub enum AtEnd {
-    Front,
-    Back,
-}
 
 /// Makes the call of this name, if it is one of these.
 pub fn call_many(map: &mut Map, name: &str, line: &mut Line<'_>) -> Result<(), Stop> {
@@ -34,8 +28,7 @@ pub fn call_many(map: &mut Map, name: &str, line: &mut Line<'_>) -> Result<(), S
         "entry" => call_entry_of(map, line),
         "raw" => call_raw(map, line),
         "raw_read" => read_raw(map, line),
-        "front_entry" => call_end(map, AtEnd::Front, line),
-        "back_entry" => call_end(map, AtEnd::Back, line),
+        "front_entry" | "back_entry" => call_end(map, name == "front_entry", line),
         _ => walk_map(map, name, line),
     }
 }
@@ -50,7 +43,7 @@ fn walk_map(map: &mut Map, name: &str, line: &mut Line<'_>) -> Result<(), Stop> 
         "values_mut" => walk_whole(map.values_mut(), line),
         "drain" => walk_whole(map.drain(), line),
         "forgotten_drain" => walk_and_forget(map.drain(), 2, line),
-        "into_iter" => walk_whole(take(map, line.home.alloc).into_iter(), line),
+        "into_iter" => walk_whole(Exact(take(map, line.home.alloc).into_iter()), line),
         "iter_from" => walk_from(map, line),
         name if name.starts_with("extend") => put_rest(map, name, line),
         _ => call_of_key(map, name, line),
@@ -98,7 +91,7 @@ fn walk_from(map: &Map, line: &mut Line<'_>) -> Result<(), Stop> {
 
 fn say_all(pairs: IterFrom<'_, Item, Item, Hashing>, line: &mut Line<'_>) -> Result<(), Stop> {
     for pair in pairs {
-        line.say(shown(pair))?;
+        line.say(pair.shown())?;
     }
     line.say(Word::Nothing)
 }

@@ -1,20 +1,17 @@
 //! Lines that call raw entries.
 use crate::calls::map_calls::Map;
 use crate::calls::map_cursors::take_all_steps;
-use crate::calls::map_many::AtEnd;
 use crate::hashers::Hashing;
 use crate::items::{
-    Answer, Item, Line, Make, Name, RawAsk, RawCall, RawGive, RawPut, RawThere, Stop, Word, lent,
-    no_memory, set, shown, taken, taken_pair, write_item, write_pair,
+    Answer, Item, Line, Name, RawAsk, RawCall, RawGive, Shown, Stop, Word, no_memory, set,
+    write_item, write_pair,
 };
-use hashlink_map::{RawEntryBuilderMut, RawEntryMut, RawOccupiedEntryMut};
+use hashlink_map::{RawEntryBuilderMut, RawEntryMut};
 use std::hash::BuildHasher;
 
 type Raw<'m> = RawEntryMut<'m, Item, Item, Hashing>;
 
 type Entries<'m> = RawEntryBuilderMut<'m, Item, Item, Hashing>;
-
-type Occupied<'m> = RawOccupiedEntryMut<'m, Item, Item, Hashing>;
 
 /// A way to look a key up.
 #[derive(Clone, Copy)]
@@ -46,14 +43,16 @@ pub fn read_raw(map: &Map, line: &mut Line<'_>) -> Result<(), Stop> {
 /// The pair of a key. If the way takes the hash, it is computed first.
 fn read_at(map: &Map, way: Way, key: &Item) -> Word {
     match way {
-        Way::Key | Way::OfKey => lent(map.raw_entry().from_key(key)),
+        Way::Key | Way::OfKey => map.raw_entry().from_key(key).shown(),
         Way::Hash | Way::OfHash => {
             let hash = map.hasher().hash_one(key);
-            lent(map.raw_entry().from_key_hashed_nocheck(hash, key))
+            map.raw_entry().from_key_hashed_nocheck(hash, key).shown()
         }
         Way::Test | Way::OfTest => {
             let hash = map.hasher().hash_one(key);
-            lent(map.raw_entry().from_hash(hash, |stored| *stored == *key))
+            map.raw_entry()
+                .from_hash(hash, |stored| *stored == *key)
+                .shown()
         }
     }
 }
@@ -99,9 +98,13 @@ pub fn call_raw(map: &mut Map, line: &mut Line<'_>) -> Result<(), Stop> {
 
 fn give_at(map: &mut Map, call: RawGive, key: Item, value: Item, new: Option<Name>) -> Answer {
     match call {
-        RawGive::Make(make) => put_found(map.raw_entry_mut(), make, key, value, new),
-        RawGive::Put(put) => put_lent(map, put, key, value, new),
-        RawGive::PutEntry(put) => put_entry(map, put, key, value, new),
+        RawGive::OrInsert | RawGive::OrInsertWith => {
+            put_found(map.raw_entry_mut(), call, key, value, new)
+        }
+        RawGive::Insert | RawGive::InsertHashed | RawGive::InsertWithHasher => {
+            put_lent(map, call, key, value, new)
+        }
+        _ => put_entry(map, call, key, value, new),
     }
 }
 
@@ -109,33 +112,33 @@ fn give_at(map: &mut Map, call: RawGive, key: Item, value: Item, new: Option<Nam
 pub fn call_found(entry: Raw<'_>, call: RawCall, line: &mut Line<'_>) -> Result<(), Stop> {
     match call {
         RawCall::Ask(RawAsk::Modify, new) => line.say(modify(entry, new)),
-        RawCall::Ask(RawAsk::There(call), new) => line.say(ask_there(entry, call, new)),
+        RawCall::Ask(call, new) => line.say(ask(entry, call, new)),
         RawCall::ReplaceValue(value) => line.say(replace_at(entry, value)),
         RawCall::Cursor => steps_at(entry, line),
         _ => Err(Stop::Unread),
     }
 }
 
-fn ask_there(entry: Raw<'_>, call: RawThere, new: Option<Name>) -> Word {
+fn ask(entry: Raw<'_>, call: RawAsk, new: Option<Name>) -> Word {
     match entry {
         RawEntryMut::Occupied(mut entry) => match call {
-            RawThere::Get => shown((entry.key(), entry.get())),
-            RawThere::GetKeyValue => shown(entry.get_key_value()),
-            RawThere::ToFront => {
+            RawAsk::Get => (entry.key(), entry.get()).shown(),
+            RawAsk::GetKeyValue => entry.get_key_value().shown(),
+            RawAsk::ToFront => {
                 entry.to_front();
-                shown(entry.get_key_value())
+                entry.get_key_value().shown()
             }
-            RawThere::ToBack => {
+            RawAsk::ToBack => {
                 entry.to_back();
-                shown(entry.get_key_value())
+                entry.get_key_value().shown()
             }
-            RawThere::IntoKey => Word::item(entry.into_key().name()),
-            RawThere::Remove => taken(entry.remove()),
-            RawThere::RemoveEntry => taken_pair(entry.remove_entry()),
-            RawThere::GetMut => write_item(entry.get_mut(), new),
-            RawThere::GetKeyValueMut => write_item(entry.get_key_value_mut().1, new),
-            RawThere::IntoMut => write_item(entry.into_mut(), new),
-            RawThere::IntoKeyValue => write_item(entry.into_key_value().1, new),
+            RawAsk::IntoKey => entry.into_key().shown(),
+            RawAsk::Remove => entry.remove().shown(),
+            RawAsk::RemoveEntry => entry.remove_entry().shown(),
+            RawAsk::GetMut => write_item(entry.get_mut(), new),
+            RawAsk::GetKeyValueMut => write_item(entry.get_key_value_mut().1, new),
+            RawAsk::IntoMut => write_item(entry.into_mut(), new),
+            _ => write_item(entry.into_key_value().1, new),
         },
         RawEntryMut::Vacant(_vacant) => Word::Nothing,
     }
@@ -144,7 +147,7 @@ fn ask_there(entry: Raw<'_>, call: RawThere, new: Option<Name>) -> Word {
 /// Writes the value if the key is present.
 fn modify(entry: Raw<'_>, new: Option<Name>) -> Word {
     match entry.and_modify(|_, lent| set(lent, new)) {
-        RawEntryMut::Occupied(entry) => shown(entry.get_key_value()),
+        RawEntryMut::Occupied(entry) => entry.get_key_value().shown(),
         RawEntryMut::Vacant(_vacant) => Word::Nothing,
     }
 }
@@ -152,15 +155,15 @@ fn modify(entry: Raw<'_>, new: Option<Name>) -> Word {
 /// Makes a call that inserts a pair if its key is absent, and lends the pair that is then present.
 pub fn put_found(
     entries: Entries<'_>,
-    make: Make,
+    call: RawGive,
     key: Item,
     value: Item,
     new: Option<Name>,
 ) -> Answer {
     let entry = entries.from_key(&key);
-    let lent = match make {
-        Make::OrInsert => entry.or_insert(key, value),
-        Make::OrInsertWith => entry.or_insert_with(|| (key, value)),
+    let lent = match call {
+        RawGive::OrInsert => entry.or_insert(key, value),
+        _ => entry.or_insert_with(|| (key, value)),
     };
     match lent {
         Ok(pair) => Answer::Word(write_pair(Some(pair), new)),
@@ -170,7 +173,7 @@ pub fn put_found(
 
 fn replace_at(entry: Raw<'_>, value: Item) -> Word {
     match entry {
-        RawEntryMut::Occupied(mut entry) => taken(entry.replace_value(value)),
+        RawEntryMut::Occupied(mut entry) => entry.replace_value(value).shown(),
         RawEntryMut::Vacant(_vacant) => Word::Nothing,
     }
 }
@@ -183,35 +186,31 @@ fn steps_at(entry: Raw<'_>, line: &mut Line<'_>) -> Result<(), Stop> {
 }
 
 /// Makes a call of the entry at an end.
-pub fn call_end(map: &mut Map, end: AtEnd, line: &mut Line<'_>) -> Result<(), Stop> {
+pub fn call_end(map: &mut Map, is_front: bool, line: &mut Line<'_>) -> Result<(), Stop> {
     let call = RawCall::read(line)?;
-    match entry_at_end(map, end) {
+    let entry = if is_front {
+        map.front_entry()
+    } else {
+        map.back_entry()
+    };
+    match entry {
         Some(entry) => call_found(RawEntryMut::Occupied(entry), call, line),
         None => line.say(Word::Nothing),
     }
 }
 
-fn entry_at_end<'m>(map: &'m mut Map, end: AtEnd) -> Option<Occupied<'m>> {
-    match end {
-        AtEnd::Front => map.front_entry(),
-        AtEnd::Back => map.back_entry(),
-    }
-}
-
 /// Makes a call that inserts a pair whose key is absent, and records the pair that is lent, which is then
 /// written.
-fn put_lent(map: &mut Map, put: RawPut, key: Item, value: Item, new: Option<Name>) -> Answer {
+fn put_lent(map: &mut Map, call: RawGive, key: Item, value: Item, new: Option<Name>) -> Answer {
     let builder = *map.hasher();
     let hash = builder.hash_one(&key);
     let RawEntryMut::Vacant(entry) = map.raw_entry_hashed_nocheck(hash, &key) else {
         return Answer::Word(Word::Nothing);
     };
-    let lent = match put {
-        RawPut::Insert => entry.insert(key, value),
-        RawPut::InsertHashed => entry.insert_hashed_nocheck(hash, key, value),
-        RawPut::InsertWithHasher => {
-            entry.insert_with_hasher(hash, key, value, |stored| builder.hash_one(stored))
-        }
+    let lent = match call {
+        RawGive::Insert => entry.insert(key, value),
+        RawGive::InsertHashed => entry.insert_hashed_nocheck(hash, key, value),
+        _ => entry.insert_with_hasher(hash, key, value, |stored| builder.hash_one(stored)),
     };
     match lent {
         Ok(pair) => Answer::Word(write_pair(Some(pair), new)),
@@ -220,23 +219,21 @@ fn put_lent(map: &mut Map, put: RawPut, key: Item, value: Item, new: Option<Name
 }
 
 /// The same for a call that makes the pair an entry, which is written and then recorded.
-fn put_entry(map: &mut Map, put: RawPut, key: Item, value: Item, new: Option<Name>) -> Answer {
+fn put_entry(map: &mut Map, call: RawGive, key: Item, value: Item, new: Option<Name>) -> Answer {
     let builder = *map.hasher();
     let hash = builder.hash_one(&key);
     let RawEntryMut::Vacant(entry) = map.raw_entry_hashed_nocheck(hash, &key) else {
         return Answer::Word(Word::Nothing);
     };
-    let made = match put {
-        RawPut::Insert => entry.insert_entry(key, value),
-        RawPut::InsertHashed => entry.insert_entry_hashed_nocheck(hash, key, value),
-        RawPut::InsertWithHasher => {
-            entry.insert_entry_with_hasher(hash, key, value, |stored| builder.hash_one(stored))
-        }
+    let made = match call {
+        RawGive::InsertEntry => entry.insert_entry(key, value),
+        RawGive::InsertEntryHashed => entry.insert_entry_hashed_nocheck(hash, key, value),
+        _ => entry.insert_entry_with_hasher(hash, key, value, |stored| builder.hash_one(stored)),
     };
     match made {
         Ok(mut entry) => {
             set(entry.get_mut(), new);
-            Answer::Word(shown(entry.get_key_value()))
+            Answer::Word(entry.get_key_value().shown())
         }
         Err(pair) => no_memory(pair),
     }
@@ -248,7 +245,7 @@ fn replace_key(map: &mut Map, key: Item) -> Word {
     match map.raw_entry_mut().from_key(&key) {
         RawEntryMut::Occupied(mut entry) if key == *entry.key() => {
             let old = entry.replace_key(key);
-            shown((&old, entry.get()))
+            (&old, entry.get()).shown()
         }
         _ => Word::Nothing,
     }

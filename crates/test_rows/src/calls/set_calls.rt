@@ -2,8 +2,8 @@
 use crate::calls::set_many::call_many;
 use crate::hashers::Hashing;
 use crate::items::{
-    Answer, Item, Line, Stop, Word, done, given_item, has_room, lent_item, made, made_with_room,
-    room, taken,
+    Answer, Item, Line, Shown, Stop, Word, done, has_room, made, made_with_room, no_memory, put,
+    room,
 };
 use hashlink_set::LinkedHashSet;
 
@@ -13,12 +13,12 @@ pub type Set = LinkedHashSet<Item, Hashing>;
 pub fn call_set(set: &mut Set, line: &mut Line<'_>) -> Result<(), Stop> {
     let name = line.words.word();
     let word = match name {
-        "front" => lent_item(set.front()),
-        "back" => lent_item(set.back()),
+        "front" => set.front().shown(),
+        "back" => set.back().shown(),
         "len" => Word::count(set.len()),
         "is_empty" => Word::Is(set.is_empty()),
-        "pop_front" => given_item(set.pop_front()),
-        "pop_back" => given_item(set.pop_back()),
+        "pop_front" => set.pop_front().shown(),
+        "pop_back" => set.pop_back().shown(),
         "clear" => {
             set.clear();
             Word::Done
@@ -56,42 +56,26 @@ pub fn call_of_element(set: &mut Set, name: &str, line: &mut Line<'_>) -> Result
     let element = line.item()?;
     let word = match name {
         "contains" => Word::Is(set.contains(&element)),
-        "get" => lent_item(set.get(&element)),
+        "get" => set.get(&element).shown(),
         "to_front" => Word::Is(set.to_front(&element)),
         "to_back" => Word::Is(set.to_back(&element)),
         "remove" => Word::Is(set.remove(&element)),
-        "take" => given_item(set.take(&element)),
-        _ => return put(set, name, element, line),
+        "take" => set.take(&element).shown(),
+        _ => return put_in(set, name, element, line),
     };
     line.say(word)
 }
 
 /// Makes the call of this name, if it puts the element in.
-fn put(set: &mut Set, name: &str, element: Item, line: &mut Line<'_>) -> Result<(), Stop> {
+fn put_in(set: &mut Set, name: &str, element: Item, line: &mut Line<'_>) -> Result<(), Stop> {
     let answer = match name {
         "insert" => match set.insert(element) {
             Ok(is_new) => Answer::Word(Word::Is(is_new)),
-            Err(element) => back(element),
+            Err(element) => no_memory(element),
         },
-        "replace" => match set.replace(element) {
-            Ok(old) => Answer::Word(given_item(old)),
-            Err(element) => back(element),
-        },
-        "get_or_insert" => lent_or_back(set.get_or_insert(element)),
+        "replace" => put(set.replace(element)),
+        "get_or_insert" => put(set.get_or_insert(element)),
         _ => return Err(Stop::Unread),
     };
     line.give(answer)
-}
-
-/// The element that is lent, or the one that is returned.
-pub fn lent_or_back(lent: Result<&Item, Item>) -> Answer {
-    match lent {
-        Ok(element) => Answer::Word(Word::item(element.name())),
-        Err(element) => back(element),
-    }
-}
-
-/// An element that is returned because an allocation failed.
-fn back(element: Item) -> Answer {
-    Answer::Back(Word::Memory, taken(element))
 }

@@ -2,9 +2,9 @@
 ghost use Rattle.std.specs.Prelude.{◌≡◌};
 
 use crate::calls::extended::{TakesMany, extended_by_trait, make_of_kept, make_of_rest, put_rest};
-use crate::calls::set_calls::{Set, call_of_element, lent_or_back};
+use crate::calls::set_calls::{Set, call_of_element};
 use crate::items::{
-    Answer, Item, Keep, Line, Stop, Word, is_other, read_keep, taken, walk_and_clone,
+    Answer, Exact, Item, Keep, Line, Shown, Stop, Word, is_other, put, read_keep, walk_and_clone,
     walk_and_forget, walk_whole,
 };
 use hashlink_set::{ExtendError, LinkedHashSet};
@@ -23,7 +23,7 @@ pub fn call_many(set: &mut Set, name: &str, line: &mut Line<'_>) -> Result<(), S
         "iter" => walk_and_clone(set.iter(), line),
         "drain" => walk_whole(set.drain(), line),
         "forgotten_drain" => walk_and_forget(set.drain(), 1, line),
-        "into_iter" => walk_whole(take(set, line.home.alloc).into_iter(), line),
+        "into_iter" => walk_whole(Exact(take(set, line.home.alloc).into_iter()), line),
         name if name.starts_with("extend") => put_rest(set, name, line),
         _ => call_of_element(set, name, line),
     }
@@ -33,7 +33,7 @@ fn put_made(set: &mut Set, line: &mut Line<'_>) -> Result<(), Stop> {
     let name = line.words.name();
     let element = Item::new(line.home, name)?;
     let made = Item::new(line.home, name)?;
-    line.give(lent_or_back(get_or_make(set, &element, made)))
+    line.give(put(get_or_make(set, &element, made)))
 }
 
 /// Looks the element up, and lends it. If it is absent, the made element, which is equal to it, is inserted
@@ -63,7 +63,7 @@ impl TakesMany<Item> for Set {
 fn extended(answer: Result<(), ExtendError<Item, ()>>) -> Answer {
     match answer {
         Ok(()) => Answer::Word(Word::Done),
-        Err(refused) => Answer::BackAfter(taken(refused.pair.0), refused.taken),
+        Err(refused) => Answer::BackAfter(refused.pair.0.shown(), refused.taken),
     }
 }
 

@@ -1,11 +1,8 @@
 //! Lines that call a cache with a budget.
 use crate::hashers::Hashing;
-use crate::items::{
-    Answer, Goes, Item, Line, Step, Stop, Walk, Word, given_item, lent_item, no_memory, shown,
-    taken_pair, walk_and_clone,
-};
+use crate::items::{Answer, Item, Line, Shown, Stop, Word, no_memory, walk_and_clone};
 use crate::spoken::Spoken;
-use hashlink_weighted::{WeightError, WeightedCache, WeightedIter};
+use hashlink_weighted::{WeightError, WeightedCache};
 
 pub type Weighted = WeightedCache<Item, Item, Hashing>;
 
@@ -22,9 +19,9 @@ impl Spoken for Weighted {
             "is_empty" => Word::Is(self.is_empty()),
             "total" => Word::Item(self.total(), 0),
             "budget" => Word::Item(self.budget(), 0),
-            "get" => lent_item(self.get(&line.item()?)),
-            "peek" => lent_item(self.peek(&line.item()?)),
-            "remove" => given_item(self.remove(&line.item()?)),
+            "get" => self.get(&line.item()?).shown(),
+            "peek" => self.peek(&line.item()?).shown(),
+            "remove" => self.remove(&line.item()?).shown(),
             "insert" => return put_pair(self, line),
             "insert_evicting" => return put_evicting(self, line),
             "iter" => return walk_and_clone(self.iter(), line),
@@ -65,43 +62,26 @@ fn insert_evicting(
         value,
         weight,
         &mut |key, value| {
-            let _ = evicted.push(taken_pair((key, value)));
+            let _ = evicted.push((key, value).shown());
         },
     ))
 }
 
 fn inserted(answer: Result<Option<Item>, WeightError<Item, Item>>) -> Answer {
     match answer {
-        Ok(old) => Answer::Word(given_item(old)),
+        Ok(old) => Answer::Word(old.shown()),
         Err(WeightError::Memory(pair)) => no_memory(pair),
-        Err(WeightError::TooHeavy((key, value))) => {
-            Answer::Back(Word::Heavy, shown((&key, &value)))
-        }
+        Err(WeightError::TooHeavy(pair)) => Answer::Back(Word::Heavy, pair.shown()),
     }
 }
 
 /// An entry of a cache with a budget, in which the number of the value is its weight.
-pub fn weighed((key, value, weight): (&Item, &Item, u64)) -> Word {
-    if weight != value.name().number {
-        return Word::Wrong;
-    }
-    shown((key, value))
-}
-
-fn lent_weighed(entry: Option<(&Item, &Item, u64)>) -> Word {
-    match entry {
-        Some((key, value, weight)) => weighed((key, value, weight)),
-        None => Word::Nothing,
-    }
-}
-
-impl Walk for WeightedIter<'_, Item, Item> {
-    fn step(&mut self, step: Step) -> Word {
-        let came = match step.goes {
-            Goes::Left => Word::Nothing,
-            Goes::Back => lent_weighed(self.next_back()),
-            _ => lent_weighed(self.next()),
-        };
-        step.said(came, self)
+impl Shown for (&Item, &Item, u64) {
+    fn shown(self) -> Word {
+        let (key, value, weight) = self;
+        if weight != value.name().number {
+            return Word::Wrong;
+        }
+        (key, value).shown()
     }
 }

@@ -49,6 +49,12 @@ impl Named for u64 {
     }
 }
 
+impl<T: Named> Named for &T {
+    fn name(&self) -> Name {
+        (**self).name()
+    }
+}
+
 /// A key and its value.
 pub type Pair = (Name, Name);
 

@@ -3,9 +3,13 @@ use crate::items::Item;
 use crate::items::answers::{Name, Stop};
 use crate::items::line::Line;
 
-/// A call of an occupied entry, which takes no item. If a name follows, it is written into what is lent.
+/// A call that takes no item. If a name follows, it is written into what is lent.
 #[derive(Clone, Copy)]
-pub enum There {
+pub enum Ask {
+    /// The given key.
+    Key,
+    Modify,
+    // Calls of an occupied entry:
     Get,
     ToFront,
     ToBack,
@@ -15,75 +19,40 @@ pub enum There {
     RemoveEntry,
     GetMut,
     IntoMut,
-}
-
-/// A call that inserts a value if the key is absent, and lends the one that is then present.
-#[derive(Clone, Copy)]
-pub enum Make {
-    OrInsert,
-    OrInsertWith,
-}
-
-/// A call that sets the value if the key is present.
-#[derive(Clone, Copy)]
-pub enum Put {
-    Insert,
-    RawReplaceValue,
-    InsertEntry,
-    ReplaceEntry,
-}
-
-/// A call that needs only the absent key.
-#[derive(Clone, Copy)]
-pub enum Vacant {
-    Key,
-    IntoKey,
+    // Calls of a vacant entry:
+    VacantKey,
+    VacantIntoKey,
     /// Makes the raw entry, which has no key.
-    Raw,
-}
-
-/// A call that inserts a value if the key is absent.
-#[derive(Clone, Copy)]
-pub enum PutVacant {
-    Insert,
-    InsertEntry,
-    /// Inserts the pair, and removes it at once.
-    Take,
-}
-
-/// A call that takes no item. If a name follows, it is written into what is lent.
-#[derive(Clone, Copy)]
-pub enum Ask {
-    /// The given key.
-    Key,
-    Modify,
-    There(There),
-    Vacant(Vacant),
+    VacantRaw,
 }
 
 /// A call that takes a value. If a name follows, it is written into what is lent.
 #[derive(Clone, Copy)]
 pub enum Give {
-    Make(Make),
-    Put(Put),
-    PutVacant(PutVacant),
+    // Calls that insert the value if the key is absent, and lend the one that is then present:
+    OrInsert,
+    OrInsertWith,
+    // Calls of an occupied entry, which set the value:
+    Insert,
+    RawReplaceValue,
+    InsertEntry,
+    ReplaceEntry,
+    // Calls of a vacant entry, which insert the value:
+    VacantInsert,
+    VacantInsertEntry,
+    /// Inserts the pair, and removes it at once.
+    VacantTake,
 }
 
 /// A call of an entry, with its arguments.
 #[derive(Drop)]
 pub enum EntryCall {
-    Ended(EndedCall),
-    /// Steps of a cursor follow.
-    Cursor,
-}
-
-/// A call after which the line ends.
-#[derive(Drop)]
-pub enum EndedCall {
     Ask(Ask, Option<Name>),
     Give(Give, Item, Option<Name>),
     /// Inserts the made value, or passes on the reason why none was made.
     TryMake(Result<Item, Item>, Option<Name>),
+    /// Steps of a cursor follow.
+    Cursor,
 }
 
 /// A call by its name only.
@@ -96,44 +65,35 @@ enum Named {
 }
 
 const CALLS: [(&str, Named); 19] = [
-    ("get", Named::Ask(Ask::There(There::Get))),
-    ("to_front", Named::Ask(Ask::There(There::ToFront))),
-    ("to_back", Named::Ask(Ask::There(There::ToBack))),
+    ("get", Named::Ask(Ask::Get)),
+    ("to_front", Named::Ask(Ask::ToFront)),
+    ("to_back", Named::Ask(Ask::ToBack)),
     ("key", Named::Ask(Ask::Key)),
-    ("replace_key", Named::Ask(Ask::There(There::ReplaceKey))),
-    ("into_key", Named::Ask(Ask::There(There::IntoKey))),
-    ("remove", Named::Ask(Ask::There(There::Remove))),
-    ("remove_entry", Named::Ask(Ask::There(There::RemoveEntry))),
+    ("replace_key", Named::Ask(Ask::ReplaceKey)),
+    ("into_key", Named::Ask(Ask::IntoKey)),
+    ("remove", Named::Ask(Ask::Remove)),
+    ("remove_entry", Named::Ask(Ask::RemoveEntry)),
     ("and_modify", Named::Ask(Ask::Modify)),
-    ("get_mut", Named::Ask(Ask::There(There::GetMut))),
-    ("into_mut", Named::Ask(Ask::There(There::IntoMut))),
-    ("or_insert", Named::Give(Give::Make(Make::OrInsert))),
-    (
-        "or_insert_with",
-        Named::Give(Give::Make(Make::OrInsertWith)),
-    ),
+    ("get_mut", Named::Ask(Ask::GetMut)),
+    ("into_mut", Named::Ask(Ask::IntoMut)),
+    ("or_insert", Named::Give(Give::OrInsert)),
+    ("or_insert_with", Named::Give(Give::OrInsertWith)),
     ("or_try_insert_with", Named::TryMake),
-    ("insert", Named::Give(Give::Put(Put::Insert))),
-    (
-        "raw_replace_value",
-        Named::Give(Give::Put(Put::RawReplaceValue)),
-    ),
-    ("insert_entry", Named::Give(Give::Put(Put::InsertEntry))),
-    ("replace_entry", Named::Give(Give::Put(Put::ReplaceEntry))),
+    ("insert", Named::Give(Give::Insert)),
+    ("raw_replace_value", Named::Give(Give::RawReplaceValue)),
+    ("insert_entry", Named::Give(Give::InsertEntry)),
+    ("replace_entry", Named::Give(Give::ReplaceEntry)),
     ("cursor", Named::Cursor),
 ];
 
 /// The calls after the word `vacant`.
 const VACANT: [(&str, Named); 6] = [
-    ("key", Named::Ask(Ask::Vacant(Vacant::Key))),
-    ("into_key", Named::Ask(Ask::Vacant(Vacant::IntoKey))),
-    ("raw", Named::Ask(Ask::Vacant(Vacant::Raw))),
-    ("insert", Named::Give(Give::PutVacant(PutVacant::Insert))),
-    (
-        "insert_entry",
-        Named::Give(Give::PutVacant(PutVacant::InsertEntry)),
-    ),
-    ("take", Named::Give(Give::PutVacant(PutVacant::Take))),
+    ("key", Named::Ask(Ask::VacantKey)),
+    ("into_key", Named::Ask(Ask::VacantIntoKey)),
+    ("raw", Named::Ask(Ask::VacantRaw)),
+    ("insert", Named::Give(Give::VacantInsert)),
+    ("insert_entry", Named::Give(Give::VacantInsertEntry)),
+    ("take", Named::Give(Give::VacantTake)),
 ];
 
 impl EntryCall {
@@ -150,17 +110,17 @@ impl EntryCall {
         } else {
             &CALLS
         };
-        Ok(EntryCall::Ended(match line.words.named(calls)? {
-            Named::Ask(call) => EndedCall::Ask(call, line.words.optional()),
+        Ok(match line.words.named(calls)? {
+            Named::Ask(call) => EntryCall::Ask(call, line.words.optional()),
             Named::Give(call) => {
                 let (value, new) = line.lent_item()?;
-                EndedCall::Give(call, value, new)
+                EntryCall::Give(call, value, new)
             }
             Named::TryMake => {
                 let (made, new) = line.tried()?;
-                EndedCall::TryMake(made, new)
+                EntryCall::TryMake(made, new)
             }
-            Named::Cursor => return Ok(EntryCall::Cursor),
-        }))
+            Named::Cursor => EntryCall::Cursor,
+        })
     }
 }

@@ -6,7 +6,7 @@ ghost use Rattle.std.specs.Hash as fed;
 
 use crate::hashers::Hashing;
 use crate::items::answers::{Name, Named, Pair, Stop};
-use crate::items::counts::Counts;
+use crate::items::counts::{Counts, add};
 use std::alloc::{AllocError, Global};
 use std::hash::{Hash, Hasher};
 use std::rc::Rc;
@@ -25,22 +25,18 @@ impl Home<'_> {
     pub fn living(self) -> usize {
         Rc::strong_count(self.counts)
             .saturating_sub(1)
-            .saturating_sub(self.counts.forgotten())
-    }
-
-    /// Counts items that are forgotten.
-    pub fn forget(self, items: usize) {
-        self.counts.forget(items);
+            .saturating_sub(self.counts.forgotten.get() as usize)
     }
 
     /// How many hashes and how many comparisons of items there were since the last call of this function.
     pub fn cost(self) -> (u64, u64) {
-        self.counts.take_cost()
+        let counts = self.counts;
+        (counts.hashes.replace(0), counts.comparisons.replace(0))
     }
 
     /// How many clones of items there were since the last call of this function.
     pub fn clones(self) -> u64 {
-        self.counts.take_clones()
+        self.counts.clones.replace(0)
     }
 
     /// Two new items with the given names.
@@ -92,7 +88,7 @@ impl Clone for Item {
     ghost is_clone = { λ item made. made.group ≡ item.group };
 
     fn clone(&self) -> Result<Item, AllocError> {
-        self.counts.clone_one();
+        add(&self.counts.clones, 1);
         Ok(Item {
             group: self.group,
             number: self.number.clone()?,
@@ -107,7 +103,7 @@ impl PartialEq for Item {
     ghost laws = { Prim.search (comparing, rules) };
 
     fn eq(&self, other: &Item) -> bool {
-        self.counts.compare();
+        add(&self.counts.comparisons, 1);
         self.group == other.group
     }
 }
@@ -122,7 +118,7 @@ impl Hash for Item {
     ghost respects_eq = { Prim.search (hashing, rules) };
 
     fn hash<H: Hasher>(&self, state: &mut H) {
-        self.counts.hash();
+        add(&self.counts.hashes, 1);
         self.group.hash(state);
     }
 }

@@ -1,12 +1,13 @@
 //! Calls of a raw entry.
 use crate::items::Item;
 use crate::items::answers::{Name, Stop};
-use crate::items::entry_call::Make;
 use crate::items::line::Line;
 
-/// A call of an occupied entry, which takes no item. If a name follows, it is written into what is lent.
+/// A call that takes no item. If a name follows, it is written into what is lent.
 #[derive(Clone, Copy)]
-pub enum RawThere {
+pub enum RawAsk {
+    Modify,
+    // Calls of an occupied entry:
     Get,
     GetKeyValue,
     ToFront,
@@ -20,29 +21,20 @@ pub enum RawThere {
     IntoKeyValue,
 }
 
-/// A call that inserts a pair whose key is absent.
-#[derive(Clone, Copy)]
-pub enum RawPut {
-    Insert,
-    InsertHashed,
-    InsertWithHasher,
-}
-
-/// A call that takes no item. If a name follows, it is written into what is lent.
-#[derive(Clone, Copy)]
-pub enum RawAsk {
-    Modify,
-    There(RawThere),
-}
-
 /// A call that takes a value. If a name follows, it is written into what is lent.
 #[derive(Clone, Copy)]
 pub enum RawGive {
-    Make(Make),
-    /// It lends the pair that it inserts.
-    Put(RawPut),
-    /// It makes the pair that it inserts an entry.
-    PutEntry(RawPut),
+    // Calls that insert the pair if its key is absent, and lend the one that is then present:
+    OrInsert,
+    OrInsertWith,
+    // Calls of a vacant entry, which insert the pair and lend it:
+    Insert,
+    InsertHashed,
+    InsertWithHasher,
+    // Calls of a vacant entry, which insert the pair and make it an entry:
+    InsertEntry,
+    InsertEntryHashed,
+    InsertEntryWithHasher,
 }
 
 /// A call of a raw entry, with its arguments besides the key.
@@ -67,57 +59,33 @@ enum Named {
 }
 
 const CALLS: [(&str, Named); 23] = [
-    ("get", Named::Ask(RawAsk::There(RawThere::Get))),
-    (
-        "get_key_value",
-        Named::Ask(RawAsk::There(RawThere::GetKeyValue)),
-    ),
-    ("to_front", Named::Ask(RawAsk::There(RawThere::ToFront))),
-    ("to_back", Named::Ask(RawAsk::There(RawThere::ToBack))),
-    ("into_key", Named::Ask(RawAsk::There(RawThere::IntoKey))),
-    ("remove", Named::Ask(RawAsk::There(RawThere::Remove))),
-    (
-        "remove_entry",
-        Named::Ask(RawAsk::There(RawThere::RemoveEntry)),
-    ),
+    ("get", Named::Ask(RawAsk::Get)),
+    ("get_key_value", Named::Ask(RawAsk::GetKeyValue)),
+    ("to_front", Named::Ask(RawAsk::ToFront)),
+    ("to_back", Named::Ask(RawAsk::ToBack)),
+    ("into_key", Named::Ask(RawAsk::IntoKey)),
+    ("remove", Named::Ask(RawAsk::Remove)),
+    ("remove_entry", Named::Ask(RawAsk::RemoveEntry)),
     ("and_modify", Named::Ask(RawAsk::Modify)),
-    ("get_mut", Named::Ask(RawAsk::There(RawThere::GetMut))),
-    (
-        "get_key_value_mut",
-        Named::Ask(RawAsk::There(RawThere::GetKeyValueMut)),
-    ),
-    ("into_mut", Named::Ask(RawAsk::There(RawThere::IntoMut))),
-    (
-        "into_key_value",
-        Named::Ask(RawAsk::There(RawThere::IntoKeyValue)),
-    ),
-    ("or_insert", Named::Give(RawGive::Make(Make::OrInsert))),
-    (
-        "or_insert_with",
-        Named::Give(RawGive::Make(Make::OrInsertWith)),
-    ),
+    ("get_mut", Named::Ask(RawAsk::GetMut)),
+    ("get_key_value_mut", Named::Ask(RawAsk::GetKeyValueMut)),
+    ("into_mut", Named::Ask(RawAsk::IntoMut)),
+    ("into_key_value", Named::Ask(RawAsk::IntoKeyValue)),
+    ("or_insert", Named::Give(RawGive::OrInsert)),
+    ("or_insert_with", Named::Give(RawGive::OrInsertWith)),
     ("replace_key", Named::ReplaceKey),
     ("replace_value", Named::ReplaceValue),
-    ("insert", Named::Give(RawGive::Put(RawPut::Insert))),
-    (
-        "insert_hashed",
-        Named::Give(RawGive::Put(RawPut::InsertHashed)),
-    ),
-    (
-        "insert_with_hasher",
-        Named::Give(RawGive::Put(RawPut::InsertWithHasher)),
-    ),
-    (
-        "insert_entry",
-        Named::Give(RawGive::PutEntry(RawPut::Insert)),
-    ),
+    ("insert", Named::Give(RawGive::Insert)),
+    ("insert_hashed", Named::Give(RawGive::InsertHashed)),
+    ("insert_with_hasher", Named::Give(RawGive::InsertWithHasher)),
+    ("insert_entry", Named::Give(RawGive::InsertEntry)),
     (
         "insert_entry_hashed",
-        Named::Give(RawGive::PutEntry(RawPut::InsertHashed)),
+        Named::Give(RawGive::InsertEntryHashed),
     ),
     (
         "insert_entry_with_hasher",
-        Named::Give(RawGive::PutEntry(RawPut::InsertWithHasher)),
+        Named::Give(RawGive::InsertEntryWithHasher),
     ),
     ("cursor", Named::Cursor),
 ];

@@ -1,53 +1,40 @@
 //! The words for keys and values that a container returns or lends.
 use crate::items::Item;
-use crate::items::answers::{Answer, Name, Word};
+use crate::items::answers::{Answer, Name, Named, Word};
 use hashlink_table::TryReserveError;
 use std::alloc::AllocError;
 
-pub fn shown((key, value): (&Item, &Item)) -> Word {
-    Word::pair((key.name(), value.name()))
+/// What a container returns or lends.
+pub trait Shown {
+    /// The word for it.
+    fn shown(self) -> Word;
 }
 
-/// The word for a pair that is lent.
-pub fn lent(pair: Option<(&Item, &Item)>) -> Word {
-    match pair {
-        Some((key, value)) => shown((key, value)),
-        None => Word::Nothing,
+impl<T: Named> Shown for &T {
+    fn shown(self) -> Word {
+        Word::item(self.name())
     }
 }
 
-/// The word for a key, a value or an element that is lent.
-pub fn lent_item(item: Option<&Item>) -> Word {
-    match item {
-        Some(item) => Word::item(item.name()),
-        None => Word::Nothing,
+impl Shown for Item {
+    fn shown(self) -> Word {
+        Word::item(self.name())
     }
 }
 
-/// The word for a pair that was removed, if one was.
-pub fn given(pair: Option<(Item, Item)>) -> Word {
-    match pair {
-        Some(pair) => taken_pair(pair),
-        None => Word::Nothing,
+impl<K: Named + Drop, V: Named + Drop> Shown for (K, V) {
+    fn shown(self) -> Word {
+        Word::pair((self.0.name(), self.1.name()))
     }
 }
 
-/// The word for a pair that was removed.
-pub fn taken_pair((key, value): (Item, Item)) -> Word {
-    shown((&key, &value))
-}
-
-/// The word for a key, a value or an element that was removed, if one was.
-pub fn given_item(item: Option<Item>) -> Word {
-    match item {
-        Some(item) => taken(item),
-        None => Word::Nothing,
+impl<T: Shown> Shown for Option<T> {
+    fn shown(self) -> Word {
+        match self {
+            Some(it) => it.shown(),
+            None => Word::Nothing,
+        }
     }
-}
-
-/// The word for a key, a value or an element that was removed.
-pub fn taken(item: Item) -> Word {
-    Word::item(item.name())
 }
 
 /// The word for a value that is lent for writing, which is then written.
@@ -80,27 +67,22 @@ pub fn write_pair(pair: Option<(&Item, &mut Item)>, new: Option<Name>) -> Word {
 }
 
 fn write_value(key: &Item, value: &mut Item, new: Option<Name>) -> Word {
-    let old = shown((key, value));
+    let old = Word::pair((key.name(), value.name()));
     set(value, new);
     old
 }
 
-/// The old value, or the pair that is returned because an allocation failed.
-pub fn put(old: Result<Option<Item>, (Item, Item)>) -> Answer {
-    match old {
-        Ok(value) => Answer::Word(given_item(value)),
-        Err(pair) => no_memory(pair),
+/// What an insert returns, or what it returns because an allocation failed.
+pub fn put<T: Shown, E: Shown>(answer: Result<T, E>) -> Answer {
+    match answer {
+        Ok(old) => Answer::Word(old.shown()),
+        Err(refused) => no_memory(refused),
     }
 }
 
-/// A pair that is returned because an allocation failed.
-pub fn no_memory(pair: (Item, Item)) -> Answer {
-    Answer::Back(Word::Memory, taken_pair(pair))
-}
-
-/// A pair that is returned because an allocation failed, after this many were inserted.
-pub fn no_memory_after(pair: (Item, Item), taken: u64) -> Answer {
-    Answer::BackAfter(taken_pair(pair), taken)
+/// What is returned because an allocation failed.
+pub fn no_memory<T: Shown>(refused: T) -> Answer {
+    Answer::Back(Word::Memory, refused.shown())
 }
 
 /// Done, or that an allocation failed.

@@ -45,13 +45,8 @@ impl Step {
         }
     }
 
-    /// The word for the step: the item that it returned, or how many the iterator has left.
-    pub fn said<I: ExactSizeIterator>(self, came: Word, walk: &I) -> Word {
-        self.said_of(came, walk.len(), walk.size_hint())
-    }
-
-    /// The same if this many are left, which the hint has to equal.
-    pub fn said_of(self, came: Word, left: usize, hint: (usize, Option<usize>)) -> Word {
+    /// The word for the step: what it returned, or how many the iterator has left, which the hint has to equal.
+    pub fn said(self, came: Word, left: usize, hint: (usize, Option<usize>)) -> Word {
         if hint.0 != left || hint.1 != Some(left) {
             return Word::Wrong;
         }
