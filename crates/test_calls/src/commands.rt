@@ -7,26 +7,20 @@ use std::alloc::{AllocError, Global};
 use std::cell::Cell;
 use std::process::ExitCode;
 
-type Commands = Vec<Command<Numbered, u32>>;
-
 type Replies = Vec<Reply<Numbered, u32>>;
 
 /// The commands with one more.
-fn and(mut commands: Commands, command: Command<Numbered, u32>) -> Commands {
+fn and<T: Drop>(mut commands: Vec<T>, command: T) -> Vec<T> {
     let _pushed = commands.push(command);
     commands
 }
 
-/// Two inserts, with a cursor without steps between them.
-fn inserts(alloc: Global) -> Commands {
+/// Two inserts, with a cursor without steps between them, a read, and two steps of entries.
+fn all_commands(alloc: Global) -> Vec<Command<Numbered, u32>> {
     let commands = and(Vec::new(alloc), Command::Insert(key(1, 1), 10));
     let commands = and(commands, Command::Cursor(Vec::new(alloc)));
-    and(commands, Command::Insert(key(1, 2), 11))
-}
-
-/// The inserts, a read, and two steps of entries.
-fn all_commands(alloc: Global) -> Commands {
-    let commands = and(inserts(alloc), Command::Get(key(1, 3)));
+    let commands = and(commands, Command::Insert(key(1, 2), 11));
+    let commands = and(commands, Command::Get(key(1, 3)));
     let commands = and(commands, Command::Entry(key(1, 4), EntryStep::ReplaceKey));
     and(commands, Command::Entry(key(1, 5), EntryStep::RemoveEntry))
 }
@@ -87,8 +81,6 @@ struct Asked {
     times: Cell<u32>,
 }
 
-type AskedCommands = Vec<Command<u32, Asked>>;
-
 /// Keeps every pair, and counts the call on this one.
 fn is_asked(_key: &u32, value: &Asked) -> bool {
     value.times.set(value.times.get().wrapping_add(1));
@@ -101,25 +93,19 @@ fn insert_unasked(key: u32) -> Command<u32, Asked> {
     Command::Insert(key, Asked { times })
 }
 
-/// The commands with one more.
-fn then(mut commands: AskedCommands, command: Command<u32, Asked>) -> AskedCommands {
-    let _pushed = commands.push(command);
-    commands
-}
-
 /// Inserts of two pairs, and commands that call the closure on the first pair five times and on the second
 /// four times.
-fn asking(alloc: Global) -> AskedCommands {
-    let commands = then(Vec::new(alloc), insert_unasked(1));
-    let commands = then(commands, insert_unasked(2));
-    let commands = then(commands, Command::Keep);
-    let commands = then(commands, Command::Get(1));
-    let commands = then(commands, Command::Get(2));
-    let commands = then(commands, Command::ToFront(2));
-    let commands = then(commands, Command::ToBack(1));
-    let commands = then(commands, Command::Entry(1, EntryStep::Get));
-    let commands = then(commands, Command::Front);
-    then(commands, Command::Back)
+fn asking(alloc: Global) -> Vec<Command<u32, Asked>> {
+    let commands = and(Vec::new(alloc), insert_unasked(1));
+    let commands = and(commands, insert_unasked(2));
+    let commands = and(commands, Command::Keep);
+    let commands = and(commands, Command::Get(1));
+    let commands = and(commands, Command::Get(2));
+    let commands = and(commands, Command::ToFront(2));
+    let commands = and(commands, Command::ToBack(1));
+    let commands = and(commands, Command::Entry(1, EntryStep::Get));
+    let commands = and(commands, Command::Front);
+    and(commands, Command::Back)
 }
 
 /// Whether the closure was called this many times on the value of the key.

@@ -47,18 +47,15 @@ fn empty_containers_show_that_they_hold_nothing(rt: HostRuntime) -> ExitCode {
     )
 }
 
-/// Whether the iterators that read a map of two entries show both.
-fn readers_show_two(alloc: Global, map: &Map) -> bool {
+/// Whether the iterators over a map of two entries show both: those that read, those that write, and then a
+/// drain.
+fn iterators_show_two(alloc: Global, map: &mut Map) -> bool {
     shows(alloc, map.iter(), PAIRS)
         & shows(alloc, map.keys(), "[1, 2]")
         & shows(alloc, map.values(), "[10, 20]")
-}
-
-/// Whether the iterators that write show both, and then a drain does.
-fn writers_show_two(alloc: Global, map: &mut Map) -> bool {
-    let are_pairs_shown = shows(alloc, map.iter_mut(), PAIRS);
-    let values = map.values_mut();
-    are_pairs_shown & shows(alloc, values, "[10, 20]") & shows(alloc, map.drain(), PAIRS)
+        & shows(alloc, map.iter_mut(), PAIRS)
+        & shows(alloc, map.values_mut(), "[10, 20]")
+        & shows(alloc, map.drain(), PAIRS)
 }
 
 #[test]
@@ -66,8 +63,7 @@ fn iterators_over_a_map_show_its_entries(rt: HostRuntime) -> ExitCode {
     let map = &mut one_and_two(rt.alloc());
     passes(
         shows(rt.alloc(), one_and_two(rt.alloc()).into_iter(), PAIRS)
-            & readers_show_two(rt.alloc(), map)
-            & writers_show_two(rt.alloc(), map),
+            & iterators_show_two(rt.alloc(), map),
     )
 }
 
@@ -130,46 +126,28 @@ fn iterators_over_sets_show_what_is_left(rt: HostRuntime) -> ExitCode {
     passes(lazy_ones_show(rt.alloc(), &left, &right))
 }
 
-/// Whether an occupied entry shows itself.
-fn occupied_is_shown(alloc: Global, map: &mut Map) -> bool {
-    match map.entry(1) {
-        Entry::Occupied(entry) => shows(alloc, entry, "OccupiedEntry { key: 1, value: 10 }"),
-        Entry::Vacant(_vacant) => false,
+/// Whether the occupied or vacant entry of a key shows itself.
+fn entry_is_shown(alloc: Global, map: &mut Map, key: u64, text: &str) -> bool {
+    match map.entry(key) {
+        Entry::Occupied(entry) => shows(alloc, entry, text),
+        Entry::Vacant(entry) => shows(alloc, entry, text),
     }
 }
 
-/// Whether a vacant entry shows itself.
-fn vacant_is_shown(alloc: Global, map: &mut Map) -> bool {
-    match map.entry(3) {
-        Entry::Vacant(entry) => shows(alloc, entry, "VacantEntry(3)"),
-        Entry::Occupied(_occupied) => false,
+/// The same for a raw entry.
+fn raw_entry_is_shown(alloc: Global, map: &mut Map, key: u64, text: &str) -> bool {
+    match map.raw_entry_of(&key) {
+        RawEntryMut::Occupied(entry) => shows(alloc, entry, text),
+        RawEntryMut::Vacant(entry) => shows(alloc, entry, text),
     }
 }
 
-/// Whether an occupied raw entry shows itself.
-fn raw_occupied_is_shown(alloc: Global, map: &mut Map) -> bool {
-    match map.raw_entry_of(&1) {
-        RawEntryMut::Occupied(entry) => {
-            shows(alloc, entry, "RawOccupiedEntryMut { key: 1, value: 10 }")
-        }
-        RawEntryMut::Vacant(_vacant) => false,
-    }
-}
-
-/// Whether a vacant raw entry shows itself.
-fn raw_vacant_is_shown(alloc: Global, map: &mut Map) -> bool {
-    match map.raw_entry_of(&3) {
-        RawEntryMut::Vacant(entry) => shows(alloc, entry, "RawVacantEntryMut"),
-        RawEntryMut::Occupied(_occupied) => false,
-    }
-}
-
-/// Whether each of the four shows itself.
+/// Whether an occupied and a vacant one of each show themselves.
 fn each_is_shown(alloc: Global, map: &mut Map) -> bool {
-    occupied_is_shown(alloc, map)
-        & vacant_is_shown(alloc, map)
-        & raw_occupied_is_shown(alloc, map)
-        & raw_vacant_is_shown(alloc, map)
+    entry_is_shown(alloc, map, 1, "OccupiedEntry { key: 1, value: 10 }")
+        & entry_is_shown(alloc, map, 3, "VacantEntry(3)")
+        & raw_entry_is_shown(alloc, map, 1, "RawOccupiedEntryMut { key: 1, value: 10 }")
+        & raw_entry_is_shown(alloc, map, 3, "RawVacantEntryMut")
 }
 
 #[test]
@@ -179,35 +157,30 @@ fn an_entry_that_was_matched_shows_itself(rt: HostRuntime) -> ExitCode {
 
 type NumberedMap = LinkedHashMap<Numbered, u64>;
 
-/// Whether the entries of a present key, which has the number 5, and of an absent key show themselves.
-fn entries_are_shown(alloc: Global, map: &mut NumberedMap) -> bool {
-    let text = "Entry(OccupiedEntry { key: Numbered { group: 1, number: 5 }, value: 10 })";
-    let occupied = shows(alloc, map.entry(key(1, 6)), text);
-    let text = "Entry(VacantEntry(Numbered { group: 2, number: 6 }))";
-    occupied & shows(alloc, map.entry(key(2, 6)), text)
-}
+const OCCUPIED: &str = "Entry(OccupiedEntry { key: Numbered { group: 1, number: 5 }, value: 10 })";
 
-/// The same for raw entries.
-fn raw_entries_are_shown(alloc: Global, map: &mut NumberedMap) -> bool {
-    let text = "RawEntry(RawOccupiedEntryMut { key: Numbered { group: 1, number: 5 }, value: 10 })";
-    let occupied = shows(alloc, map.raw_entry_of(&key(1, 6)), text);
-    let text = "RawEntry(RawVacantEntryMut)";
-    occupied & shows(alloc, map.raw_entry_of(&key(2, 6)), text)
-}
+const RAW_OCCUPIED: &str =
+    "RawEntry(RawOccupiedEntryMut { key: Numbered { group: 1, number: 5 }, value: 10 })";
 
-/// Whether builders show their names.
-fn builders_are_shown(alloc: Global, map: &mut NumberedMap) -> bool {
-    shows(alloc, map.raw_entry(), "RawEntryBuilder")
-        & shows(alloc, map.raw_entry_mut(), "RawEntryBuilder")
-        & shows(alloc, map.hasher(), "DefaultHashBuilder")
-}
-
-/// Whether the entries of a map of one entry, and its builders, show themselves.
+/// Whether the entries of a present key, which has the number 5, and of an absent key show themselves, and so
+/// do raw entries, and builders.
 fn all_is_shown(alloc: Global, map: &mut NumberedMap) -> bool {
     let _old = map.insert(key(1, 5), 10);
-    entries_are_shown(alloc, map)
-        & raw_entries_are_shown(alloc, map)
-        & builders_are_shown(alloc, map)
+    shows(alloc, map.entry(key(1, 6)), OCCUPIED)
+        & shows(
+            alloc,
+            map.entry(key(2, 6)),
+            "Entry(VacantEntry(Numbered { group: 2, number: 6 }))",
+        )
+        & shows(alloc, map.raw_entry_of(&key(1, 6)), RAW_OCCUPIED)
+        & shows(
+            alloc,
+            map.raw_entry_of(&key(2, 6)),
+            "RawEntry(RawVacantEntryMut)",
+        )
+        & shows(alloc, map.raw_entry(), "RawEntryBuilder")
+        & shows(alloc, map.raw_entry_mut(), "RawEntryBuilder")
+        & shows(alloc, map.hasher(), "DefaultHashBuilder")
 }
 
 #[test]
