@@ -1,20 +1,16 @@
 //! Set algebra, by lazy iterators, operators and tests.
-use crate::fill::{Fill, Made, Set};
-use crate::lists::Order;
-use crate::plan::{Line, Plan, Row};
+use crate::fill::Fill::{Absent, Moved, Overlapping};
+use crate::fill::Made::Once;
+use crate::fill::Set;
+use crate::lists::Order::{Both, Whole};
+use crate::plan::{Plan, Row};
 use crate::walks::sum_of;
 
 type Sets = (Set, Set);
 
 struct Union;
 
-impl Row for Union {
-    type State = Sets;
-
-    type Item = u64;
-
-    const LINES: &'static [Line] = &[("set_union", Order::Both, Made::Once, Fill::Overlapping)];
-
+impl Row<Sets, u64> for Union {
     #[inline(always)]
     fn call(sets: &mut Sets, _place: u64, _item: &u64) -> Option<u64> {
         sum_of(sets.0.union(&sets.1))
@@ -23,18 +19,7 @@ impl Row for Union {
 
 struct Intersection;
 
-impl Row for Intersection {
-    type State = Sets;
-
-    type Item = u64;
-
-    const LINES: &'static [Line] = &[(
-        "set_intersection",
-        Order::Whole,
-        Made::Once,
-        Fill::Overlapping,
-    )];
-
+impl Row<Sets, u64> for Intersection {
     #[inline(always)]
     fn call(sets: &mut Sets, _place: u64, _item: &u64) -> Option<u64> {
         sum_of(sets.0.intersection(&sets.1))
@@ -43,18 +28,7 @@ impl Row for Intersection {
 
 struct Difference;
 
-impl Row for Difference {
-    type State = Sets;
-
-    type Item = u64;
-
-    const LINES: &'static [Line] = &[(
-        "set_difference",
-        Order::Whole,
-        Made::Once,
-        Fill::Overlapping,
-    )];
-
+impl Row<Sets, u64> for Difference {
     #[inline(always)]
     fn call(sets: &mut Sets, _place: u64, _item: &u64) -> Option<u64> {
         sum_of(sets.0.difference(&sets.1))
@@ -63,18 +37,7 @@ impl Row for Difference {
 
 struct SymmetricDifference;
 
-impl Row for SymmetricDifference {
-    type State = Sets;
-
-    type Item = u64;
-
-    const LINES: &'static [Line] = &[(
-        "set_symmetric_difference",
-        Order::Both,
-        Made::Once,
-        Fill::Overlapping,
-    )];
-
+impl Row<Sets, u64> for SymmetricDifference {
     #[inline(always)]
     fn call(sets: &mut Sets, _place: u64, _item: &u64) -> Option<u64> {
         sum_of(sets.0.symmetric_difference(&sets.1))
@@ -89,13 +52,7 @@ fn count<E: Drop>(set: Result<Set, E>) -> Option<u64> {
 
 struct Or;
 
-impl Row for Or {
-    type State = Sets;
-
-    type Item = u64;
-
-    const LINES: &'static [Line] = &[("set_or", Order::Both, Made::Once, Fill::Overlapping)];
-
+impl Row<Sets, u64> for Or {
     #[inline(always)]
     fn call(sets: &mut Sets, _place: u64, _item: &u64) -> Option<u64> {
         count(&sets.0 | &sets.1)
@@ -104,13 +61,7 @@ impl Row for Or {
 
 struct And;
 
-impl Row for And {
-    type State = Sets;
-
-    type Item = u64;
-
-    const LINES: &'static [Line] = &[("set_and", Order::Whole, Made::Once, Fill::Overlapping)];
-
+impl Row<Sets, u64> for And {
     #[inline(always)]
     fn call(sets: &mut Sets, _place: u64, _item: &u64) -> Option<u64> {
         count(&sets.0 & &sets.1)
@@ -119,13 +70,7 @@ impl Row for And {
 
 struct Xor;
 
-impl Row for Xor {
-    type State = Sets;
-
-    type Item = u64;
-
-    const LINES: &'static [Line] = &[("set_xor", Order::Both, Made::Once, Fill::Overlapping)];
-
+impl Row<Sets, u64> for Xor {
     #[inline(always)]
     fn call(sets: &mut Sets, _place: u64, _item: &u64) -> Option<u64> {
         count(&sets.0 ^ &sets.1)
@@ -134,13 +79,7 @@ impl Row for Xor {
 
 struct Minus;
 
-impl Row for Minus {
-    type State = Sets;
-
-    type Item = u64;
-
-    const LINES: &'static [Line] = &[("set_sub", Order::Whole, Made::Once, Fill::Overlapping)];
-
+impl Row<Sets, u64> for Minus {
     #[inline(always)]
     fn call(sets: &mut Sets, _place: u64, _item: &u64) -> Option<u64> {
         count(&sets.0 - &sets.1)
@@ -149,13 +88,7 @@ impl Row for Minus {
 
 struct IsSubset;
 
-impl Row for IsSubset {
-    type State = Sets;
-
-    type Item = u64;
-
-    const LINES: &'static [Line] = &[("set_is_subset", Order::Whole, Made::Once, Fill::Moved)];
-
+impl Row<Sets, u64> for IsSubset {
     #[inline(always)]
     fn call(sets: &mut Sets, _place: u64, _item: &u64) -> Option<u64> {
         Some(u64::from(sets.0.is_subset(&sets.1)))
@@ -164,13 +97,7 @@ impl Row for IsSubset {
 
 struct IsSuperset;
 
-impl Row for IsSuperset {
-    type State = Sets;
-
-    type Item = u64;
-
-    const LINES: &'static [Line] = &[("set_is_superset", Order::Whole, Made::Once, Fill::Moved)];
-
+impl Row<Sets, u64> for IsSuperset {
     #[inline(always)]
     fn call(sets: &mut Sets, _place: u64, _item: &u64) -> Option<u64> {
         Some(u64::from(sets.0.is_superset(&sets.1)))
@@ -179,24 +106,24 @@ impl Row for IsSuperset {
 
 struct IsDisjoint;
 
-impl Row for IsDisjoint {
-    type State = Sets;
-
-    type Item = u64;
-
-    const LINES: &'static [Line] = &[("set_is_disjoint", Order::Whole, Made::Once, Fill::Absent)];
-
+impl Row<Sets, u64> for IsDisjoint {
     #[inline(always)]
     fn call(sets: &mut Sets, _place: u64, _item: &u64) -> Option<u64> {
         Some(u64::from(sets.0.is_disjoint(&sets.1)))
     }
 }
 
-pub(crate) fn rows(plan: &mut Plan<'_>) {
+pub(crate) fn rows(plan: &Plan<'_>) {
     plan.kind("algebra");
-    plan.rows::<Union, Intersection, Difference, SymmetricDifference>();
-    plan.rows::<Or, And, Xor, Minus>();
-    plan.row::<IsSubset>();
-    plan.row::<IsSuperset>();
-    plan.row::<IsDisjoint>();
+    plan.row::<Union, _, _>(&[("set_union", Both, Once, Overlapping)]);
+    plan.row::<Intersection, _, _>(&[("set_intersection", Whole, Once, Overlapping)]);
+    plan.row::<Difference, _, _>(&[("set_difference", Whole, Once, Overlapping)]);
+    plan.row::<SymmetricDifference, _, _>(&[("set_symmetric_difference", Both, Once, Overlapping)]);
+    plan.row::<Or, _, _>(&[("set_or", Both, Once, Overlapping)]);
+    plan.row::<And, _, _>(&[("set_and", Whole, Once, Overlapping)]);
+    plan.row::<Xor, _, _>(&[("set_xor", Both, Once, Overlapping)]);
+    plan.row::<Minus, _, _>(&[("set_sub", Whole, Once, Overlapping)]);
+    plan.row::<IsSubset, _, _>(&[("set_is_subset", Whole, Once, Moved)]);
+    plan.row::<IsSuperset, _, _>(&[("set_is_superset", Whole, Once, Moved)]);
+    plan.row::<IsDisjoint, _, _>(&[("set_is_disjoint", Whole, Once, Absent)]);
 }

@@ -1,8 +1,11 @@
 //! The calls of a cache with a budget. A key weighs from 1 to 16.
-use crate::fill::{Fill, Filled, Made};
+use crate::fill::Fill::{Empty, Full, Half};
+use crate::fill::Made::{Anew, Once};
+use crate::fill::{Fill, Filled, filled_by};
 use crate::keys::Keys;
-use crate::lists::Order;
-use crate::plan::{Line, Plan, Row, fold};
+use crate::lists::Order::{Absent, AbsentAndHeld, Mixed, MixedByTurns, Whole, Zipf};
+use crate::plan::{Plan, Row, fold};
+use crate::results::{old_or, value_or};
 use hashlink::weighted::WeightedCache;
 
 type Cache = WeightedCache<u64, u64>;
@@ -21,23 +24,13 @@ impl Filled for Cache {
 
 /// A cache of this budget into which the keys were inserted.
 fn filled_of(keys: &Keys, budget: u64) -> Option<Cache> {
-    let mut cache = WeightedCache::new(keys.alloc, budget);
-    for (place, key) in keys.held.iter().enumerate() {
-        Insert::call(&mut cache, place as u64, key)?;
-    }
-    Some(cache)
+    filled_by::<Insert, _, _>(WeightedCache::new(keys.alloc, budget), &keys.held)
 }
 
 /// A look-up of a key, and an insert if it is absent.
 struct UseKey;
 
-impl Row for UseKey {
-    type State = Cache;
-
-    type Item = u64;
-
-    const LINES: &'static [Line] = &[("weighted_zipf", Order::Zipf, Made::Once, Fill::Empty)];
-
+impl Row<Cache, u64> for UseKey {
     #[inline(always)]
     fn call(cache: &mut Cache, place: u64, key: &u64) -> Option<u64> {
         match cache.get(key) {
@@ -49,87 +42,34 @@ impl Row for UseKey {
 
 struct Insert;
 
-impl Row for Insert {
-    type State = Cache;
-
-    type Item = u64;
-
-    const LINES: &'static [Line] = &[
-        (
-            "weighted_insert_new",
-            Order::AbsentAndHeld,
-            Made::Once,
-            Fill::Half,
-        ),
-        (
-            "weighted_insert_present",
-            Order::MixedByTurns,
-            Made::Once,
-            Fill::Full,
-        ),
-    ];
-
+impl Row<Cache, u64> for Insert {
     #[inline(always)]
     fn call(cache: &mut Cache, place: u64, key: &u64) -> Option<u64> {
-        Some(
-            cache
-                .insert(*key, place, 1 + *key % 16)
-                .ok()?
-                .unwrap_or(*key),
-        )
+        old_or(cache.insert(*key, place, 1 + *key % 16), *key)
     }
 }
 
 struct Peek;
 
-impl Row for Peek {
-    type State = Cache;
-
-    type Item = u64;
-
-    const LINES: &'static [Line] = &[
-        ("weighted_peek_hit", Order::Mixed, Made::Once, Fill::Full),
-        ("weighted_peek_miss", Order::Absent, Made::Once, Fill::Full),
-    ];
-
+impl Row<Cache, u64> for Peek {
     #[inline(always)]
     fn call(cache: &mut Cache, _place: u64, key: &u64) -> Option<u64> {
-        Some(cache.peek(key).copied().unwrap_or(*key))
+        value_or(cache.peek(key), *key)
     }
 }
 
 struct Get;
 
-impl Row for Get {
-    type State = Cache;
-
-    type Item = u64;
-
-    const LINES: &'static [Line] = &[
-        (
-            "weighted_get_hit",
-            Order::MixedByTurns,
-            Made::Once,
-            Fill::Full,
-        ),
-        ("weighted_get_miss", Order::Absent, Made::Once, Fill::Full),
-    ];
-
+impl Row<Cache, u64> for Get {
     #[inline(always)]
     fn call(cache: &mut Cache, _place: u64, key: &u64) -> Option<u64> {
-        Some(cache.get(key).copied().unwrap_or(*key))
+        value_or(cache.get(key), *key)
     }
 }
 
 struct Remove;
 
-impl Row for Remove {
-    type State = Cache;
-
-    type Item = u64;
-
-    const LINES: &'static [Line] = &[("weighted_remove_hit", Order::Mixed, Made::Anew, Fill::Full)];
-
+impl Row<Cache, u64> for Remove {
     #[inline(always)]
     fn call(cache: &mut Cache, _place: u64, key: &u64) -> Option<u64> {
         Some(cache.remove(key).unwrap_or(*key))
@@ -138,13 +78,7 @@ impl Row for Remove {
 
 struct Iter;
 
-impl Row for Iter {
-    type State = Cache;
-
-    type Item = u64;
-
-    const LINES: &'static [Line] = &[("weighted_iter", Order::Whole, Made::Once, Fill::Full)];
-
+impl Row<Cache, u64> for Iter {
     #[inline(always)]
     fn call(cache: &mut Cache, _place: u64, _item: &u64) -> Option<u64> {
         let mut sum: u64 = 0;
@@ -158,18 +92,7 @@ impl Row for Iter {
 /// Counts what is evicted.
 struct InsertEvicting;
 
-impl Row for InsertEvicting {
-    type State = Cache;
-
-    type Item = u64;
-
-    const LINES: &'static [Line] = &[(
-        "weighted_insert_evicting",
-        Order::AbsentAndHeld,
-        Made::Once,
-        Fill::Half,
-    )];
-
+impl Row<Cache, u64> for InsertEvicting {
     #[inline(always)]
     fn call(cache: &mut Cache, place: u64, key: &u64) -> Option<u64> {
         let mut count: u64 = 0;
@@ -181,10 +104,22 @@ impl Row for InsertEvicting {
     }
 }
 
-pub(crate) fn rows(plan: &mut Plan<'_>) {
+pub(crate) fn rows(plan: &Plan<'_>) {
     plan.kind("budgets");
-    plan.rows::<UseKey, Peek, Get, Insert>();
-    plan.row::<Remove>();
-    plan.row::<Iter>();
-    plan.row::<InsertEvicting>();
+    plan.row::<UseKey, _, _>(&[("weighted_zipf", Zipf, Once, Empty)]);
+    plan.row::<Peek, _, _>(&[
+        ("weighted_peek_hit", Mixed, Once, Full),
+        ("weighted_peek_miss", Absent, Once, Full),
+    ]);
+    plan.row::<Get, _, _>(&[
+        ("weighted_get_hit", MixedByTurns, Once, Full),
+        ("weighted_get_miss", Absent, Once, Full),
+    ]);
+    plan.row::<Insert, _, _>(&[
+        ("weighted_insert_new", AbsentAndHeld, Once, Half),
+        ("weighted_insert_present", MixedByTurns, Once, Full),
+    ]);
+    plan.row::<Remove, _, _>(&[("weighted_remove_hit", Mixed, Anew, Full)]);
+    plan.row::<Iter, _, _>(&[("weighted_iter", Whole, Once, Full)]);
+    plan.row::<InsertEvicting, _, _>(&[("weighted_insert_evicting", AbsentAndHeld, Once, Half)]);
 }

@@ -1,23 +1,16 @@
 //! The calls of a cache.
-use crate::fill::{Cache, Fill, LoneCache, Made};
-use crate::lists::Order;
-use crate::plan::{Line, Plan, Row, fold};
+use crate::fill::Fill::{Full, Half};
+use crate::fill::Made::{Anew, Once};
+use crate::fill::{Cache, LoneCache};
+use crate::lists::Order::{Absent, AbsentAndHeld, Held, Mixed, MixedByTurns, Uniform, Whole, Zipf};
+use crate::plan::{Plan, Row, fold};
+use crate::results::{is_even, len_after, next_or, old_or, pair_or, removed_or, value_or};
 use crate::walks::{sum_of_owned, sum_of_pairs};
 
 /// A look-up of a key, and an insert if it is absent.
 struct UseKey;
 
-impl Row for UseKey {
-    type State = Cache;
-
-    type Item = u64;
-
-    const LINES: &'static [Line] = &[
-        ("lru_hit", Order::MixedByTurns, Made::Once, Fill::Full),
-        ("lru_zipf", Order::Zipf, Made::Once, Fill::Half),
-        ("lru_uniform", Order::Uniform, Made::Once, Fill::Half),
-    ];
-
+impl Row<Cache, u64> for UseKey {
     #[inline(always)]
     fn call(cache: &mut Cache, place: u64, key: &u64) -> Option<u64> {
         match cache.get(key) {
@@ -27,74 +20,27 @@ impl Row for UseKey {
     }
 }
 
-struct Insert;
+pub(crate) struct Insert;
 
-impl Row for Insert {
-    type State = Cache;
-
-    type Item = u64;
-
-    const LINES: &'static [Line] = &[
-        (
-            "lru_insert_new",
-            Order::AbsentAndHeld,
-            Made::Once,
-            Fill::Full,
-        ),
-        (
-            "lru_insert_present",
-            Order::MixedByTurns,
-            Made::Once,
-            Fill::Full,
-        ),
-    ];
-
+impl Row<Cache, u64> for Insert {
     #[inline(always)]
     fn call(cache: &mut Cache, place: u64, key: &u64) -> Option<u64> {
-        Some(cache.insert(*key, place).ok()?.unwrap_or(*key))
+        old_or(cache.insert(*key, place), *key)
     }
 }
 
 struct Peek;
 
-impl Row for Peek {
-    type State = Cache;
-
-    type Item = u64;
-
-    const LINES: &'static [Line] = &[
-        ("lru_peek_hit", Order::Mixed, Made::Once, Fill::Full),
-        ("lru_peek_miss", Order::Absent, Made::Once, Fill::Full),
-    ];
-
+impl Row<Cache, u64> for Peek {
     #[inline(always)]
     fn call(cache: &mut Cache, _place: u64, key: &u64) -> Option<u64> {
-        Some(cache.peek(key).copied().unwrap_or(*key))
+        value_or(cache.peek(key), *key)
     }
 }
 
 struct PeekLone;
 
-impl Row for PeekLone {
-    type State = LoneCache;
-
-    type Item = u64;
-
-    const LINES: &'static [Line] = &[
-        (
-            "lru_peek_hit_from_one",
-            Order::Mixed,
-            Made::Once,
-            Fill::Full,
-        ),
-        (
-            "lru_peek_miss_from_one",
-            Order::Absent,
-            Made::Once,
-            Fill::Full,
-        ),
-    ];
-
+impl Row<LoneCache, u64> for PeekLone {
     #[inline(always)]
     fn call(cache: &mut LoneCache, _place: u64, key: &u64) -> Option<u64> {
         match cache.peek(key) {
@@ -106,65 +52,25 @@ impl Row for PeekLone {
 
 struct PeekMut;
 
-impl Row for PeekMut {
-    type State = Cache;
-
-    type Item = u64;
-
-    const LINES: &'static [Line] = &[("lru_peek_mut_hit", Order::Mixed, Made::Once, Fill::Full)];
-
+impl Row<Cache, u64> for PeekMut {
     #[inline(always)]
     fn call(cache: &mut Cache, _place: u64, key: &u64) -> Option<u64> {
-        match cache.peek_mut(key) {
-            Some(value) => {
-                *value = value.wrapping_add(1);
-                Some(*value)
-            }
-            None => Some(*key),
-        }
+        next_or(cache.peek_mut(key), *key)
     }
 }
 
 struct Get;
 
-impl Row for Get {
-    type State = Cache;
-
-    type Item = u64;
-
-    const LINES: &'static [Line] = &[
-        ("lru_get_hit", Order::MixedByTurns, Made::Once, Fill::Full),
-        ("lru_get_miss", Order::Absent, Made::Once, Fill::Full),
-    ];
-
+impl Row<Cache, u64> for Get {
     #[inline(always)]
     fn call(cache: &mut Cache, _place: u64, key: &u64) -> Option<u64> {
-        Some(cache.get(key).copied().unwrap_or(*key))
+        value_or(cache.get(key), *key)
     }
 }
 
 struct GetLone;
 
-impl Row for GetLone {
-    type State = LoneCache;
-
-    type Item = u64;
-
-    const LINES: &'static [Line] = &[
-        (
-            "lru_get_hit_from_one",
-            Order::MixedByTurns,
-            Made::Once,
-            Fill::Full,
-        ),
-        (
-            "lru_get_miss_from_one",
-            Order::Absent,
-            Made::Once,
-            Fill::Full,
-        ),
-    ];
-
+impl Row<LoneCache, u64> for GetLone {
     #[inline(always)]
     fn call(cache: &mut LoneCache, _place: u64, key: &u64) -> Option<u64> {
         match cache.get(key) {
@@ -176,47 +82,16 @@ impl Row for GetLone {
 
 struct GetMut;
 
-impl Row for GetMut {
-    type State = Cache;
-
-    type Item = u64;
-
-    const LINES: &'static [Line] = &[(
-        "lru_get_mut_hit",
-        Order::MixedByTurns,
-        Made::Once,
-        Fill::Full,
-    )];
-
+impl Row<Cache, u64> for GetMut {
     #[inline(always)]
     fn call(cache: &mut Cache, _place: u64, key: &u64) -> Option<u64> {
-        match cache.get_mut(key) {
-            Some(value) => {
-                *value = value.wrapping_add(1);
-                Some(*value)
-            }
-            None => Some(*key),
-        }
+        next_or(cache.get_mut(key), *key)
     }
 }
 
 struct ContainsKey;
 
-impl Row for ContainsKey {
-    type State = Cache;
-
-    type Item = u64;
-
-    const LINES: &'static [Line] = &[
-        ("lru_contains_key_hit", Order::Mixed, Made::Once, Fill::Full),
-        (
-            "lru_contains_key_miss",
-            Order::Absent,
-            Made::Once,
-            Fill::Full,
-        ),
-    ];
-
+impl Row<Cache, u64> for ContainsKey {
     #[inline(always)]
     fn call(cache: &mut Cache, _place: u64, key: &u64) -> Option<u64> {
         Some(u64::from(cache.contains_key(key)))
@@ -226,39 +101,16 @@ impl Row for ContainsKey {
 /// The entry that an insert of the key would evict.
 struct EvictedBy;
 
-impl Row for EvictedBy {
-    type State = Cache;
-
-    type Item = u64;
-
-    const LINES: &'static [Line] = &[("lru_evicted_by", Order::Absent, Made::Once, Fill::Full)];
-
+impl Row<Cache, u64> for EvictedBy {
     #[inline(always)]
     fn call(cache: &mut Cache, _place: u64, key: &u64) -> Option<u64> {
-        match cache.evicted_by(key) {
-            Some((stored, value)) => Some(fold(*stored, *value)),
-            None => Some(*key),
-        }
+        pair_or(cache.evicted_by(key), *key)
     }
 }
 
 struct Push;
 
-impl Row for Push {
-    type State = Cache;
-
-    type Item = u64;
-
-    const LINES: &'static [Line] = &[
-        ("lru_push_new", Order::AbsentAndHeld, Made::Once, Fill::Full),
-        (
-            "lru_push_present",
-            Order::MixedByTurns,
-            Made::Once,
-            Fill::Full,
-        ),
-    ];
-
+impl Row<Cache, u64> for Push {
     #[inline(always)]
     fn call(cache: &mut Cache, place: u64, key: &u64) -> Option<u64> {
         match cache.push(*key, place) {
@@ -271,26 +123,7 @@ impl Row for Push {
 
 struct GetOrInsertWith;
 
-impl Row for GetOrInsertWith {
-    type State = Cache;
-
-    type Item = u64;
-
-    const LINES: &'static [Line] = &[
-        (
-            "lru_get_or_insert_with_new",
-            Order::AbsentAndHeld,
-            Made::Once,
-            Fill::Full,
-        ),
-        (
-            "lru_get_or_insert_with_present",
-            Order::MixedByTurns,
-            Made::Once,
-            Fill::Full,
-        ),
-    ];
-
+impl Row<Cache, u64> for GetOrInsertWith {
     #[inline(always)]
     fn call(cache: &mut Cache, place: u64, key: &u64) -> Option<u64> {
         match cache.get_or_insert_with(*key, || place) {
@@ -303,18 +136,7 @@ impl Row for GetOrInsertWith {
 /// The cache may have one entry beyond its capacity until the next call.
 struct EntryOrInsert;
 
-impl Row for EntryOrInsert {
-    type State = Cache;
-
-    type Item = u64;
-
-    const LINES: &'static [Line] = &[(
-        "lru_entry_or_insert_new",
-        Order::AbsentAndHeld,
-        Made::Once,
-        Fill::Full,
-    )];
-
+impl Row<Cache, u64> for EntryOrInsert {
     #[inline(always)]
     fn call(cache: &mut Cache, place: u64, key: &u64) -> Option<u64> {
         match cache.entry(*key).or_insert(place) {
@@ -326,13 +148,7 @@ impl Row for EntryOrInsert {
 
 struct Remove;
 
-impl Row for Remove {
-    type State = Cache;
-
-    type Item = u64;
-
-    const LINES: &'static [Line] = &[("lru_remove_hit", Order::Mixed, Made::Anew, Fill::Full)];
-
+impl Row<Cache, u64> for Remove {
     #[inline(always)]
     fn call(cache: &mut Cache, _place: u64, key: &u64) -> Option<u64> {
         Some(cache.remove(key).unwrap_or(*key))
@@ -341,32 +157,17 @@ impl Row for Remove {
 
 struct RemoveLru;
 
-impl Row for RemoveLru {
-    type State = Cache;
-
-    type Item = u64;
-
-    const LINES: &'static [Line] = &[("lru_remove_lru", Order::Held, Made::Anew, Fill::Full)];
-
+impl Row<Cache, u64> for RemoveLru {
     #[inline(always)]
     fn call(cache: &mut Cache, _place: u64, key: &u64) -> Option<u64> {
-        match cache.remove_lru() {
-            Some((stored, value)) => Some(fold(stored, value)),
-            None => Some(*key),
-        }
+        removed_or(cache.remove_lru(), *key)
     }
 }
 
 /// Evicts the first half of the entries.
 struct SetCapacity;
 
-impl Row for SetCapacity {
-    type State = Cache;
-
-    type Item = u64;
-
-    const LINES: &'static [Line] = &[("lru_set_capacity", Order::Whole, Made::Anew, Fill::Full)];
-
+impl Row<Cache, u64> for SetCapacity {
     #[inline(always)]
     fn call(cache: &mut Cache, _place: u64, _item: &u64) -> Option<u64> {
         cache.set_capacity(cache.len() / 2);
@@ -376,37 +177,17 @@ impl Row for SetCapacity {
 
 struct RawGet;
 
-impl Row for RawGet {
-    type State = Cache;
-
-    type Item = u64;
-
-    const LINES: &'static [Line] = &[("lru_raw_get_hit", Order::Mixed, Made::Once, Fill::Full)];
-
+impl Row<Cache, u64> for RawGet {
     #[inline(always)]
     fn call(cache: &mut Cache, _place: u64, key: &u64) -> Option<u64> {
-        match cache.raw_entry().from_key(key) {
-            Some((stored, value)) => Some(fold(*stored, *value)),
-            None => Some(*key),
-        }
+        pair_or(cache.raw_entry().from_key(key), *key)
     }
 }
 
 /// As `EntryOrInsert`.
 struct RawOrInsert;
 
-impl Row for RawOrInsert {
-    type State = Cache;
-
-    type Item = u64;
-
-    const LINES: &'static [Line] = &[(
-        "lru_raw_or_insert_new",
-        Order::AbsentAndHeld,
-        Made::Once,
-        Fill::Full,
-    )];
-
+impl Row<Cache, u64> for RawOrInsert {
     #[inline(always)]
     fn call(cache: &mut Cache, place: u64, key: &u64) -> Option<u64> {
         match cache.raw_entry_mut().from_key(key).or_insert(*key, place) {
@@ -418,36 +199,16 @@ impl Row for RawOrInsert {
 
 struct RemoveEntry;
 
-impl Row for RemoveEntry {
-    type State = Cache;
-
-    type Item = u64;
-
-    const LINES: &'static [Line] = &[(
-        "lru_remove_entry_hit",
-        Order::Mixed,
-        Made::Anew,
-        Fill::Full,
-    )];
-
+impl Row<Cache, u64> for RemoveEntry {
     #[inline(always)]
     fn call(cache: &mut Cache, _place: u64, key: &u64) -> Option<u64> {
-        match cache.remove_entry(key) {
-            Some((stored, value)) => Some(fold(stored, value)),
-            None => Some(*key),
-        }
+        removed_or(cache.remove_entry(key), *key)
     }
 }
 
 struct Iter;
 
-impl Row for Iter {
-    type State = Cache;
-
-    type Item = u64;
-
-    const LINES: &'static [Line] = &[("lru_iter", Order::Whole, Made::Once, Fill::Full)];
-
+impl Row<Cache, u64> for Iter {
     #[inline(always)]
     fn call(cache: &mut Cache, _place: u64, _item: &u64) -> Option<u64> {
         sum_of_pairs(cache.iter())
@@ -456,13 +217,7 @@ impl Row for Iter {
 
 struct Drain;
 
-impl Row for Drain {
-    type State = Cache;
-
-    type Item = u64;
-
-    const LINES: &'static [Line] = &[("lru_drain", Order::Whole, Made::Anew, Fill::Full)];
-
+impl Row<Cache, u64> for Drain {
     #[inline(always)]
     fn call(cache: &mut Cache, _place: u64, _item: &u64) -> Option<u64> {
         sum_of_owned(cache.drain())
@@ -472,29 +227,17 @@ impl Row for Drain {
 /// Keeps about half of the entries.
 struct Retain;
 
-impl Row for Retain {
-    type State = Cache;
-
-    type Item = u64;
-
-    const LINES: &'static [Line] = &[("lru_retain", Order::Whole, Made::Anew, Fill::Full)];
-
+impl Row<Cache, u64> for Retain {
     #[inline(always)]
     fn call(cache: &mut Cache, _place: u64, _item: &u64) -> Option<u64> {
-        cache.retain(|key, _| *key % 2 == 0);
+        cache.retain(is_even);
         Some(cache.len() as u64)
     }
 }
 
 struct CloneAll;
 
-impl Row for CloneAll {
-    type State = (Cache, Cache);
-
-    type Item = u64;
-
-    const LINES: &'static [Line] = &[("lru_clone", Order::Whole, Made::Anew, Fill::Full)];
-
+impl Row<(Cache, Cache), u64> for CloneAll {
     #[inline(always)]
     fn call(caches: &mut (Cache, Cache), _place: u64, _item: &u64) -> Option<u64> {
         caches.1 = caches.0.clone().ok()?;
@@ -505,30 +248,66 @@ impl Row for CloneAll {
 /// With the pairs that it has.
 struct Extend;
 
-impl Row for Extend {
-    type State = (Cache, Cache);
-
-    type Item = u64;
-
-    const LINES: &'static [Line] = &[("lru_extend", Order::Whole, Made::Once, Fill::Full)];
-
+impl Row<(Cache, Cache), u64> for Extend {
     #[inline(always)]
     fn call(caches: &mut (Cache, Cache), _place: u64, _item: &u64) -> Option<u64> {
         let pairs = caches.0.iter().map(|(key, value)| (*key, *value));
-        caches.1.extend(pairs).ok()?;
-        Some(caches.1.len() as u64)
+        len_after(caches.1.extend(pairs), caches.1.len())
     }
 }
 
-pub(crate) fn rows(plan: &mut Plan<'_>) {
+pub(crate) fn rows(plan: &Plan<'_>) {
     plan.kind("caches");
-    plan.rows::<UseKey, Peek, PeekMut, ContainsKey>();
-    plan.rows::<EvictedBy, Get, GetMut, Insert>();
-    plan.rows::<Push, GetOrInsertWith, EntryOrInsert, Remove>();
-    plan.row::<RemoveLru>();
-    plan.row::<SetCapacity>();
-    plan.rows::<RawGet, RawOrInsert, RemoveEntry, Iter>();
-    plan.rows::<Drain, Retain, CloneAll, Extend>();
-    plan.row_alone::<PeekLone>();
-    plan.row_alone::<GetLone>();
+    plan.row::<UseKey, _, _>(&[
+        ("lru_hit", MixedByTurns, Once, Full),
+        ("lru_zipf", Zipf, Once, Half),
+        ("lru_uniform", Uniform, Once, Half),
+    ]);
+    plan.row::<Peek, _, _>(&[
+        ("lru_peek_hit", Mixed, Once, Full),
+        ("lru_peek_miss", Absent, Once, Full),
+    ]);
+    plan.row::<PeekMut, _, _>(&[("lru_peek_mut_hit", Mixed, Once, Full)]);
+    plan.row::<ContainsKey, _, _>(&[
+        ("lru_contains_key_hit", Mixed, Once, Full),
+        ("lru_contains_key_miss", Absent, Once, Full),
+    ]);
+    plan.row::<EvictedBy, _, _>(&[("lru_evicted_by", Absent, Once, Full)]);
+    plan.row::<Get, _, _>(&[
+        ("lru_get_hit", MixedByTurns, Once, Full),
+        ("lru_get_miss", Absent, Once, Full),
+    ]);
+    plan.row::<GetMut, _, _>(&[("lru_get_mut_hit", MixedByTurns, Once, Full)]);
+    plan.row::<Insert, _, _>(&[
+        ("lru_insert_new", AbsentAndHeld, Once, Full),
+        ("lru_insert_present", MixedByTurns, Once, Full),
+    ]);
+    plan.row::<Push, _, _>(&[
+        ("lru_push_new", AbsentAndHeld, Once, Full),
+        ("lru_push_present", MixedByTurns, Once, Full),
+    ]);
+    plan.row::<GetOrInsertWith, _, _>(&[
+        ("lru_get_or_insert_with_new", AbsentAndHeld, Once, Full),
+        ("lru_get_or_insert_with_present", MixedByTurns, Once, Full),
+    ]);
+    plan.row::<EntryOrInsert, _, _>(&[("lru_entry_or_insert_new", AbsentAndHeld, Once, Full)]);
+    plan.row::<Remove, _, _>(&[("lru_remove_hit", Mixed, Anew, Full)]);
+    plan.row::<RemoveLru, _, _>(&[("lru_remove_lru", Held, Anew, Full)]);
+    plan.row::<SetCapacity, _, _>(&[("lru_set_capacity", Whole, Anew, Full)]);
+    plan.row::<RawGet, _, _>(&[("lru_raw_get_hit", Mixed, Once, Full)]);
+    plan.row::<RawOrInsert, _, _>(&[("lru_raw_or_insert_new", AbsentAndHeld, Once, Full)]);
+    plan.row::<RemoveEntry, _, _>(&[("lru_remove_entry_hit", Mixed, Anew, Full)]);
+    plan.row::<Iter, _, _>(&[("lru_iter", Whole, Once, Full)]);
+    plan.row::<Drain, _, _>(&[("lru_drain", Whole, Anew, Full)]);
+    plan.row::<Retain, _, _>(&[("lru_retain", Whole, Anew, Full)]);
+    plan.row::<CloneAll, _, _>(&[("lru_clone", Whole, Anew, Full)]);
+    plan.row::<Extend, _, _>(&[("lru_extend", Whole, Once, Full)]);
+    plan.row_alone::<PeekLone, _, _>(&[
+        ("lru_peek_hit_from_one", Mixed, Once, Full),
+        ("lru_peek_miss_from_one", Absent, Once, Full),
+    ]);
+    plan.row_alone::<GetLone, _, _>(&[
+        ("lru_get_hit_from_one", MixedByTurns, Once, Full),
+        ("lru_get_miss_from_one", Absent, Once, Full),
+    ]);
 }

@@ -1,31 +1,14 @@
 //! Entries and raw entries of a map, by closures and by defaults. A new key comes to a map that is empty in
 //! each pass, and that grows.
-use crate::fill::{Fill, Made, Map};
-use crate::lists::Order;
-use crate::plan::{Line, Plan, Row, fold};
+use crate::fill::Fill::{Empty, Full};
+use crate::fill::Made::{Anew, Once};
+use crate::fill::Map;
+use crate::lists::Order::{Held, MixedByTurns};
+use crate::plan::{Plan, Row, fold};
 
 struct OrInsertWith;
 
-impl Row for OrInsertWith {
-    type State = Map;
-
-    type Item = u64;
-
-    const LINES: &'static [Line] = &[
-        (
-            "entry_or_insert_with_new",
-            Order::Held,
-            Made::Anew,
-            Fill::Empty,
-        ),
-        (
-            "entry_or_insert_with_present",
-            Order::MixedByTurns,
-            Made::Once,
-            Fill::Full,
-        ),
-    ];
-
+impl Row<Map, u64> for OrInsertWith {
     #[inline(always)]
     fn call(map: &mut Map, place: u64, key: &u64) -> Option<u64> {
         match map.entry(*key).or_insert_with(|| place) {
@@ -37,21 +20,7 @@ impl Row for OrInsertWith {
 
 struct OrDefault;
 
-impl Row for OrDefault {
-    type State = Map;
-
-    type Item = u64;
-
-    const LINES: &'static [Line] = &[
-        ("entry_or_default_new", Order::Held, Made::Anew, Fill::Empty),
-        (
-            "entry_or_default_present",
-            Order::MixedByTurns,
-            Made::Once,
-            Fill::Full,
-        ),
-    ];
-
+impl Row<Map, u64> for OrDefault {
     #[inline(always)]
     fn call(map: &mut Map, _place: u64, key: &u64) -> Option<u64> {
         match map.entry(*key).or_default() {
@@ -64,21 +33,7 @@ impl Row for OrDefault {
 /// Adds one to the value of a key that is present, and inserts one that is absent.
 struct AndModify;
 
-impl Row for AndModify {
-    type State = Map;
-
-    type Item = u64;
-
-    const LINES: &'static [Line] = &[
-        ("entry_and_modify_new", Order::Held, Made::Anew, Fill::Empty),
-        (
-            "entry_and_modify_present",
-            Order::MixedByTurns,
-            Made::Once,
-            Fill::Full,
-        ),
-    ];
-
+impl Row<Map, u64> for AndModify {
     #[inline(always)]
     fn call(map: &mut Map, place: u64, key: &u64) -> Option<u64> {
         let entry = map
@@ -93,33 +48,11 @@ impl Row for AndModify {
 
 struct RawOrInsertWith;
 
-impl Row for RawOrInsertWith {
-    type State = Map;
-
-    type Item = u64;
-
-    const LINES: &'static [Line] = &[
-        (
-            "raw_or_insert_with_new",
-            Order::Held,
-            Made::Anew,
-            Fill::Empty,
-        ),
-        (
-            "raw_or_insert_with_present",
-            Order::MixedByTurns,
-            Made::Once,
-            Fill::Full,
-        ),
-    ];
-
+impl Row<Map, u64> for RawOrInsertWith {
     #[inline(always)]
     fn call(map: &mut Map, place: u64, key: &u64) -> Option<u64> {
-        match map
-            .raw_entry_mut()
-            .from_key(key)
-            .or_insert_with(|| (*key, place))
-        {
+        let entry = map.raw_entry_mut().from_key(key);
+        match entry.or_insert_with(|| (*key, place)) {
             Ok((stored, value)) => Some(fold(*stored, *value)),
             Err(_) => None,
         }
@@ -128,21 +61,7 @@ impl Row for RawOrInsertWith {
 
 struct RawAndModify;
 
-impl Row for RawAndModify {
-    type State = Map;
-
-    type Item = u64;
-
-    const LINES: &'static [Line] = &[
-        ("raw_and_modify_new", Order::Held, Made::Anew, Fill::Empty),
-        (
-            "raw_and_modify_present",
-            Order::MixedByTurns,
-            Made::Once,
-            Fill::Full,
-        ),
-    ];
-
+impl Row<Map, u64> for RawAndModify {
     #[inline(always)]
     fn call(map: &mut Map, place: u64, key: &u64) -> Option<u64> {
         let entry = map.raw_entry_mut().from_key(key);
@@ -154,8 +73,26 @@ impl Row for RawAndModify {
     }
 }
 
-pub(crate) fn rows(plan: &mut Plan<'_>) {
+pub(crate) fn rows(plan: &Plan<'_>) {
     plan.kind("inserts");
-    plan.rows::<OrInsertWith, OrDefault, AndModify, RawOrInsertWith>();
-    plan.row::<RawAndModify>();
+    plan.row::<OrInsertWith, _, _>(&[
+        ("entry_or_insert_with_new", Held, Anew, Empty),
+        ("entry_or_insert_with_present", MixedByTurns, Once, Full),
+    ]);
+    plan.row::<OrDefault, _, _>(&[
+        ("entry_or_default_new", Held, Anew, Empty),
+        ("entry_or_default_present", MixedByTurns, Once, Full),
+    ]);
+    plan.row::<AndModify, _, _>(&[
+        ("entry_and_modify_new", Held, Anew, Empty),
+        ("entry_and_modify_present", MixedByTurns, Once, Full),
+    ]);
+    plan.row::<RawOrInsertWith, _, _>(&[
+        ("raw_or_insert_with_new", Held, Anew, Empty),
+        ("raw_or_insert_with_present", MixedByTurns, Once, Full),
+    ]);
+    plan.row::<RawAndModify, _, _>(&[
+        ("raw_and_modify_new", Held, Anew, Empty),
+        ("raw_and_modify_present", MixedByTurns, Once, Full),
+    ]);
 }

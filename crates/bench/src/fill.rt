@@ -1,5 +1,8 @@
 //! The contents of containers before the calls of a row.
 use crate::keys::Keys;
+use crate::lists::items;
+use crate::plan::{Row, call_each};
+use crate::{caches, inserts};
 use hashlink::{LinkedHashMap, LinkedHashSet, LruCache};
 
 /// The contents of a container before the calls of a row.
@@ -55,36 +58,28 @@ pub(crate) type Cache = LruCache<u64, u64>;
 /// Like `LoneMap`.
 pub(crate) type LoneCache = LruCache<u64, u32>;
 
+/// Makes the call with each item and its index, and returns what it was made on, or `None` if memory runs out.
+pub(crate) fn filled_by<W: Row<S, T>, S: Drop, T>(state: S, items: &[T]) -> Option<S> {
+    let mut state = state;
+    let sum = call_each::<10, W, S, T>(&mut state, items, 0);
+    sum.is_some().then_some(state)
+}
+
+/// The index of a key is its value.
 impl Filled for Map {
     fn filled(keys: &Keys, fill: Fill) -> Option<Map> {
         match fill {
             Fill::Empty => Some(LinkedHashMap::new(keys.alloc)),
             Fill::Roomy => LinkedHashMap::with_capacity(keys.alloc, keys.size()).ok(),
-            Fill::Moved => moved(keys),
+            Fill::Moved => filled_by::<inserts::Insert, _, _>(full(keys)?, &keys.mixed),
             Fill::Thinned => thinned(keys),
             _ => full(keys),
         }
     }
 }
 
-/// Inserts each key with its index in the list as its value.
-fn insert_each(map: &mut Map, keys: &[u64]) -> Option<()> {
-    for (place, key) in keys.iter().enumerate() {
-        map.insert(*key, place as u64).ok()?;
-    }
-    Some(())
-}
-
 fn full(keys: &Keys) -> Option<Map> {
-    let mut map = LinkedHashMap::new(keys.alloc);
-    insert_each(&mut map, &keys.held)?;
-    Some(map)
-}
-
-fn moved(keys: &Keys) -> Option<Map> {
-    let mut map = full(keys)?;
-    insert_each(&mut map, &keys.mixed)?;
-    Some(map)
+    filled_by::<inserts::Insert, _, _>(LinkedHashMap::new(keys.alloc), &keys.held)
 }
 
 fn thinned(keys: &Keys) -> Option<Map> {
@@ -93,74 +88,80 @@ fn thinned(keys: &Keys) -> Option<Map> {
     Some(map)
 }
 
-impl Filled for LoneMap {
-    fn filled(keys: &Keys, _fill: Fill) -> Option<LoneMap> {
-        let mut map = LinkedHashMap::new(keys.alloc);
-        for (key, place) in keys.held.iter().zip(0..u32::MAX) {
-            map.insert(*key, place).ok()?;
-        }
-        Some(map)
-    }
-}
-
 impl Filled for Set {
     fn filled(keys: &Keys, fill: Fill) -> Option<Set> {
-        match fill {
-            Fill::Empty => Some(LinkedHashSet::new(keys.alloc)),
-            Fill::Moved => set_of(keys, &keys.mixed, &keys.mixed),
-            Fill::Overlapping => set_of(keys, &keys.mixed, &keys.absent),
-            Fill::Absent => set_of(keys, &keys.absent, &keys.absent),
-            _ => set_of(keys, &keys.held, &keys.held),
-        }
+        let (even, odd) = match fill {
+            Fill::Empty => return Some(LinkedHashSet::new(keys.alloc)),
+            Fill::Moved => (&keys.mixed, &keys.mixed),
+            Fill::Overlapping => (&keys.mixed, &keys.absent),
+            Fill::Absent => (&keys.absent, &keys.absent),
+            _ => (&keys.held, &keys.held),
+        };
+        let pairs: Vec<(u64, u64)> = items(keys.alloc, even, odd).ok()?;
+        filled_by::<InsertEven, _, _>(LinkedHashSet::new(keys.alloc), &pairs)
     }
 }
 
-/// A set that has, for each index, the key of `even` if that is even, else the key of `odd`.
-fn set_of(keys: &Keys, even: &[u64], odd: &[u64]) -> Option<Set> {
-    let mut set = LinkedHashSet::new(keys.alloc);
-    for (key, other) in even.iter().zip(odd) {
-        let element = if *key % 2 == 0 { *key } else { *other };
-        set.insert(element).ok()?;
-    }
-    Some(set)
-}
+/// Inserts the first key if it is even, else the second one.
+struct InsertEven;
 
-impl Filled for LoneSet {
-    fn filled(keys: &Keys, _fill: Fill) -> Option<LoneSet> {
-        let mut set = LinkedHashSet::new(keys.alloc);
-        for key in &keys.held {
-            set.insert((*key, ())).ok()?;
-        }
-        Some(set)
+impl Row<Set, (u64, u64)> for InsertEven {
+    fn call(set: &mut Set, place: u64, item: &(u64, u64)) -> Option<u64> {
+        let (even, odd) = *item;
+        let is_new = set.insert(if even % 2 == 0 { even } else { odd });
+        is_new.is_ok().then_some(place)
     }
 }
 
 impl Filled for Cache {
     fn filled(keys: &Keys, fill: Fill) -> Option<Cache> {
-        if fill == Fill::Half {
-            cache_of(keys, keys.half())
+        let capacity = if fill == Fill::Half {
+            keys.half()
         } else {
-            cache_of(keys, keys.size())
-        }
+            keys.size()
+        };
+        filled_by::<caches::Insert, _, _>(LruCache::new(keys.alloc, capacity), &keys.backwards)
     }
 }
 
-/// A cache into which the keys were inserted, the first one last.
-fn cache_of(keys: &Keys, capacity: usize) -> Option<Cache> {
-    let mut cache = LruCache::new(keys.alloc, capacity);
-    for (place, key) in keys.held.iter().rev().enumerate() {
-        cache.insert(*key, place as u64).ok()?;
+/// Inserts a key into a container of a type of its own.
+struct InsertLone;
+
+impl Row<LoneMap, u64> for InsertLone {
+    fn call(map: &mut LoneMap, place: u64, key: &u64) -> Option<u64> {
+        let value = u32::try_from(place).unwrap_or(u32::MAX);
+        map.insert(*key, value).is_ok().then_some(place)
     }
-    Some(cache)
+}
+
+impl Row<LoneSet, u64> for InsertLone {
+    fn call(set: &mut LoneSet, place: u64, key: &u64) -> Option<u64> {
+        set.insert((*key, ())).is_ok().then_some(place)
+    }
+}
+
+impl Row<LoneCache, u64> for InsertLone {
+    fn call(cache: &mut LoneCache, place: u64, key: &u64) -> Option<u64> {
+        let value = u32::try_from(place).unwrap_or(u32::MAX);
+        cache.insert(*key, value).is_ok().then_some(place)
+    }
+}
+
+impl Filled for LoneMap {
+    fn filled(keys: &Keys, _fill: Fill) -> Option<LoneMap> {
+        filled_by::<InsertLone, _, _>(LinkedHashMap::new(keys.alloc), &keys.held)
+    }
+}
+
+impl Filled for LoneSet {
+    fn filled(keys: &Keys, _fill: Fill) -> Option<LoneSet> {
+        filled_by::<InsertLone, _, _>(LinkedHashSet::new(keys.alloc), &keys.held)
+    }
 }
 
 impl Filled for LoneCache {
     fn filled(keys: &Keys, _fill: Fill) -> Option<LoneCache> {
-        let mut cache = LruCache::new(keys.alloc, keys.size());
-        for (key, place) in keys.held.iter().zip(0..u32::MAX) {
-            cache.insert(*key, place).ok()?;
-        }
-        Some(cache)
+        filled_by::<InsertLone, _, _>(LruCache::new(keys.alloc, keys.size()), &keys.held)
     }
 }
 

@@ -1,7 +1,8 @@
 //! The longest insert into a map, which is one for which the map grows.
-use crate::fill::{Fill, Made};
+use crate::fill::Fill::Empty;
+use crate::fill::Made::Anew;
 use crate::inserts::Insert;
-use crate::lists::Order;
+use crate::lists::Order::Held;
 use crate::plan::{Plan, Row, fold};
 use hashlink::LinkedHashMap;
 use std::alloc::AllocError;
@@ -37,12 +38,11 @@ fn time_longest(plan: &Plan<'_>) -> io::Result<()> {
     plan.print_time("insert_longest", least, 1, sum)
 }
 
-pub(crate) fn rows(plan: &mut Plan<'_>) {
+pub(crate) fn rows(plan: &Plan<'_>) {
     plan.kind("growth");
     if plan.request.rounds == 0 {
-        plan.run::<10, Insert>(("insert_longest", Order::Held, Made::Anew, Fill::Empty));
+        plan.row::<Insert, _, _>(&[("insert_longest", Held, Anew, Empty)]);
     } else if plan.wants("insert_longest") {
-        let outcome = time_longest(plan);
-        plan.note(outcome);
+        plan.note(time_longest(plan));
     }
 }

@@ -1,91 +1,42 @@
 //! Inserts into a map, and moves of its entries. A new key is inserted into a map that is empty in each pass,
 //! and that grows.
-use crate::fill::{Fill, Made, Map};
-use crate::lists::Order;
-use crate::plan::{Line, Plan, Row, fold};
+use crate::fill::Fill::{Empty, Full, Roomy};
+use crate::fill::Made::{Anew, Once};
+use crate::fill::Map;
+use crate::lists::Order::{Absent, Held, Mixed, MixedByTurns};
+use crate::plan::{Plan, Row, fold};
+use crate::results::old_or;
 
 pub(crate) struct Insert;
 
-impl Row for Insert {
-    type State = Map;
-
-    type Item = u64;
-
-    const LINES: &'static [Line] = &[
-        ("insert", Order::Held, Made::Anew, Fill::Empty),
-        ("insert_roomy", Order::Held, Made::Anew, Fill::Roomy),
-        ("update", Order::MixedByTurns, Made::Once, Fill::Full),
-    ];
-
+impl Row<Map, u64> for Insert {
     #[inline(always)]
     fn call(map: &mut Map, place: u64, key: &u64) -> Option<u64> {
-        Some(map.insert(*key, place).ok()?.unwrap_or(*key))
+        old_or(map.insert(*key, place), *key)
     }
 }
 
 struct InsertFront;
 
-impl Row for InsertFront {
-    type State = Map;
-
-    type Item = u64;
-
-    const LINES: &'static [Line] = &[
-        ("insert_front_new", Order::Held, Made::Anew, Fill::Empty),
-        (
-            "insert_front_present",
-            Order::MixedByTurns,
-            Made::Once,
-            Fill::Full,
-        ),
-    ];
-
+impl Row<Map, u64> for InsertFront {
     #[inline(always)]
     fn call(map: &mut Map, place: u64, key: &u64) -> Option<u64> {
-        Some(map.insert_front(*key, place).ok()?.unwrap_or(*key))
+        old_or(map.insert_front(*key, place), *key)
     }
 }
 
 struct Replace;
 
-impl Row for Replace {
-    type State = Map;
-
-    type Item = u64;
-
-    const LINES: &'static [Line] = &[
-        ("replace_new", Order::Held, Made::Anew, Fill::Empty),
-        ("replace_present", Order::Mixed, Made::Once, Fill::Full),
-    ];
-
+impl Row<Map, u64> for Replace {
     #[inline(always)]
     fn call(map: &mut Map, place: u64, key: &u64) -> Option<u64> {
-        Some(map.replace(*key, place).ok()?.unwrap_or(*key))
+        old_or(map.replace(*key, place), *key)
     }
 }
 
 struct GetOrInsertWith;
 
-impl Row for GetOrInsertWith {
-    type State = Map;
-
-    type Item = u64;
-
-    const LINES: &'static [Line] = &[
-        (
-            "get_or_insert_with_new",
-            Order::Held,
-            Made::Anew,
-            Fill::Empty,
-        ),
-        (
-            "get_or_insert_with_present",
-            Order::MixedByTurns,
-            Made::Once,
-            Fill::Full,
-        ),
-    ];
-
+impl Row<Map, u64> for GetOrInsertWith {
     #[inline(always)]
     fn call(map: &mut Map, place: u64, key: &u64) -> Option<u64> {
         match map.get_or_insert_with(*key, || place) {
@@ -97,21 +48,7 @@ impl Row for GetOrInsertWith {
 
 struct EntryOrInsert;
 
-impl Row for EntryOrInsert {
-    type State = Map;
-
-    type Item = u64;
-
-    const LINES: &'static [Line] = &[
-        ("entry_or_insert_new", Order::Held, Made::Anew, Fill::Empty),
-        (
-            "entry_or_insert_present",
-            Order::MixedByTurns,
-            Made::Once,
-            Fill::Full,
-        ),
-    ];
-
+impl Row<Map, u64> for EntryOrInsert {
     #[inline(always)]
     fn call(map: &mut Map, place: u64, key: &u64) -> Option<u64> {
         match map.entry(*key).or_insert(place) {
@@ -123,21 +60,7 @@ impl Row for EntryOrInsert {
 
 struct RawOrInsert;
 
-impl Row for RawOrInsert {
-    type State = Map;
-
-    type Item = u64;
-
-    const LINES: &'static [Line] = &[
-        ("raw_or_insert_new", Order::Held, Made::Anew, Fill::Empty),
-        (
-            "raw_or_insert_present",
-            Order::MixedByTurns,
-            Made::Once,
-            Fill::Full,
-        ),
-    ];
-
+impl Row<Map, u64> for RawOrInsert {
     #[inline(always)]
     fn call(map: &mut Map, place: u64, key: &u64) -> Option<u64> {
         match map.raw_entry_mut().from_key(key).or_insert(*key, place) {
@@ -150,40 +73,17 @@ impl Row for RawOrInsert {
 /// An insert before the last entry.
 struct CursorInsert;
 
-impl Row for CursorInsert {
-    type State = Map;
-
-    type Item = u64;
-
-    const LINES: &'static [Line] = &[
-        ("cursor_insert_new", Order::Held, Made::Anew, Fill::Empty),
-        (
-            "cursor_insert_present",
-            Order::MixedByTurns,
-            Made::Once,
-            Fill::Full,
-        ),
-    ];
-
+impl Row<Map, u64> for CursorInsert {
     #[inline(always)]
     fn call(map: &mut Map, place: u64, key: &u64) -> Option<u64> {
         let mut cursor = map.cursor_back_mut();
-        Some(cursor.insert_before(*key, place).ok()?.unwrap_or(*key))
+        old_or(cursor.insert_before(*key, place), *key)
     }
 }
 
 struct ToBack;
 
-impl Row for ToBack {
-    type State = Map;
-
-    type Item = u64;
-
-    const LINES: &'static [Line] = &[
-        ("to_back_hit", Order::MixedByTurns, Made::Once, Fill::Full),
-        ("to_back_miss", Order::Absent, Made::Once, Fill::Full),
-    ];
-
+impl Row<Map, u64> for ToBack {
     #[inline(always)]
     fn call(map: &mut Map, _place: u64, key: &u64) -> Option<u64> {
         match map.to_back(key) {
@@ -195,16 +95,7 @@ impl Row for ToBack {
 
 struct ToFront;
 
-impl Row for ToFront {
-    type State = Map;
-
-    type Item = u64;
-
-    const LINES: &'static [Line] = &[
-        ("to_front_hit", Order::MixedByTurns, Made::Once, Fill::Full),
-        ("to_front_miss", Order::Absent, Made::Once, Fill::Full),
-    ];
-
+impl Row<Map, u64> for ToFront {
     #[inline(always)]
     fn call(map: &mut Map, _place: u64, key: &u64) -> Option<u64> {
         match map.to_front(key) {
@@ -214,9 +105,43 @@ impl Row for ToFront {
     }
 }
 
-pub(crate) fn rows(plan: &mut Plan<'_>) {
+pub(crate) fn rows(plan: &Plan<'_>) {
     plan.kind("inserts");
-    plan.rows::<Insert, InsertFront, Replace, GetOrInsertWith>();
-    plan.rows::<EntryOrInsert, RawOrInsert, CursorInsert, ToBack>();
-    plan.row::<ToFront>();
+    plan.row::<Insert, _, _>(&[
+        ("insert", Held, Anew, Empty),
+        ("insert_roomy", Held, Anew, Roomy),
+        ("update", MixedByTurns, Once, Full),
+    ]);
+    plan.row::<InsertFront, _, _>(&[
+        ("insert_front_new", Held, Anew, Empty),
+        ("insert_front_present", MixedByTurns, Once, Full),
+    ]);
+    plan.row::<Replace, _, _>(&[
+        ("replace_new", Held, Anew, Empty),
+        ("replace_present", Mixed, Once, Full),
+    ]);
+    plan.row::<GetOrInsertWith, _, _>(&[
+        ("get_or_insert_with_new", Held, Anew, Empty),
+        ("get_or_insert_with_present", MixedByTurns, Once, Full),
+    ]);
+    plan.row::<EntryOrInsert, _, _>(&[
+        ("entry_or_insert_new", Held, Anew, Empty),
+        ("entry_or_insert_present", MixedByTurns, Once, Full),
+    ]);
+    plan.row::<RawOrInsert, _, _>(&[
+        ("raw_or_insert_new", Held, Anew, Empty),
+        ("raw_or_insert_present", MixedByTurns, Once, Full),
+    ]);
+    plan.row::<CursorInsert, _, _>(&[
+        ("cursor_insert_new", Held, Anew, Empty),
+        ("cursor_insert_present", MixedByTurns, Once, Full),
+    ]);
+    plan.row::<ToBack, _, _>(&[
+        ("to_back_hit", MixedByTurns, Once, Full),
+        ("to_back_miss", Absent, Once, Full),
+    ]);
+    plan.row::<ToFront, _, _>(&[
+        ("to_front_hit", MixedByTurns, Once, Full),
+        ("to_front_miss", Absent, Once, Full),
+    ]);
 }

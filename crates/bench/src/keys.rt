@@ -8,6 +8,8 @@ pub(crate) struct Keys {
     pub(crate) alloc: Global,
     /// The keys of a full container, in the order in which they are inserted.
     pub(crate) held: Vec<u64>,
+    /// The held keys, the last one first.
+    pub(crate) backwards: Vec<u64>,
     /// As many other keys.
     pub(crate) absent: Vec<u64>,
     /// The held keys, in two other orders.
@@ -25,6 +27,7 @@ impl Keys {
     pub(crate) fn new(alloc: Global, size: usize) -> Result<Self, AllocError> {
         let mut random = Xorshift::new();
         let held = random.numbers(alloc, size)?;
+        let backwards = held.iter().rev().copied().collect(alloc)?;
         let absent = random.numbers(alloc, size)?;
         let mixed = random.shuffle(alloc, &held)?;
         let mixed_again = random.shuffle(alloc, &held)?;
@@ -32,6 +35,7 @@ impl Keys {
         Ok(Keys {
             alloc,
             held,
+            backwards,
             absent,
             mixed,
             mixed_again,

@@ -1,40 +1,26 @@
 //! Look-ups of a map.
-use crate::fill::{Fill, LoneMap, Made, Map};
-use crate::lists::Order;
-use crate::plan::{Line, Plan, Row, fold};
+use crate::fill::Fill::Full;
+use crate::fill::Made::Once;
+use crate::fill::{LoneMap, Map};
+use crate::lists::Order::{Absent, Mixed};
+use crate::plan::{Plan, Row};
+use crate::results::{next_or, pair_or, value_or};
+use hashlink::LinkedHashMap;
 use hashlink::linked_hash_map::RawEntryMut;
 use std::hash::BuildHasher;
 
 struct Get;
 
-impl Row for Get {
-    type State = Map;
-
-    type Item = u64;
-
-    const LINES: &'static [Line] = &[
-        ("get_hit", Order::Mixed, Made::Once, Fill::Full),
-        ("get_miss", Order::Absent, Made::Once, Fill::Full),
-    ];
-
+impl Row<Map, u64> for Get {
     #[inline(always)]
     fn call(map: &mut Map, _place: u64, key: &u64) -> Option<u64> {
-        Some(map.get(key).copied().unwrap_or(*key))
+        value_or(map.get(key), *key)
     }
 }
 
 struct GetLone;
 
-impl Row for GetLone {
-    type State = LoneMap;
-
-    type Item = u64;
-
-    const LINES: &'static [Line] = &[
-        ("get_hit_from_one", Order::Mixed, Made::Once, Fill::Full),
-        ("get_miss_from_one", Order::Absent, Made::Once, Fill::Full),
-    ];
-
+impl Row<LoneMap, u64> for GetLone {
     #[inline(always)]
     fn call(map: &mut LoneMap, _place: u64, key: &u64) -> Option<u64> {
         match map.get(key) {
@@ -46,105 +32,35 @@ impl Row for GetLone {
 
 struct GetKeyValue;
 
-impl Row for GetKeyValue {
-    type State = Map;
-
-    type Item = u64;
-
-    const LINES: &'static [Line] = &[
-        ("get_key_value_hit", Order::Mixed, Made::Once, Fill::Full),
-        ("get_key_value_miss", Order::Absent, Made::Once, Fill::Full),
-    ];
-
+impl Row<Map, u64> for GetKeyValue {
     #[inline(always)]
     fn call(map: &mut Map, _place: u64, key: &u64) -> Option<u64> {
-        match map.get_key_value(key) {
-            Some((stored, value)) => Some(fold(*stored, *value)),
-            None => Some(*key),
-        }
+        pair_or(map.get_key_value(key), *key)
     }
 }
 
 struct ContainsKey;
 
-impl Row for ContainsKey {
-    type State = Map;
-
-    type Item = u64;
-
-    const LINES: &'static [Line] = &[
-        ("contains_key_hit", Order::Mixed, Made::Once, Fill::Full),
-        ("contains_key_miss", Order::Absent, Made::Once, Fill::Full),
-    ];
-
+impl<V> Row<LinkedHashMap<u64, V>, u64> for ContainsKey {
     #[inline(always)]
-    fn call(map: &mut Map, _place: u64, key: &u64) -> Option<u64> {
-        Some(u64::from(map.contains_key(key)))
-    }
-}
-
-struct ContainsKeyLone;
-
-impl Row for ContainsKeyLone {
-    type State = LoneMap;
-
-    type Item = u64;
-
-    const LINES: &'static [Line] = &[
-        (
-            "contains_key_hit_from_one",
-            Order::Mixed,
-            Made::Once,
-            Fill::Full,
-        ),
-        (
-            "contains_key_miss_from_one",
-            Order::Absent,
-            Made::Once,
-            Fill::Full,
-        ),
-    ];
-
-    #[inline(always)]
-    fn call(map: &mut LoneMap, _place: u64, key: &u64) -> Option<u64> {
+    fn call(map: &mut LinkedHashMap<u64, V>, _place: u64, key: &u64) -> Option<u64> {
         Some(u64::from(map.contains_key(key)))
     }
 }
 
 struct GetMut;
 
-impl Row for GetMut {
-    type State = Map;
-
-    type Item = u64;
-
-    const LINES: &'static [Line] = &[
-        ("get_mut_hit", Order::Mixed, Made::Once, Fill::Full),
-        ("get_mut_miss", Order::Absent, Made::Once, Fill::Full),
-    ];
-
+impl Row<Map, u64> for GetMut {
     #[inline(always)]
     fn call(map: &mut Map, _place: u64, key: &u64) -> Option<u64> {
-        match map.get_mut(key) {
-            Some(value) => {
-                *value = value.wrapping_add(1);
-                Some(*value)
-            }
-            None => Some(*key),
-        }
+        next_or(map.get_mut(key), *key)
     }
 }
 
 /// A test for a key that is present, and then a read of its value.
 struct Index;
 
-impl Row for Index {
-    type State = Map;
-
-    type Item = u64;
-
-    const LINES: &'static [Line] = &[("index_hit", Order::Mixed, Made::Once, Fill::Full)];
-
+impl Row<Map, u64> for Index {
     #[inline(always)]
     fn call(map: &mut Map, _place: u64, key: &u64) -> Option<u64> {
         if map.contains_key(key) {
@@ -157,56 +73,26 @@ impl Row for Index {
 
 struct RawGet;
 
-impl Row for RawGet {
-    type State = Map;
-
-    type Item = u64;
-
-    const LINES: &'static [Line] = &[
-        ("raw_get_hit", Order::Mixed, Made::Once, Fill::Full),
-        ("raw_get_miss", Order::Absent, Made::Once, Fill::Full),
-    ];
-
+impl Row<Map, u64> for RawGet {
     #[inline(always)]
     fn call(map: &mut Map, _place: u64, key: &u64) -> Option<u64> {
-        match map.raw_entry().from_key(key) {
-            Some((stored, value)) => Some(fold(*stored, *value)),
-            None => Some(*key),
-        }
+        pair_or(map.raw_entry().from_key(key), *key)
     }
 }
 
 struct RawHashed;
 
-impl Row for RawHashed {
-    type State = Map;
-
-    type Item = u64;
-
-    const LINES: &'static [Line] = &[("raw_hashed_hit", Order::Mixed, Made::Once, Fill::Full)];
-
+impl Row<Map, u64> for RawHashed {
     #[inline(always)]
     fn call(map: &mut Map, _place: u64, key: &u64) -> Option<u64> {
         let hash = map.hasher().hash_one(key);
-        match map.raw_entry().from_key_hashed_nocheck(hash, key) {
-            Some((stored, value)) => Some(fold(*stored, *value)),
-            None => Some(*key),
-        }
+        pair_or(map.raw_entry().from_key_hashed_nocheck(hash, key), *key)
     }
 }
 
 struct RawMut;
 
-impl Row for RawMut {
-    type State = Map;
-
-    type Item = u64;
-
-    const LINES: &'static [Line] = &[
-        ("raw_mut_hit", Order::Mixed, Made::Once, Fill::Full),
-        ("raw_mut_miss", Order::Absent, Made::Once, Fill::Full),
-    ];
-
+impl Row<Map, u64> for RawMut {
     #[inline(always)]
     fn call(map: &mut Map, _place: u64, key: &u64) -> Option<u64> {
         match map.raw_entry_mut().from_key(key) {
@@ -219,13 +105,7 @@ impl Row for RawMut {
 /// A test, and then a write to the value of a key that is present.
 struct IndexWrite;
 
-impl Row for IndexWrite {
-    type State = Map;
-
-    type Item = u64;
-
-    const LINES: &'static [Line] = &[("index_mut_hit", Order::Mixed, Made::Once, Fill::Full)];
-
+impl Row<Map, u64> for IndexWrite {
     #[inline(always)]
     fn call(map: &mut Map, place: u64, key: &u64) -> Option<u64> {
         if map.contains_key(key) {
@@ -239,40 +119,20 @@ impl Row for IndexWrite {
 
 struct RawFromHash;
 
-impl Row for RawFromHash {
-    type State = Map;
-
-    type Item = u64;
-
-    const LINES: &'static [Line] = &[
-        ("raw_from_hash_hit", Order::Mixed, Made::Once, Fill::Full),
-        ("raw_from_hash_miss", Order::Absent, Made::Once, Fill::Full),
-    ];
-
+impl Row<Map, u64> for RawFromHash {
     #[inline(always)]
     fn call(map: &mut Map, _place: u64, key: &u64) -> Option<u64> {
         let hash = map.hasher().hash_one(key);
-        match map.raw_entry().from_hash(hash, |stored| stored == key) {
-            Some((stored, value)) => Some(fold(*stored, *value)),
-            None => Some(*key),
-        }
+        pair_or(
+            map.raw_entry().from_hash(hash, |stored| stored == key),
+            *key,
+        )
     }
 }
 
 struct RawMutFromHash;
 
-impl Row for RawMutFromHash {
-    type State = Map;
-
-    type Item = u64;
-
-    const LINES: &'static [Line] = &[(
-        "raw_mut_from_hash_hit",
-        Order::Mixed,
-        Made::Once,
-        Fill::Full,
-    )];
-
+impl Row<Map, u64> for RawMutFromHash {
     #[inline(always)]
     fn call(map: &mut Map, _place: u64, key: &u64) -> Option<u64> {
         let hash = map.hasher().hash_one(key);
@@ -283,13 +143,46 @@ impl Row for RawMutFromHash {
     }
 }
 
-pub(crate) fn rows(plan: &mut Plan<'_>) {
+pub(crate) fn rows(plan: &Plan<'_>) {
     plan.kind("lookups");
-    plan.rows::<Get, GetKeyValue, ContainsKey, GetMut>();
-    plan.rows::<Index, RawGet, RawHashed, RawMut>();
-    plan.row::<IndexWrite>();
-    plan.row::<RawFromHash>();
-    plan.row::<RawMutFromHash>();
-    plan.row_alone::<GetLone>();
-    plan.row_alone::<ContainsKeyLone>();
+    plan.row::<Get, _, _>(&[
+        ("get_hit", Mixed, Once, Full),
+        ("get_miss", Absent, Once, Full),
+    ]);
+    plan.row::<GetKeyValue, _, _>(&[
+        ("get_key_value_hit", Mixed, Once, Full),
+        ("get_key_value_miss", Absent, Once, Full),
+    ]);
+    plan.row::<ContainsKey, Map, _>(&[
+        ("contains_key_hit", Mixed, Once, Full),
+        ("contains_key_miss", Absent, Once, Full),
+    ]);
+    plan.row::<GetMut, _, _>(&[
+        ("get_mut_hit", Mixed, Once, Full),
+        ("get_mut_miss", Absent, Once, Full),
+    ]);
+    plan.row::<Index, _, _>(&[("index_hit", Mixed, Once, Full)]);
+    plan.row::<RawGet, _, _>(&[
+        ("raw_get_hit", Mixed, Once, Full),
+        ("raw_get_miss", Absent, Once, Full),
+    ]);
+    plan.row::<RawHashed, _, _>(&[("raw_hashed_hit", Mixed, Once, Full)]);
+    plan.row::<RawMut, _, _>(&[
+        ("raw_mut_hit", Mixed, Once, Full),
+        ("raw_mut_miss", Absent, Once, Full),
+    ]);
+    plan.row::<IndexWrite, _, _>(&[("index_mut_hit", Mixed, Once, Full)]);
+    plan.row::<RawFromHash, _, _>(&[
+        ("raw_from_hash_hit", Mixed, Once, Full),
+        ("raw_from_hash_miss", Absent, Once, Full),
+    ]);
+    plan.row::<RawMutFromHash, _, _>(&[("raw_mut_from_hash_hit", Mixed, Once, Full)]);
+    plan.row_alone::<GetLone, _, _>(&[
+        ("get_hit_from_one", Mixed, Once, Full),
+        ("get_miss_from_one", Absent, Once, Full),
+    ]);
+    plan.row_alone::<ContainsKey, LoneMap, _>(&[
+        ("contains_key_hit_from_one", Mixed, Once, Full),
+        ("contains_key_miss_from_one", Absent, Once, Full),
+    ]);
 }

@@ -25,6 +25,7 @@ mod plan;
 mod random;
 mod removals;
 mod request;
+mod results;
 mod sets;
 mod texts;
 mod walks;
@@ -61,13 +62,13 @@ fn refuse(rt: &HostRuntime) -> io::Result<ExitCode> {
 /// Does the requested rows at one size, and returns whether there are any.
 fn time_rows(rt: &HostRuntime, alloc: Global, request: &Request, size: usize) -> io::Result<bool> {
     let keys = Keys::new(alloc, size)?;
-    let mut plan = Plan::new(rt, request, &keys);
-    all_rows(&mut plan);
+    let plan = Plan::new(rt, request, &keys);
+    all_rows(&plan);
     plan.end()
 }
 
 /// Each row, in the order of the table.
-fn all_rows(plan: &mut Plan<'_>) {
+fn all_rows(plan: &Plan<'_>) {
     lookups::rows(plan);
     inserts::rows(plan);
     entries::rows(plan);

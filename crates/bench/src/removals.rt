@@ -1,60 +1,33 @@
 //! Removals from a map, in most rows until it is empty.
-use crate::fill::{Fill, Made, Map};
-use crate::lists::Order;
-use crate::plan::{Line, Plan, Row, fold};
+use crate::fill::Fill::Full;
+use crate::fill::Made::{Anew, Once};
+use crate::fill::Map;
+use crate::lists::Order::{Absent, AbsentAndHeld, Exchanges, Held, Mixed};
+use crate::plan::{Plan, Row, fold};
+use crate::results::removed_or;
 use hashlink::linked_hash_map::{Entry, RawEntryMut};
 
 struct Remove;
 
-impl Row for Remove {
-    type State = Map;
-
-    type Item = u64;
-
-    const LINES: &'static [Line] = &[
-        ("remove_hit", Order::Mixed, Made::Anew, Fill::Full),
-        ("remove_miss", Order::Absent, Made::Once, Fill::Full),
-    ];
-
+impl Row<Map, u64> for Remove {
     #[inline(always)]
     fn call(map: &mut Map, _place: u64, key: &u64) -> Option<u64> {
         Some(map.remove(key).unwrap_or(*key))
     }
 }
 
-/// The result for a pair that was removed, if one was.
-#[inline(always)]
-fn removed(pair: Option<(u64, u64)>, key: u64) -> Option<u64> {
-    match pair {
-        Some((stored, value)) => Some(fold(stored, value)),
-        None => Some(key),
-    }
-}
-
 struct RemoveEntry;
 
-impl Row for RemoveEntry {
-    type State = Map;
-
-    type Item = u64;
-
-    const LINES: &'static [Line] = &[("remove_entry_hit", Order::Mixed, Made::Anew, Fill::Full)];
-
+impl Row<Map, u64> for RemoveEntry {
     #[inline(always)]
     fn call(map: &mut Map, _place: u64, key: &u64) -> Option<u64> {
-        removed(map.remove_entry(key), *key)
+        removed_or(map.remove_entry(key), *key)
     }
 }
 
 struct EntryRemove;
 
-impl Row for EntryRemove {
-    type State = Map;
-
-    type Item = u64;
-
-    const LINES: &'static [Line] = &[("entry_remove_hit", Order::Mixed, Made::Anew, Fill::Full)];
-
+impl Row<Map, u64> for EntryRemove {
     #[inline(always)]
     fn call(map: &mut Map, _place: u64, key: &u64) -> Option<u64> {
         match map.entry(*key) {
@@ -66,13 +39,7 @@ impl Row for EntryRemove {
 
 struct RawRemove;
 
-impl Row for RawRemove {
-    type State = Map;
-
-    type Item = u64;
-
-    const LINES: &'static [Line] = &[("raw_remove_hit", Order::Mixed, Made::Anew, Fill::Full)];
-
+impl Row<Map, u64> for RawRemove {
     #[inline(always)]
     fn call(map: &mut Map, _place: u64, key: &u64) -> Option<u64> {
         match map.raw_entry_mut().from_key(key) {
@@ -84,44 +51,26 @@ impl Row for RawRemove {
 
 struct PopFront;
 
-impl Row for PopFront {
-    type State = Map;
-
-    type Item = u64;
-
-    const LINES: &'static [Line] = &[("pop_front", Order::Held, Made::Anew, Fill::Full)];
-
+impl Row<Map, u64> for PopFront {
     #[inline(always)]
     fn call(map: &mut Map, _place: u64, key: &u64) -> Option<u64> {
-        removed(map.pop_front(), *key)
+        removed_or(map.pop_front(), *key)
     }
 }
 
 struct PopBack;
 
-impl Row for PopBack {
-    type State = Map;
-
-    type Item = u64;
-
-    const LINES: &'static [Line] = &[("pop_back", Order::Held, Made::Anew, Fill::Full)];
-
+impl Row<Map, u64> for PopBack {
     #[inline(always)]
     fn call(map: &mut Map, _place: u64, key: &u64) -> Option<u64> {
-        removed(map.pop_back(), *key)
+        removed_or(map.pop_back(), *key)
     }
 }
 
 /// A removal of the entry at the front.
 struct CursorRemove;
 
-impl Row for CursorRemove {
-    type State = Map;
-
-    type Item = u64;
-
-    const LINES: &'static [Line] = &[("cursor_remove", Order::Held, Made::Anew, Fill::Full)];
-
+impl Row<Map, u64> for CursorRemove {
     #[inline(always)]
     fn call(map: &mut Map, _place: u64, key: &u64) -> Option<u64> {
         match map.cursor_front_mut().current_entry() {
@@ -134,13 +83,7 @@ impl Row for CursorRemove {
 /// A removal of the entry at the back.
 struct BackEntryRemove;
 
-impl Row for BackEntryRemove {
-    type State = Map;
-
-    type Item = u64;
-
-    const LINES: &'static [Line] = &[("back_entry_remove", Order::Held, Made::Anew, Fill::Full)];
-
+impl Row<Map, u64> for BackEntryRemove {
     #[inline(always)]
     fn call(map: &mut Map, _place: u64, key: &u64) -> Option<u64> {
         match map.back_entry() {
@@ -153,13 +96,7 @@ impl Row for BackEntryRemove {
 /// A removal of a present key and an insert of an absent one: the map keeps its length.
 struct Exchange;
 
-impl Row for Exchange {
-    type State = Map;
-
-    type Item = (u64, u64);
-
-    const LINES: &'static [Line] = &[("churn", Order::Exchanges, Made::Once, Fill::Full)];
-
+impl Row<Map, (u64, u64)> for Exchange {
     #[inline(always)]
     fn call(map: &mut Map, _place: u64, item: &(u64, u64)) -> Option<u64> {
         let (leaves, comes) = *item;
@@ -172,13 +109,7 @@ impl Row for Exchange {
 /// A removal of the first entry and an insert of a new key, as in a queue.
 struct Queue;
 
-impl Row for Queue {
-    type State = Map;
-
-    type Item = u64;
-
-    const LINES: &'static [Line] = &[("pop_insert", Order::AbsentAndHeld, Made::Once, Fill::Full)];
-
+impl Row<Map, u64> for Queue {
     #[inline(always)]
     fn call(map: &mut Map, place: u64, key: &u64) -> Option<u64> {
         let (first, value) = map.pop_front().unwrap_or((*key, place));
@@ -187,10 +118,19 @@ impl Row for Queue {
     }
 }
 
-pub(crate) fn rows(plan: &mut Plan<'_>) {
+pub(crate) fn rows(plan: &Plan<'_>) {
     plan.kind("removals");
-    plan.rows::<Remove, RemoveEntry, EntryRemove, RawRemove>();
-    plan.rows::<Exchange, PopFront, PopBack, CursorRemove>();
-    plan.row::<BackEntryRemove>();
-    plan.row::<Queue>();
+    plan.row::<Remove, _, _>(&[
+        ("remove_hit", Mixed, Anew, Full),
+        ("remove_miss", Absent, Once, Full),
+    ]);
+    plan.row::<RemoveEntry, _, _>(&[("remove_entry_hit", Mixed, Anew, Full)]);
+    plan.row::<EntryRemove, _, _>(&[("entry_remove_hit", Mixed, Anew, Full)]);
+    plan.row::<RawRemove, _, _>(&[("raw_remove_hit", Mixed, Anew, Full)]);
+    plan.row::<Exchange, _, _>(&[("churn", Exchanges, Once, Full)]);
+    plan.row::<PopFront, _, _>(&[("pop_front", Held, Anew, Full)]);
+    plan.row::<PopBack, _, _>(&[("pop_back", Held, Anew, Full)]);
+    plan.row::<CursorRemove, _, _>(&[("cursor_remove", Held, Anew, Full)]);
+    plan.row::<BackEntryRemove, _, _>(&[("back_entry_remove", Held, Anew, Full)]);
+    plan.row::<Queue, _, _>(&[("pop_insert", AbsentAndHeld, Once, Full)]);
 }

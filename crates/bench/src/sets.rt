@@ -2,88 +2,38 @@
 ghost use Rattle.std.specs.Prelude.{◌≡◌};
 ghost use Rattle.std.specs.Iterator.{IsFinite};
 
-use crate::fill::{Fill, LoneSet, Made, Set};
-use crate::lists::Order;
-use crate::plan::{Line, Plan, Row, fold};
+use crate::fill::Fill::{Empty, Full};
+use crate::fill::Made::{Anew, Once};
+use crate::fill::{LoneSet, Set};
+use crate::lists::Order::{Absent, AbsentAndHeld, Both, Held, Mixed, MixedByTurns, Whole};
+use crate::plan::{Plan, Row, fold};
+use crate::results::{len_after, lent_element, old_or, value_or};
 use crate::walks::sum_of;
-use std::hash::BuildHasher;
+use crate::wholes::IsEqual;
+use hashlink::LinkedHashSet;
+use std::hash::{BuildHasher, Hash};
 
 struct Contains;
 
-impl Row for Contains {
-    type State = Set;
-
-    type Item = u64;
-
-    const LINES: &'static [Line] = &[
-        ("set_contains_hit", Order::Mixed, Made::Once, Fill::Full),
-        ("set_contains_miss", Order::Absent, Made::Once, Fill::Full),
-    ];
-
+impl<T: Eq + Hash> Row<LinkedHashSet<T>, T> for Contains {
     #[inline(always)]
-    fn call(set: &mut Set, _place: u64, key: &u64) -> Option<u64> {
-        Some(u64::from(set.contains(key)))
-    }
-}
-
-struct ContainsLone;
-
-impl Row for ContainsLone {
-    type State = LoneSet;
-
-    type Item = (u64, ());
-
-    const LINES: &'static [Line] = &[
-        (
-            "set_contains_hit_from_one",
-            Order::Mixed,
-            Made::Once,
-            Fill::Full,
-        ),
-        (
-            "set_contains_miss_from_one",
-            Order::Absent,
-            Made::Once,
-            Fill::Full,
-        ),
-    ];
-
-    #[inline(always)]
-    fn call(set: &mut LoneSet, _place: u64, key: &(u64, ())) -> Option<u64> {
+    fn call(set: &mut LinkedHashSet<T>, _place: u64, key: &T) -> Option<u64> {
         Some(u64::from(set.contains(key)))
     }
 }
 
 struct Get;
 
-impl Row for Get {
-    type State = Set;
-
-    type Item = u64;
-
-    const LINES: &'static [Line] = &[
-        ("set_get_hit", Order::Mixed, Made::Once, Fill::Full),
-        ("set_get_miss", Order::Absent, Made::Once, Fill::Full),
-    ];
-
+impl Row<Set, u64> for Get {
     #[inline(always)]
     fn call(set: &mut Set, place: u64, key: &u64) -> Option<u64> {
-        Some(set.get(key).copied().unwrap_or(place))
+        value_or(set.get(key), place)
     }
 }
 
 struct Insert;
 
-impl Row for Insert {
-    type State = Set;
-
-    type Item = u64;
-
-    const LINES: &'static [Line] = &[
-        ("set_insert", Order::Held, Made::Anew, Fill::Empty),
-        ("set_update", Order::MixedByTurns, Made::Once, Fill::Full),
-    ];
-
+impl Row<Set, u64> for Insert {
     #[inline(always)]
     fn call(set: &mut Set, place: u64, key: &u64) -> Option<u64> {
         let is_new = set.insert(*key).ok()?;
@@ -93,67 +43,25 @@ impl Row for Insert {
 
 struct Replace;
 
-impl Row for Replace {
-    type State = Set;
-
-    type Item = u64;
-
-    const LINES: &'static [Line] = &[
-        ("set_replace_new", Order::Held, Made::Anew, Fill::Empty),
-        ("set_replace_present", Order::Mixed, Made::Once, Fill::Full),
-    ];
-
+impl Row<Set, u64> for Replace {
     #[inline(always)]
     fn call(set: &mut Set, place: u64, key: &u64) -> Option<u64> {
-        Some(set.replace(*key).ok()?.unwrap_or(place))
+        old_or(set.replace(*key), place)
     }
 }
 
 struct GetOrInsert;
 
-impl Row for GetOrInsert {
-    type State = Set;
-
-    type Item = u64;
-
-    const LINES: &'static [Line] = &[
-        (
-            "set_get_or_insert_new",
-            Order::Held,
-            Made::Anew,
-            Fill::Empty,
-        ),
-        (
-            "set_get_or_insert_present",
-            Order::MixedByTurns,
-            Made::Once,
-            Fill::Full,
-        ),
-    ];
-
+impl Row<Set, u64> for GetOrInsert {
     #[inline(always)]
     fn call(set: &mut Set, _place: u64, key: &u64) -> Option<u64> {
-        match set.get_or_insert(*key) {
-            Ok(element) => Some(*element),
-            Err(_) => None,
-        }
+        lent_element(set.get_or_insert(*key))
     }
 }
 
 struct ToBack;
 
-impl Row for ToBack {
-    type State = Set;
-
-    type Item = u64;
-
-    const LINES: &'static [Line] = &[(
-        "set_to_back_hit",
-        Order::MixedByTurns,
-        Made::Once,
-        Fill::Full,
-    )];
-
+impl Row<Set, u64> for ToBack {
     #[inline(always)]
     fn call(set: &mut Set, _place: u64, key: &u64) -> Option<u64> {
         Some(u64::from(set.to_back(key)))
@@ -162,16 +70,7 @@ impl Row for ToBack {
 
 struct Remove;
 
-impl Row for Remove {
-    type State = Set;
-
-    type Item = u64;
-
-    const LINES: &'static [Line] = &[
-        ("set_remove_hit", Order::Mixed, Made::Anew, Fill::Full),
-        ("set_remove_miss", Order::Absent, Made::Once, Fill::Full),
-    ];
-
+impl Row<Set, u64> for Remove {
     #[inline(always)]
     fn call(set: &mut Set, _place: u64, key: &u64) -> Option<u64> {
         Some(u64::from(set.remove(key)))
@@ -180,13 +79,7 @@ impl Row for Remove {
 
 struct Take;
 
-impl Row for Take {
-    type State = Set;
-
-    type Item = u64;
-
-    const LINES: &'static [Line] = &[("set_take_hit", Order::Mixed, Made::Anew, Fill::Full)];
-
+impl Row<Set, u64> for Take {
     #[inline(always)]
     fn call(set: &mut Set, place: u64, key: &u64) -> Option<u64> {
         Some(set.take(key).unwrap_or(place))
@@ -196,18 +89,7 @@ impl Row for Take {
 /// A removal of the first element and an insert of a new one, as in a queue.
 struct Queue;
 
-impl Row for Queue {
-    type State = Set;
-
-    type Item = u64;
-
-    const LINES: &'static [Line] = &[(
-        "set_pop_insert",
-        Order::AbsentAndHeld,
-        Made::Once,
-        Fill::Full,
-    )];
-
+impl Row<Set, u64> for Queue {
     #[inline(always)]
     fn call(set: &mut Set, place: u64, key: &u64) -> Option<u64> {
         let first = set.pop_front().unwrap_or(place);
@@ -231,13 +113,7 @@ fn sum_of_owned<I: Iterator<Item = u64> + Drop>(elements: I) -> Option<u64>
 
 struct Iter;
 
-impl Row for Iter {
-    type State = Set;
-
-    type Item = u64;
-
-    const LINES: &'static [Line] = &[("set_iter", Order::Whole, Made::Once, Fill::Full)];
-
+impl Row<Set, u64> for Iter {
     #[inline(always)]
     fn call(set: &mut Set, _place: u64, _item: &u64) -> Option<u64> {
         sum_of(set.iter())
@@ -246,13 +122,7 @@ impl Row for Iter {
 
 struct IntoIter;
 
-impl Row for IntoIter {
-    type State = Option<Set>;
-
-    type Item = u64;
-
-    const LINES: &'static [Line] = &[("set_into_iter", Order::Whole, Made::Anew, Fill::Full)];
-
+impl Row<Option<Set>, u64> for IntoIter {
     #[inline(always)]
     fn call(set: &mut Option<Set>, place: u64, _item: &u64) -> Option<u64> {
         match set.take() {
@@ -264,13 +134,7 @@ impl Row for IntoIter {
 
 struct Drain;
 
-impl Row for Drain {
-    type State = Set;
-
-    type Item = u64;
-
-    const LINES: &'static [Line] = &[("set_drain", Order::Whole, Made::Anew, Fill::Full)];
-
+impl Row<Set, u64> for Drain {
     #[inline(always)]
     fn call(set: &mut Set, _place: u64, _item: &u64) -> Option<u64> {
         sum_of_owned(set.drain())
@@ -279,13 +143,7 @@ impl Row for Drain {
 
 struct Clear;
 
-impl Row for Clear {
-    type State = Set;
-
-    type Item = u64;
-
-    const LINES: &'static [Line] = &[("set_clear", Order::Whole, Made::Anew, Fill::Full)];
-
+impl Row<Set, u64> for Clear {
     #[inline(always)]
     fn call(set: &mut Set, _place: u64, _item: &u64) -> Option<u64> {
         set.clear();
@@ -296,13 +154,7 @@ impl Row for Clear {
 /// Keeps about half of the elements.
 struct Retain;
 
-impl Row for Retain {
-    type State = Set;
-
-    type Item = u64;
-
-    const LINES: &'static [Line] = &[("set_retain", Order::Whole, Made::Anew, Fill::Full)];
-
+impl Row<Set, u64> for Retain {
     #[inline(always)]
     fn call(set: &mut Set, _place: u64, _item: &u64) -> Option<u64> {
         set.retain(|element| *element % 2 == 0);
@@ -312,13 +164,7 @@ impl Row for Retain {
 
 struct CloneAll;
 
-impl Row for CloneAll {
-    type State = (Set, Set);
-
-    type Item = u64;
-
-    const LINES: &'static [Line] = &[("set_clone", Order::Whole, Made::Anew, Fill::Empty)];
-
+impl Row<(Set, Set), u64> for CloneAll {
     #[inline(always)]
     fn call(sets: &mut (Set, Set), _place: u64, _item: &u64) -> Option<u64> {
         sets.1 = sets.0.clone().ok()?;
@@ -326,43 +172,9 @@ impl Row for CloneAll {
     }
 }
 
-struct IsEqual;
-
-impl Row for IsEqual {
-    type State = (Set, Set);
-
-    type Item = u64;
-
-    const LINES: &'static [Line] = &[("set_eq", Order::Whole, Made::Once, Fill::Full)];
-
-    #[inline(always)]
-    fn call(sets: &mut (Set, Set), _place: u64, _item: &u64) -> Option<u64> {
-        Some(u64::from(sets.0 == sets.1))
-    }
-}
-
 struct GetOrInsertWith;
 
-impl Row for GetOrInsertWith {
-    type State = Set;
-
-    type Item = u64;
-
-    const LINES: &'static [Line] = &[
-        (
-            "set_get_or_insert_with_new",
-            Order::Held,
-            Made::Anew,
-            Fill::Empty,
-        ),
-        (
-            "set_get_or_insert_with_present",
-            Order::MixedByTurns,
-            Made::Once,
-            Fill::Full,
-        ),
-    ];
-
+impl Row<Set, u64> for GetOrInsertWith {
     #[inline(always)]
     fn call(set: &mut Set, _place: u64, key: &u64) -> Option<u64> {
         let element = *key;
@@ -372,27 +184,13 @@ impl Row for GetOrInsertWith {
                 ensures given { result ≡ element }
             { element },
         );
-        match lent {
-            Ok(element) => Some(*element),
-            Err(_) => None,
-        }
+        lent_element(lent)
     }
 }
 
 struct ToFront;
 
-impl Row for ToFront {
-    type State = Set;
-
-    type Item = u64;
-
-    const LINES: &'static [Line] = &[(
-        "set_to_front_hit",
-        Order::MixedByTurns,
-        Made::Once,
-        Fill::Full,
-    )];
-
+impl Row<Set, u64> for ToFront {
     #[inline(always)]
     fn call(set: &mut Set, _place: u64, key: &u64) -> Option<u64> {
         Some(u64::from(set.to_front(key)))
@@ -402,13 +200,7 @@ impl Row for ToFront {
 /// Of both, which are hashed alike as they are equal.
 struct HashBoth;
 
-impl Row for HashBoth {
-    type State = (Set, Set);
-
-    type Item = u64;
-
-    const LINES: &'static [Line] = &[("set_hash", Order::Both, Made::Once, Fill::Full)];
-
+impl Row<(Set, Set), u64> for HashBoth {
     #[inline(always)]
     fn call(sets: &mut (Set, Set), _place: u64, _item: &u64) -> Option<u64> {
         let hasher = sets.0.hasher();
@@ -418,26 +210,58 @@ impl Row for HashBoth {
 
 struct ExtendRef;
 
-impl Row for ExtendRef {
-    type State = (Set, Set);
-
-    type Item = u64;
-
-    const LINES: &'static [Line] = &[("set_extend_ref", Order::Whole, Made::Anew, Fill::Empty)];
-
+impl Row<(Set, Set), u64> for ExtendRef {
     #[inline(always)]
     fn call(sets: &mut (Set, Set), _place: u64, _item: &u64) -> Option<u64> {
-        sets.1.extend_ref(sets.0.iter()).ok()?;
-        Some(sets.1.len() as u64)
+        len_after(sets.1.extend_ref(sets.0.iter()), sets.1.len())
     }
 }
 
-pub(crate) fn rows(plan: &mut Plan<'_>) {
+pub(crate) fn rows(plan: &Plan<'_>) {
     plan.kind("sets");
-    plan.rows::<Contains, Get, Insert, Replace>();
-    plan.rows::<GetOrInsert, ToBack, Remove, Take>();
-    plan.rows::<Queue, Iter, IntoIter, Drain>();
-    plan.rows::<Clear, Retain, CloneAll, IsEqual>();
-    plan.rows::<GetOrInsertWith, ToFront, HashBoth, ExtendRef>();
-    plan.row_alone::<ContainsLone>();
+    plan.row::<Contains, Set, _>(&[
+        ("set_contains_hit", Mixed, Once, Full),
+        ("set_contains_miss", Absent, Once, Full),
+    ]);
+    plan.row::<Get, _, _>(&[
+        ("set_get_hit", Mixed, Once, Full),
+        ("set_get_miss", Absent, Once, Full),
+    ]);
+    plan.row::<Insert, _, _>(&[
+        ("set_insert", Held, Anew, Empty),
+        ("set_update", MixedByTurns, Once, Full),
+    ]);
+    plan.row::<Replace, _, _>(&[
+        ("set_replace_new", Held, Anew, Empty),
+        ("set_replace_present", Mixed, Once, Full),
+    ]);
+    plan.row::<GetOrInsert, _, _>(&[
+        ("set_get_or_insert_new", Held, Anew, Empty),
+        ("set_get_or_insert_present", MixedByTurns, Once, Full),
+    ]);
+    plan.row::<ToBack, _, _>(&[("set_to_back_hit", MixedByTurns, Once, Full)]);
+    plan.row::<Remove, _, _>(&[
+        ("set_remove_hit", Mixed, Anew, Full),
+        ("set_remove_miss", Absent, Once, Full),
+    ]);
+    plan.row::<Take, _, _>(&[("set_take_hit", Mixed, Anew, Full)]);
+    plan.row::<Queue, _, _>(&[("set_pop_insert", AbsentAndHeld, Once, Full)]);
+    plan.row::<Iter, _, _>(&[("set_iter", Whole, Once, Full)]);
+    plan.row::<IntoIter, _, _>(&[("set_into_iter", Whole, Anew, Full)]);
+    plan.row::<Drain, _, _>(&[("set_drain", Whole, Anew, Full)]);
+    plan.row::<Clear, _, _>(&[("set_clear", Whole, Anew, Full)]);
+    plan.row::<Retain, _, _>(&[("set_retain", Whole, Anew, Full)]);
+    plan.row::<CloneAll, _, _>(&[("set_clone", Whole, Anew, Empty)]);
+    plan.row::<IsEqual, (Set, Set), _>(&[("set_eq", Whole, Once, Full)]);
+    plan.row::<GetOrInsertWith, _, _>(&[
+        ("set_get_or_insert_with_new", Held, Anew, Empty),
+        ("set_get_or_insert_with_present", MixedByTurns, Once, Full),
+    ]);
+    plan.row::<ToFront, _, _>(&[("set_to_front_hit", MixedByTurns, Once, Full)]);
+    plan.row::<HashBoth, _, _>(&[("set_hash", Both, Once, Full)]);
+    plan.row::<ExtendRef, _, _>(&[("set_extend_ref", Whole, Anew, Empty)]);
+    plan.row_alone::<Contains, LoneSet, _>(&[
+        ("set_contains_hit_from_one", Mixed, Once, Full),
+        ("set_contains_miss_from_one", Absent, Once, Full),
+    ]);
 }

@@ -1,9 +1,15 @@
 //! The calls of maps and caches whose keys are texts, which are queried by `&str`. An insert takes a copy of
 //! the text that it gets.
-use crate::fill::{Fill, Filled, Made};
+use crate::fill::Fill::{Backwards, Empty, Full, Half};
+use crate::fill::Made::{Anew, Once};
+use crate::fill::{Fill, Filled, filled_by};
 use crate::keys::Keys;
-use crate::lists::{Listed, Order, items};
-use crate::plan::{Line, Plan, Row, fold};
+use crate::lists::Order::{
+    Absent, AbsentAndHeld, Exchanges, Held, Mixed, MixedByTurns, ZipfPlaces,
+};
+use crate::lists::{Listed, items};
+use crate::plan::{Plan, Row, fold};
+use crate::results::{old_or, value_or};
 use hashlink::{LinkedHashMap, LruCache};
 use std::alloc::{AllocError, Global};
 
@@ -39,19 +45,13 @@ impl Filled for Coming {
 
 struct Insert;
 
-impl Row for Insert {
-    type State = Coming;
-
-    type Item = u64;
-
-    const LINES: &'static [Line] = &[("text_insert", Order::Held, Made::Anew, Fill::Empty)];
-
+impl Row<Coming, u64> for Insert {
     #[inline(always)]
     fn call(coming: &mut Coming, place: u64, key: &u64) -> Option<u64> {
         let Some(text) = coming.0.pop() else {
             return Some(place);
         };
-        Some(coming.1.insert(text, place).ok()?.unwrap_or(*key))
+        old_or(coming.1.insert(text, place), *key)
     }
 }
 
@@ -66,62 +66,27 @@ impl Filled for Map {
 }
 
 fn backwards(keys: &Keys) -> Option<Map> {
-    let mut coming = Coming::filled(keys, Fill::Empty)?;
-    for (place, key) in keys.held.iter().enumerate() {
-        Insert::call(&mut coming, place as u64, key)?;
-    }
+    let coming = filled_by::<Insert, _, _>(Coming::filled(keys, Fill::Empty)?, &keys.held)?;
     Some(coming.1)
 }
 
 fn in_order(keys: &Keys) -> Option<Map> {
     let texts: Vec<String> = items(keys.alloc, &keys.held, &keys.held).ok()?;
-    let mut map = LinkedHashMap::new(keys.alloc);
-    for (place, text) in texts.iter().enumerate() {
-        Update::call(&mut map, place as u64, text)?;
-    }
-    Some(map)
+    filled_by::<Update, _, _>(LinkedHashMap::new(keys.alloc), &texts)
 }
 
 struct Get;
 
-impl Row for Get {
-    type State = Map;
-
-    type Item = String;
-
-    const LINES: &'static [Line] = &[
-        ("text_get_hit", Order::Mixed, Made::Once, Fill::Backwards),
-        ("text_get_miss", Order::Absent, Made::Once, Fill::Backwards),
-    ];
-
+impl Row<Map, String> for Get {
     #[inline(always)]
     fn call(map: &mut Map, place: u64, text: &String) -> Option<u64> {
-        Some(map.get(text.as_str()).copied().unwrap_or(place))
+        value_or(map.get(text.as_str()), place)
     }
 }
 
 struct ContainsKey;
 
-impl Row for ContainsKey {
-    type State = Map;
-
-    type Item = String;
-
-    const LINES: &'static [Line] = &[
-        (
-            "text_contains_key_hit",
-            Order::Mixed,
-            Made::Once,
-            Fill::Backwards,
-        ),
-        (
-            "text_contains_key_miss",
-            Order::Absent,
-            Made::Once,
-            Fill::Backwards,
-        ),
-    ];
-
+impl Row<Map, String> for ContainsKey {
     #[inline(always)]
     fn call(map: &mut Map, _place: u64, text: &String) -> Option<u64> {
         Some(u64::from(map.contains_key(text.as_str())))
@@ -131,39 +96,17 @@ impl Row for ContainsKey {
 /// An insert, of a text that may be present.
 struct Update;
 
-impl Row for Update {
-    type State = Map;
-
-    type Item = String;
-
-    const LINES: &'static [Line] = &[(
-        "text_update",
-        Order::MixedByTurns,
-        Made::Once,
-        Fill::Backwards,
-    )];
-
+impl Row<Map, String> for Update {
     #[inline(always)]
     fn call(map: &mut Map, place: u64, text: &String) -> Option<u64> {
         let copy = text.clone().ok()?;
-        Some(map.insert(copy, place).ok()?.unwrap_or(place))
+        old_or(map.insert(copy, place), place)
     }
 }
 
 struct Remove;
 
-impl Row for Remove {
-    type State = Map;
-
-    type Item = String;
-
-    const LINES: &'static [Line] = &[(
-        "text_remove_hit",
-        Order::Mixed,
-        Made::Anew,
-        Fill::Backwards,
-    )];
-
+impl Row<Map, String> for Remove {
     #[inline(always)]
     fn call(map: &mut Map, place: u64, text: &String) -> Option<u64> {
         Some(map.remove(text.as_str()).unwrap_or(place))
@@ -173,13 +116,7 @@ impl Row for Remove {
 /// A removal of a present text and an insert of an absent one.
 struct Exchange;
 
-impl Row for Exchange {
-    type State = Map;
-
-    type Item = (String, String);
-
-    const LINES: &'static [Line] = &[("text_churn", Order::Exchanges, Made::Once, Fill::Full)];
-
+impl Row<Map, (String, String)> for Exchange {
     #[inline(always)]
     fn call(map: &mut Map, place: u64, item: &(String, String)) -> Option<u64> {
         let left = map.remove(item.0.as_str()).unwrap_or(u64::MAX);
@@ -190,18 +127,7 @@ impl Row for Exchange {
 /// A removal of the first entry and an insert of a text, as in a queue.
 struct Queue;
 
-impl Row for Queue {
-    type State = Map;
-
-    type Item = String;
-
-    const LINES: &'static [Line] = &[(
-        "text_pop_insert",
-        Order::AbsentAndHeld,
-        Made::Once,
-        Fill::Full,
-    )];
-
+impl Row<Map, String> for Queue {
     #[inline(always)]
     fn call(map: &mut Map, place: u64, text: &String) -> Option<u64> {
         let first = match map.pop_front() {
@@ -223,85 +149,41 @@ fn last_byte(text: &str) -> u64 {
 impl Filled for Cache {
     fn filled(keys: &Keys, _fill: Fill) -> Option<Cache> {
         let texts: Vec<String> = items(keys.alloc, &keys.held, &keys.held).ok()?;
-        let mut cache = LruCache::new(keys.alloc, keys.size());
-        for (place, text) in texts.iter().enumerate() {
-            CacheInsert::call(&mut cache, place as u64, text)?;
-        }
-        Some(cache)
+        filled_by::<CacheInsert, _, _>(LruCache::new(keys.alloc, keys.size()), &texts)
     }
 }
 
 struct CachePeek;
 
-impl Row for CachePeek {
-    type State = Cache;
-
-    type Item = String;
-
-    const LINES: &'static [Line] = &[
-        ("lru_text_peek_hit", Order::Mixed, Made::Once, Fill::Full),
-        ("lru_text_peek_miss", Order::Absent, Made::Once, Fill::Full),
-    ];
-
+impl Row<Cache, String> for CachePeek {
     #[inline(always)]
     fn call(cache: &mut Cache, place: u64, text: &String) -> Option<u64> {
-        Some(cache.peek(text.as_str()).copied().unwrap_or(place))
+        value_or(cache.peek(text.as_str()), place)
     }
 }
 
 struct CacheGet;
 
-impl Row for CacheGet {
-    type State = Cache;
-
-    type Item = String;
-
-    const LINES: &'static [Line] = &[
-        (
-            "lru_text_get_hit",
-            Order::MixedByTurns,
-            Made::Once,
-            Fill::Full,
-        ),
-        ("lru_text_get_miss", Order::Absent, Made::Once, Fill::Full),
-    ];
-
+impl Row<Cache, String> for CacheGet {
     #[inline(always)]
     fn call(cache: &mut Cache, place: u64, text: &String) -> Option<u64> {
-        Some(cache.get(text.as_str()).copied().unwrap_or(place))
+        value_or(cache.get(text.as_str()), place)
     }
 }
 
 struct CacheInsert;
 
-impl Row for CacheInsert {
-    type State = Cache;
-
-    type Item = String;
-
-    const LINES: &'static [Line] = &[(
-        "lru_text_insert_new",
-        Order::AbsentAndHeld,
-        Made::Once,
-        Fill::Full,
-    )];
-
+impl Row<Cache, String> for CacheInsert {
     #[inline(always)]
     fn call(cache: &mut Cache, place: u64, text: &String) -> Option<u64> {
         let copy = text.clone().ok()?;
-        Some(cache.insert(copy, place).ok()?.unwrap_or(place))
+        old_or(cache.insert(copy, place), place)
     }
 }
 
 struct CacheRemove;
 
-impl Row for CacheRemove {
-    type State = Cache;
-
-    type Item = String;
-
-    const LINES: &'static [Line] = &[("lru_text_remove_hit", Order::Mixed, Made::Anew, Fill::Full)];
-
+impl Row<Cache, String> for CacheRemove {
     #[inline(always)]
     fn call(cache: &mut Cache, place: u64, text: &String) -> Option<u64> {
         Some(cache.remove(text.as_str()).unwrap_or(place))
@@ -324,16 +206,7 @@ impl Filled for Uses {
 /// A look-up of the text at an index, and an insert of a copy of it if it is absent.
 struct UseText;
 
-impl Row for UseText {
-    type State = Uses;
-
-    type Item = u64;
-
-    const LINES: &'static [Line] = &[
-        ("lru_text", Order::ZipfPlaces, Made::Once, Fill::Half),
-        ("statement_get", Order::ZipfPlaces, Made::Once, Fill::Empty),
-    ];
-
+impl Row<Uses, u64> for UseText {
     #[inline(always)]
     fn call(uses: &mut Uses, place: u64, at: &u64) -> Option<u64> {
         let Some(text) = uses.0.get(*at as usize) else {
@@ -343,7 +216,7 @@ impl Row for UseText {
             return Some(*value);
         }
         let copy = text.clone().ok()?;
-        Some(uses.1.insert(copy, place).ok()?.unwrap_or(*at))
+        old_or(uses.1.insert(copy, place), *at)
     }
 }
 
@@ -384,8 +257,7 @@ fn use_each(uses: &mut Uses, keys: &Keys) -> Option<()> {
 fn tokens(keys: &Keys) -> Option<Uses> {
     let texts = texts_of(keys, true).ok()?;
     let mut uses = (texts, LruCache::new(keys.alloc, keys.half()));
-    use_each(&mut uses, keys)?;
-    Some(uses)
+    use_each(&mut uses, keys).is_some().then_some(uses)
 }
 
 /// Statements, and an empty cache for all of them.
@@ -394,9 +266,33 @@ fn statements(keys: &Keys) -> Option<Uses> {
     Some((texts, LruCache::new(keys.alloc, keys.size())))
 }
 
-pub(crate) fn rows(plan: &mut Plan<'_>) {
+pub(crate) fn rows(plan: &Plan<'_>) {
     plan.kind("texts");
-    plan.rows::<Insert, Update, Get, ContainsKey>();
-    plan.rows::<Remove, Exchange, Queue, CachePeek>();
-    plan.rows::<CacheGet, CacheInsert, CacheRemove, UseText>();
+    plan.row::<Insert, _, _>(&[("text_insert", Held, Anew, Empty)]);
+    plan.row::<Update, _, _>(&[("text_update", MixedByTurns, Once, Backwards)]);
+    plan.row::<Get, _, _>(&[
+        ("text_get_hit", Mixed, Once, Backwards),
+        ("text_get_miss", Absent, Once, Backwards),
+    ]);
+    plan.row::<ContainsKey, _, _>(&[
+        ("text_contains_key_hit", Mixed, Once, Backwards),
+        ("text_contains_key_miss", Absent, Once, Backwards),
+    ]);
+    plan.row::<Remove, _, _>(&[("text_remove_hit", Mixed, Anew, Backwards)]);
+    plan.row::<Exchange, _, _>(&[("text_churn", Exchanges, Once, Full)]);
+    plan.row::<Queue, _, _>(&[("text_pop_insert", AbsentAndHeld, Once, Full)]);
+    plan.row::<CachePeek, _, _>(&[
+        ("lru_text_peek_hit", Mixed, Once, Full),
+        ("lru_text_peek_miss", Absent, Once, Full),
+    ]);
+    plan.row::<CacheGet, _, _>(&[
+        ("lru_text_get_hit", MixedByTurns, Once, Full),
+        ("lru_text_get_miss", Absent, Once, Full),
+    ]);
+    plan.row::<CacheInsert, _, _>(&[("lru_text_insert_new", AbsentAndHeld, Once, Full)]);
+    plan.row::<CacheRemove, _, _>(&[("lru_text_remove_hit", Mixed, Anew, Full)]);
+    plan.row::<UseText, _, _>(&[
+        ("lru_text", ZipfPlaces, Once, Half),
+        ("statement_get", ZipfPlaces, Once, Empty),
+    ]);
 }

@@ -1,9 +1,11 @@
 //! Iterators over a map, some dropped in the middle, and a cursor's walk.
 ghost use Rattle.std.specs.Iterator.{IsFinite};
 
-use crate::fill::{Fill, Made, Map};
-use crate::lists::Order;
-use crate::plan::{Line, Plan, Row, fold};
+use crate::fill::Fill::{Full, Moved};
+use crate::fill::Made::{Anew, Once};
+use crate::fill::Map;
+use crate::lists::Order::{Mixed, Whole};
+use crate::plan::{Plan, Row, fold};
 use hashlink::LinkedHashMap;
 use std::mem;
 
@@ -50,16 +52,7 @@ pub(crate) fn sum_of<'a, I: Iterator<Item = &'a u64> + Drop>(numbers: I) -> Opti
 
 struct Iter;
 
-impl Row for Iter {
-    type State = Map;
-
-    type Item = u64;
-
-    const LINES: &'static [Line] = &[
-        ("iter", Order::Whole, Made::Once, Fill::Full),
-        ("iter_moved", Order::Whole, Made::Once, Fill::Moved),
-    ];
-
+impl Row<Map, u64> for Iter {
     #[inline(always)]
     fn call(map: &mut Map, _place: u64, _item: &u64) -> Option<u64> {
         sum_of_pairs(map.iter())
@@ -68,13 +61,7 @@ impl Row for Iter {
 
 struct IterReversed;
 
-impl Row for IterReversed {
-    type State = Map;
-
-    type Item = u64;
-
-    const LINES: &'static [Line] = &[("iter_reversed", Order::Whole, Made::Once, Fill::Full)];
-
+impl Row<Map, u64> for IterReversed {
     #[inline(always)]
     fn call(map: &mut Map, _place: u64, _item: &u64) -> Option<u64> {
         sum_of_pairs(map.iter().rev())
@@ -83,13 +70,7 @@ impl Row for IterReversed {
 
 struct IterHalf;
 
-impl Row for IterHalf {
-    type State = Map;
-
-    type Item = u64;
-
-    const LINES: &'static [Line] = &[("iter_half", Order::Whole, Made::Once, Fill::Full)];
-
+impl Row<Map, u64> for IterHalf {
     #[inline(always)]
     fn call(map: &mut Map, _place: u64, _item: &u64) -> Option<u64> {
         sum_of_pairs(map.iter().take(map.len() / 2))
@@ -98,13 +79,7 @@ impl Row for IterHalf {
 
 struct Keys;
 
-impl Row for Keys {
-    type State = Map;
-
-    type Item = u64;
-
-    const LINES: &'static [Line] = &[("keys", Order::Whole, Made::Once, Fill::Full)];
-
+impl Row<Map, u64> for Keys {
     #[inline(always)]
     fn call(map: &mut Map, _place: u64, _item: &u64) -> Option<u64> {
         sum_of(map.keys())
@@ -113,13 +88,7 @@ impl Row for Keys {
 
 struct Values;
 
-impl Row for Values {
-    type State = Map;
-
-    type Item = u64;
-
-    const LINES: &'static [Line] = &[("values", Order::Whole, Made::Once, Fill::Full)];
-
+impl Row<Map, u64> for Values {
     #[inline(always)]
     fn call(map: &mut Map, _place: u64, _item: &u64) -> Option<u64> {
         sum_of(map.values())
@@ -129,13 +98,7 @@ impl Row for Values {
 /// Adds one to each value.
 struct IterMut;
 
-impl Row for IterMut {
-    type State = Map;
-
-    type Item = u64;
-
-    const LINES: &'static [Line] = &[("iter_mut", Order::Whole, Made::Once, Fill::Full)];
-
+impl Row<Map, u64> for IterMut {
     #[inline(always)]
     fn call(map: &mut Map, _place: u64, _item: &u64) -> Option<u64> {
         let mut sum: u64 = 0;
@@ -153,13 +116,7 @@ impl Row for IterMut {
 /// The same from the back.
 struct IterMutReversed;
 
-impl Row for IterMutReversed {
-    type State = Map;
-
-    type Item = u64;
-
-    const LINES: &'static [Line] = &[("iter_mut_reversed", Order::Whole, Made::Once, Fill::Full)];
-
+impl Row<Map, u64> for IterMutReversed {
     #[inline(always)]
     fn call(map: &mut Map, _place: u64, _item: &u64) -> Option<u64> {
         let mut sum: u64 = 0;
@@ -177,13 +134,7 @@ impl Row for IterMutReversed {
 /// Adds one to each value.
 struct ValuesMut;
 
-impl Row for ValuesMut {
-    type State = Map;
-
-    type Item = u64;
-
-    const LINES: &'static [Line] = &[("values_mut", Order::Whole, Made::Once, Fill::Full)];
-
+impl Row<Map, u64> for ValuesMut {
     #[inline(always)]
     fn call(map: &mut Map, _place: u64, _item: &u64) -> Option<u64> {
         let mut sum: u64 = 0;
@@ -201,13 +152,7 @@ impl Row for ValuesMut {
 /// Adds one to each value in the second half, from the back.
 struct ValuesMutHalf;
 
-impl Row for ValuesMutHalf {
-    type State = Map;
-
-    type Item = u64;
-
-    const LINES: &'static [Line] = &[("values_mut_half", Order::Whole, Made::Once, Fill::Full)];
-
+impl Row<Map, u64> for ValuesMutHalf {
     #[inline(always)]
     fn call(map: &mut Map, _place: u64, _item: &u64) -> Option<u64> {
         let mut sum: u64 = 0;
@@ -231,16 +176,7 @@ fn take_all(map: &mut Map) -> Map {
 
 struct IntoIter;
 
-impl Row for IntoIter {
-    type State = Map;
-
-    type Item = u64;
-
-    const LINES: &'static [Line] = &[
-        ("into_iter", Order::Whole, Made::Anew, Fill::Full),
-        ("into_iter_moved", Order::Whole, Made::Anew, Fill::Moved),
-    ];
-
+impl Row<Map, u64> for IntoIter {
     #[inline(always)]
     fn call(map: &mut Map, _place: u64, _item: &u64) -> Option<u64> {
         sum_of_owned(take_all(map).into_iter())
@@ -249,13 +185,7 @@ impl Row for IntoIter {
 
 struct IntoIterReversed;
 
-impl Row for IntoIterReversed {
-    type State = Map;
-
-    type Item = u64;
-
-    const LINES: &'static [Line] = &[("into_iter_reversed", Order::Whole, Made::Anew, Fill::Full)];
-
+impl Row<Map, u64> for IntoIterReversed {
     #[inline(always)]
     fn call(map: &mut Map, _place: u64, _item: &u64) -> Option<u64> {
         sum_of_owned(take_all(map).into_iter().rev())
@@ -264,13 +194,7 @@ impl Row for IntoIterReversed {
 
 struct IntoIterHalf;
 
-impl Row for IntoIterHalf {
-    type State = Map;
-
-    type Item = u64;
-
-    const LINES: &'static [Line] = &[("into_iter_half", Order::Whole, Made::Anew, Fill::Full)];
-
+impl Row<Map, u64> for IntoIterHalf {
     #[inline(always)]
     fn call(map: &mut Map, _place: u64, _item: &u64) -> Option<u64> {
         let half = map.len() / 2;
@@ -280,13 +204,7 @@ impl Row for IntoIterHalf {
 
 struct Drain;
 
-impl Row for Drain {
-    type State = Map;
-
-    type Item = u64;
-
-    const LINES: &'static [Line] = &[("drain", Order::Whole, Made::Anew, Fill::Full)];
-
+impl Row<Map, u64> for Drain {
     #[inline(always)]
     fn call(map: &mut Map, _place: u64, _item: &u64) -> Option<u64> {
         sum_of_owned(map.drain())
@@ -295,13 +213,7 @@ impl Row for Drain {
 
 struct DrainHalf;
 
-impl Row for DrainHalf {
-    type State = Map;
-
-    type Item = u64;
-
-    const LINES: &'static [Line] = &[("drain_half", Order::Whole, Made::Anew, Fill::Full)];
-
+impl Row<Map, u64> for DrainHalf {
     #[inline(always)]
     fn call(map: &mut Map, _place: u64, _item: &u64) -> Option<u64> {
         let half = map.len() / 2;
@@ -312,13 +224,7 @@ impl Row for DrainHalf {
 /// A cursor from the front to the back.
 struct CursorWalk;
 
-impl Row for CursorWalk {
-    type State = Map;
-
-    type Item = u64;
-
-    const LINES: &'static [Line] = &[("cursor_walk", Order::Whole, Made::Once, Fill::Full)];
-
+impl Row<Map, u64> for CursorWalk {
     #[inline(always)]
     fn call(map: &mut Map, _place: u64, _item: &u64) -> Option<u64> {
         let mut sum: u64 = 0;
@@ -337,13 +243,7 @@ impl Row for CursorWalk {
 /// Reads four entries, from that of the key on.
 struct IterFrom;
 
-impl Row for IterFrom {
-    type State = Map;
-
-    type Item = u64;
-
-    const LINES: &'static [Line] = &[("iter_from", Order::Mixed, Made::Once, Fill::Full)];
-
+impl Row<Map, u64> for IterFrom {
     #[inline(always)]
     fn call(map: &mut Map, _place: u64, key: &u64) -> Option<u64> {
         sum_of_pairs(map.iter_from(key).take(4))
@@ -352,13 +252,7 @@ impl Row for IterFrom {
 
 struct KeysReversed;
 
-impl Row for KeysReversed {
-    type State = Map;
-
-    type Item = u64;
-
-    const LINES: &'static [Line] = &[("keys_reversed", Order::Whole, Made::Once, Fill::Full)];
-
+impl Row<Map, u64> for KeysReversed {
     #[inline(always)]
     fn call(map: &mut Map, _place: u64, _item: &u64) -> Option<u64> {
         sum_of(map.keys().rev())
@@ -367,13 +261,7 @@ impl Row for KeysReversed {
 
 struct ValuesReversed;
 
-impl Row for ValuesReversed {
-    type State = Map;
-
-    type Item = u64;
-
-    const LINES: &'static [Line] = &[("values_reversed", Order::Whole, Made::Once, Fill::Full)];
-
+impl Row<Map, u64> for ValuesReversed {
     #[inline(always)]
     fn call(map: &mut Map, _place: u64, _item: &u64) -> Option<u64> {
         sum_of(map.values().rev())
@@ -382,26 +270,38 @@ impl Row for ValuesReversed {
 
 struct DrainReversed;
 
-impl Row for DrainReversed {
-    type State = Map;
-
-    type Item = u64;
-
-    const LINES: &'static [Line] = &[("drain_reversed", Order::Whole, Made::Anew, Fill::Full)];
-
+impl Row<Map, u64> for DrainReversed {
     #[inline(always)]
     fn call(map: &mut Map, _place: u64, _item: &u64) -> Option<u64> {
         sum_of_owned(map.drain().rev())
     }
 }
 
-pub(crate) fn rows(plan: &mut Plan<'_>) {
+pub(crate) fn rows(plan: &Plan<'_>) {
     plan.kind("walks");
-    plan.rows::<Iter, IterReversed, IterHalf, IterFrom>();
-    plan.rows::<Keys, Values, IterMut, IterMutReversed>();
-    plan.rows::<ValuesMut, ValuesMutHalf, CursorWalk, IntoIter>();
-    plan.rows::<IntoIterReversed, IntoIterHalf, Drain, DrainHalf>();
-    plan.row::<KeysReversed>();
-    plan.row::<ValuesReversed>();
-    plan.row::<DrainReversed>();
+    plan.row::<Iter, _, _>(&[
+        ("iter", Whole, Once, Full),
+        ("iter_moved", Whole, Once, Moved),
+    ]);
+    plan.row::<IterReversed, _, _>(&[("iter_reversed", Whole, Once, Full)]);
+    plan.row::<IterHalf, _, _>(&[("iter_half", Whole, Once, Full)]);
+    plan.row::<IterFrom, _, _>(&[("iter_from", Mixed, Once, Full)]);
+    plan.row::<Keys, _, _>(&[("keys", Whole, Once, Full)]);
+    plan.row::<Values, _, _>(&[("values", Whole, Once, Full)]);
+    plan.row::<IterMut, _, _>(&[("iter_mut", Whole, Once, Full)]);
+    plan.row::<IterMutReversed, _, _>(&[("iter_mut_reversed", Whole, Once, Full)]);
+    plan.row::<ValuesMut, _, _>(&[("values_mut", Whole, Once, Full)]);
+    plan.row::<ValuesMutHalf, _, _>(&[("values_mut_half", Whole, Once, Full)]);
+    plan.row::<CursorWalk, _, _>(&[("cursor_walk", Whole, Once, Full)]);
+    plan.row::<IntoIter, _, _>(&[
+        ("into_iter", Whole, Anew, Full),
+        ("into_iter_moved", Whole, Anew, Moved),
+    ]);
+    plan.row::<IntoIterReversed, _, _>(&[("into_iter_reversed", Whole, Anew, Full)]);
+    plan.row::<IntoIterHalf, _, _>(&[("into_iter_half", Whole, Anew, Full)]);
+    plan.row::<Drain, _, _>(&[("drain", Whole, Anew, Full)]);
+    plan.row::<DrainHalf, _, _>(&[("drain_half", Whole, Anew, Full)]);
+    plan.row::<KeysReversed, _, _>(&[("keys_reversed", Whole, Once, Full)]);
+    plan.row::<ValuesReversed, _, _>(&[("values_reversed", Whole, Once, Full)]);
+    plan.row::<DrainReversed, _, _>(&[("drain_reversed", Whole, Anew, Full)]);
 }

@@ -1,20 +1,18 @@
 //! Calls that go over all entries of a map, or of two.
-use crate::fill::{Fill, Filled, Made, Map};
+use crate::fill::Fill::{Empty, Full, Thinned};
+use crate::fill::Made::{Anew, Once};
+use crate::fill::{Fill, Filled, Map};
 use crate::keys::Keys;
-use crate::lists::{Order, items};
-use crate::plan::{Line, Plan, Row};
+use crate::lists::Order::{Both, Whole};
+use crate::lists::items;
+use crate::plan::{Plan, Row};
+use crate::results::{is_even, len_after};
 use hashlink::LinkedHashMap;
 use std::hash::BuildHasher;
 
 struct Clear;
 
-impl Row for Clear {
-    type State = Map;
-
-    type Item = u64;
-
-    const LINES: &'static [Line] = &[("clear", Order::Whole, Made::Anew, Fill::Full)];
-
+impl Row<Map, u64> for Clear {
     #[inline(always)]
     fn call(map: &mut Map, _place: u64, _item: &u64) -> Option<u64> {
         map.clear();
@@ -25,13 +23,7 @@ impl Row for Clear {
 /// The end of a map: its drop.
 struct End;
 
-impl Row for End {
-    type State = Map;
-
-    type Item = u64;
-
-    const LINES: &'static [Line] = &[("drop", Order::Whole, Made::Anew, Fill::Full)];
-
+impl Row<Map, u64> for End {
     #[inline(always)]
     fn call(map: &mut Map, _place: u64, _item: &u64) -> Option<u64> {
         *map = LinkedHashMap::new(map.allocator());
@@ -42,62 +34,36 @@ impl Row for End {
 /// Keeps about half of the entries.
 struct Retain;
 
-impl Row for Retain {
-    type State = Map;
-
-    type Item = u64;
-
-    const LINES: &'static [Line] = &[("retain", Order::Whole, Made::Anew, Fill::Full)];
-
+impl Row<Map, u64> for Retain {
     #[inline(always)]
     fn call(map: &mut Map, _place: u64, _item: &u64) -> Option<u64> {
-        map.retain(|key, _| *key % 2 == 0);
+        map.retain(is_even);
         Some(map.len() as u64)
     }
 }
 
 struct Reserve;
 
-impl Row for Reserve {
-    type State = Map;
-
-    type Item = u64;
-
-    const LINES: &'static [Line] = &[("reserve", Order::Whole, Made::Anew, Fill::Full)];
-
+impl Row<Map, u64> for Reserve {
     #[inline(always)]
     fn call(map: &mut Map, _place: u64, _item: &u64) -> Option<u64> {
-        map.reserve(map.len()).ok()?;
-        Some(map.len() as u64)
+        len_after(map.reserve(map.len()), map.len())
     }
 }
 
 /// Frees the room that no entry needs, and the free nodes.
 struct Shrink;
 
-impl Row for Shrink {
-    type State = Map;
-
-    type Item = u64;
-
-    const LINES: &'static [Line] = &[("shrink_to_fit", Order::Whole, Made::Anew, Fill::Thinned)];
-
+impl Row<Map, u64> for Shrink {
     #[inline(always)]
     fn call(map: &mut Map, _place: u64, _item: &u64) -> Option<u64> {
-        map.shrink_to_fit().ok()?;
-        Some(map.len() as u64)
+        len_after(map.shrink_to_fit(), map.len())
     }
 }
 
 struct CloneAll;
 
-impl Row for CloneAll {
-    type State = (Map, Map);
-
-    type Item = u64;
-
-    const LINES: &'static [Line] = &[("clone", Order::Whole, Made::Anew, Fill::Empty)];
-
+impl Row<(Map, Map), u64> for CloneAll {
     #[inline(always)]
     fn call(maps: &mut (Map, Map), _place: u64, _item: &u64) -> Option<u64> {
         maps.1 = maps.0.clone().ok()?;
@@ -107,44 +73,26 @@ impl Row for CloneAll {
 
 struct ExtendRef;
 
-impl Row for ExtendRef {
-    type State = (Map, Map);
-
-    type Item = u64;
-
-    const LINES: &'static [Line] = &[("extend_ref", Order::Whole, Made::Anew, Fill::Empty)];
-
+impl Row<(Map, Map), u64> for ExtendRef {
     #[inline(always)]
     fn call(maps: &mut (Map, Map), _place: u64, _item: &u64) -> Option<u64> {
-        maps.1.extend_ref(maps.0.iter()).ok()?;
-        Some(maps.1.len() as u64)
+        len_after(maps.1.extend_ref(maps.0.iter()), maps.1.len())
     }
 }
 
-struct IsEqual;
+/// Of two maps or two sets.
+pub(crate) struct IsEqual;
 
-impl Row for IsEqual {
-    type State = (Map, Map);
-
-    type Item = u64;
-
-    const LINES: &'static [Line] = &[("eq", Order::Whole, Made::Once, Fill::Full)];
-
+impl<C: PartialEq> Row<(C, C), u64> for IsEqual {
     #[inline(always)]
-    fn call(maps: &mut (Map, Map), _place: u64, _item: &u64) -> Option<u64> {
-        Some(u64::from(maps.0 == maps.1))
+    fn call(both: &mut (C, C), _place: u64, _item: &u64) -> Option<u64> {
+        Some(u64::from(both.0 == both.1))
     }
 }
 
 struct IsAtMost;
 
-impl Row for IsAtMost {
-    type State = (Map, Map);
-
-    type Item = u64;
-
-    const LINES: &'static [Line] = &[("le", Order::Whole, Made::Once, Fill::Full)];
-
+impl Row<(Map, Map), u64> for IsAtMost {
     #[inline(always)]
     fn call(maps: &mut (Map, Map), _place: u64, _item: &u64) -> Option<u64> {
         Some(u64::from(maps.0 <= maps.1))
@@ -154,13 +102,7 @@ impl Row for IsAtMost {
 /// Hashes both maps. The hashes are equal because the maps are.
 struct HashBoth;
 
-impl Row for HashBoth {
-    type State = (Map, Map);
-
-    type Item = u64;
-
-    const LINES: &'static [Line] = &[("hash", Order::Both, Made::Once, Fill::Full)];
-
+impl Row<(Map, Map), u64> for HashBoth {
     #[inline(always)]
     fn call(maps: &mut (Map, Map), _place: u64, _item: &u64) -> Option<u64> {
         let hasher = maps.0.hasher();
@@ -181,13 +123,7 @@ impl Filled for Pairs {
 
 struct Build;
 
-impl Row for Build {
-    type State = Pairs;
-
-    type Item = u64;
-
-    const LINES: &'static [Line] = &[("from_iter", Order::Whole, Made::Anew, Fill::Empty)];
-
+impl Row<Pairs, u64> for Build {
     #[inline(always)]
     fn call(pairs: &mut Pairs, _place: u64, _item: &u64) -> Option<u64> {
         let alloc = pairs.1.allocator();
@@ -198,61 +134,49 @@ impl Row for Build {
 
 struct Extend;
 
-impl Row for Extend {
-    type State = Pairs;
-
-    type Item = u64;
-
-    const LINES: &'static [Line] = &[("extend", Order::Whole, Made::Anew, Fill::Empty)];
-
+impl Row<Pairs, u64> for Extend {
     #[inline(always)]
     fn call(pairs: &mut Pairs, _place: u64, _item: &u64) -> Option<u64> {
-        pairs.1.extend(pairs.0.iter().copied()).ok()?;
-        Some(pairs.1.len() as u64)
+        len_after(pairs.1.extend(pairs.0.iter().copied()), pairs.1.len())
     }
 }
 
 /// By an iterator that is kept.
 struct ExtendFrom;
 
-impl Row for ExtendFrom {
-    type State = Pairs;
-
-    type Item = u64;
-
-    const LINES: &'static [Line] = &[("extend_from", Order::Whole, Made::Anew, Fill::Empty)];
-
+impl Row<Pairs, u64> for ExtendFrom {
     #[inline(always)]
     fn call(pairs: &mut Pairs, _place: u64, _item: &u64) -> Option<u64> {
         let mut items = pairs.0.iter().copied();
-        pairs.1.extend_from(&mut items).ok()?;
-        Some(pairs.1.len() as u64)
+        len_after(pairs.1.extend_from(&mut items), pairs.1.len())
     }
 }
 
-/// By a closure that is kept.
+/// By a function that is kept.
 struct RetainFrom;
 
-impl Row for RetainFrom {
-    type State = Map;
-
-    type Item = u64;
-
-    const LINES: &'static [Line] = &[("retain_from", Order::Whole, Made::Anew, Fill::Full)];
-
+impl Row<Map, u64> for RetainFrom {
     #[inline(always)]
     fn call(map: &mut Map, _place: u64, _item: &u64) -> Option<u64> {
-        let mut is_even = |key: &u64, _value: &mut u64| *key % 2 == 0;
         map.retain_from(&mut is_even);
         Some(map.len() as u64)
     }
 }
 
-pub(crate) fn rows(plan: &mut Plan<'_>) {
+pub(crate) fn rows(plan: &Plan<'_>) {
     plan.kind("wholes");
-    plan.rows::<Clear, End, Retain, Reserve>();
-    plan.rows::<Shrink, Build, Extend, CloneAll>();
-    plan.rows::<ExtendRef, IsEqual, IsAtMost, HashBoth>();
-    plan.row::<ExtendFrom>();
-    plan.row::<RetainFrom>();
+    plan.row::<Clear, _, _>(&[("clear", Whole, Anew, Full)]);
+    plan.row::<End, _, _>(&[("drop", Whole, Anew, Full)]);
+    plan.row::<Retain, _, _>(&[("retain", Whole, Anew, Full)]);
+    plan.row::<Reserve, _, _>(&[("reserve", Whole, Anew, Full)]);
+    plan.row::<Shrink, _, _>(&[("shrink_to_fit", Whole, Anew, Thinned)]);
+    plan.row::<Build, _, _>(&[("from_iter", Whole, Anew, Empty)]);
+    plan.row::<Extend, _, _>(&[("extend", Whole, Anew, Empty)]);
+    plan.row::<CloneAll, _, _>(&[("clone", Whole, Anew, Empty)]);
+    plan.row::<ExtendRef, _, _>(&[("extend_ref", Whole, Anew, Empty)]);
+    plan.row::<IsEqual, (Map, Map), _>(&[("eq", Whole, Once, Full)]);
+    plan.row::<IsAtMost, _, _>(&[("le", Whole, Once, Full)]);
+    plan.row::<HashBoth, _, _>(&[("hash", Both, Once, Full)]);
+    plan.row::<ExtendFrom, _, _>(&[("extend_from", Whole, Anew, Empty)]);
+    plan.row::<RetainFrom, _, _>(&[("retain_from", Whole, Anew, Full)]);
 }

@@ -4,7 +4,7 @@ use Rattle.std.proofs.Common.{is_some, refl, sym, ap, ◌∙◌, ◌||◌}
 use Rattle.std.specs.List.{find}
 use Rattle.std.specs.Map.{keys_of}
 use Rattle.std.specs.Set.{is_member}
-use Rattle.bench.proofs.sets.GetOrInsertWithRow.call.Goals as goal
+use Rattle.bench.proofs.sets.GetOrInsertWithRowSetU64.call.Goals as goal
 
 found : (b : Bool) (y : ℕ) (o : Option ℕ) (m : Bool) → is_some o ≡ m → is_some (cond b (Some y) o) ≡ (b || m)
 found true y o m same = refl
