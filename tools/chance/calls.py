@@ -1,14 +1,15 @@
-"""The calls of random rows: the lines of each kind of row.
+"""The calls of random rows: how often a row is of each kind, and a call of each group.
 
-A word in capitals is a symbol. It stands for a number or an item, which rows.py draws, or for one of the
-lines of SYMBOLS. A symbol with `?` may be left out, and one with `*` may occur any number of times. A number
-in front of a line is its weight among the lines.
+The lines of the calls are in plain_list, beside their answers. A word in capitals is a symbol. It stands for a
+number or an item, which rows.py draws, or for one of the lines of SYMBOLS. A symbol with `?` may be left out, and
+one with `*` may occur any number of times. A number in front of a line is its weight among the lines.
 """
 
-from plain_list.commands import ENTRY_NUMBERS, NUMBERS, STEP_NUMBERS
+from plain_list.caches import CacheModel, WeightedModel
+from plain_list.commands import ENTRY_NUMBERS, NUMBERS, OFTEN, SELDOM, STEP_NUMBERS
+from plain_list.model import Model
+from plain_list.sets import SetModel
 from plain_list.texts import PAIR_WORDS
-
-from .texts import OFTEN, SELDOM
 
 
 def spelled(numbers):
@@ -68,95 +69,6 @@ SYMBOLS = {
 SYMBOLS["COMMAND_MOVE"] = spelled(STEP_NUMBERS)
 SYMBOLS["COMMAND_ENTRY"] = (*spelled(ENTRY_NUMBERS), "5 replace_key", "5 remove_entry")
 
-#: calls of a map and of a cache about many pairs
-MANY = ("extend PAIR*", "extend_from PAIR*", "extend_kept PAIR*", "extend_by_trait PAIR*")
-WALKS = (
-    *("2 iter STEP* CLONED?", "keys STEP* CLONED?", "values STEP* CLONED?"),
-    "2 iter_mut PAIR_STEP*",
-)
-READS = ("get KEY", "contains_key KEY", "len", "is_empty", "back")
-
-MAP = {
-    "read": (
-        *(*READS, "front", "get_key_value KEY", "index KEY", "2 raw_read WAY KEY"),
-        *("room SIZE", "capacity SIZE", "under SIZE"),
-    ),
-    "put": (
-        *("6 insert KEY VALUE", "3 insert_front KEY VALUE", "3 replace KEY VALUE"),
-        *("3 get_or_insert_with KEY VALUE NEW?", "2 each RANGE insert n n"),
-        *("each RANGE insert_front n VALUE", "each RANGE entry n or_insert VALUE"),
-    ),
-    "take": (
-        *("4 remove KEY", "4 remove_entry KEY", "3 pop_front", "3 pop_back", "each RANGE remove n"),
-        *("each RANGE raw WAY n remove_entry", "cursor END MOVE* take_entry"),
-    ),
-    "lend": (
-        *("get_mut KEY NEW?", "to_front KEY NEW?", "to_back KEY NEW?", "index_mut KEY NEW?"),
-        "back_value_mut NEW?",
-    ),
-    "entry": ("entry KEY ENTRY",),
-    "raw": ("6 raw WAY KEY RAW", "front_entry FOUND", "back_entry FOUND"),
-    "cursor": ("3 cursor END MOVE* LAST?", "2 cursor_of KEY MOVE*"),
-    "walk": (*WALKS, "values_mut VALUE_STEP*", "iter_from KEY"),
-    "drain": ("2 drain STEP*", "3 forgotten_drain STEP*", "into_iter STEP*"),
-    "retain": ("retain KEEP", "retain_with_order KEEP", "retain_from KEEP"),
-    "room": ("3 reserve SIZE", "3 try_reserve SIZE", "5 shrink", "4 clone", "collect"),
-    "many": MANY,
-    "make": ("2 from_iter PAIR*", "from_iter_kept PAIR*", "2 clear", "with_capacity SIZE"),
-    "both": ("eq", "less", "cmp", "hash"),
-}
-
-SET = {
-    "read": (
-        *("contains KEY", "get KEY", "front", "back", "len", "is_empty"),
-        *("room SIZE", "capacity SIZE", "under SIZE"),
-    ),
-    "put": (
-        *("6 insert KEY", "3 replace KEY", "3 get_or_insert KEY", "3 get_or_insert_with KEY"),
-        "2 each RANGE insert n",
-    ),
-    "take": ("4 remove KEY", "4 take KEY", "3 pop_front", "3 pop_back", "each RANGE remove n"),
-    "lend": ("to_front KEY", "to_back KEY"),
-    "walk": ("iter STEP* CLONED?",),
-    "drain": MAP["drain"],
-    "retain": ("retain SET_KEEP", "retain_with_order SET_KEEP"),
-    "room": ("3 reserve SIZE", "3 try_reserve SIZE", "5 shrink", "4 clone"),
-    "many": ("extend KEY*", "extend_from KEY*", "extend_kept KEY*", "extend_by_trait KEY*"),
-    "make": ("2 from_iter KEY*", "from_iter_kept KEY*", "2 clear", "with_capacity SIZE"),
-    "both": (
-        *("eq", "hash", "is_disjoint", "is_subset", "is_superset", "|", "&", "^", "-"),
-        *("2 union COUNT?", "2 intersection COUNT?", "2 difference COUNT?"),
-        "2 symmetric_difference COUNT?",
-    ),
-}
-
-CACHE = {
-    "read": (*READS, "2 get KEY", "peek KEY", "2 evicted_by KEY", "peek_lru", "capacity", "raw_read WAY KEY"),
-    "put": (
-        *("5 insert KEY VALUE", "5 push KEY VALUE", "3 get_or_insert_with KEY VALUE NEW?"),
-        *("3 get_or_try_insert_with KEY MADE", "each RANGE insert n n"),
-    ),
-    "take": ("4 remove KEY", "4 remove_entry KEY", "3 remove_lru", "3 make_room", "each RANGE remove n"),
-    "lend": ("get_mut KEY NEW?", "peek_mut KEY NEW?"),
-    "entry": ("entry KEY ENTRY",),
-    "raw": ("2 raw WAY KEY FOUND", "raw WAY KEY OR_INSERT"),
-    "walk": WALKS,
-    "drain": ("2 drain STEP*", "forgotten_drain STEP*", "into_iter STEP*"),
-    "retain": ("retain CACHE_KEEP", "retain_from CACHE_KEEP"),
-    "room": ("3 set_capacity CAPACITY", "clone"),
-    "many": MANY,
-    "make": ("clear",),
-    # calls of the cache's map
-    "inside": {name: lines for name, lines in MAP.items() if name != "both"},
-}
-
-WEIGHTED = {
-    "read": ("get KEY", "peek KEY", "len", "is_empty", "total", "budget"),
-    "put": ("6 insert KEY WEIGHED", "6 insert_evicting KEY WEIGHED", "each RANGE insert n WEIGHED"),
-    "take": ("6 remove KEY", "each RANGE remove n"),
-    "walk": ("iter STEP* CLONED?",),
-}
-
 ENTRY_COMMAND = "60 entry NUMBER COMMAND_ENTRY"
 COMMANDS = {
     "command": (
@@ -175,10 +87,10 @@ COPIED_SET = {"many": ("extend_ref KEY*", "extend_by_trait KEY*")}
 
 #: the second lines of rows, their weights, and the calls of their lines
 KINDS = {
-    "map": (8, MAP),
-    "set": (6, SET),
-    "cache CAPACITY": (6, CACHE),
-    "weighted CAPACITY": (2, WEIGHTED),
+    "map": (8, Model.LINES),
+    "set": (6, SetModel.LINES),
+    "cache CAPACITY": (6, CacheModel.LINES),
+    "weighted CAPACITY": (2, WeightedModel.LINES),
     "commands WHOLE?": (1, COMMANDS),
     "cache_commands CAPACITY WHOLE?": (1, CACHE_COMMANDS),
     "pair_commands CAPACITY CAPACITY": (0.4, PAIR_COMMANDS),

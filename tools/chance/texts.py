@@ -3,15 +3,13 @@
 import itertools
 import random
 
-from plain_list.commands import ENTRY_NUMBERS, NUMBERS, STEP_NUMBERS
+from plain_list.commands import ENTRY_NUMBERS, NUMBERS, OFTEN, SELDOM, STEP_NUMBERS
 from plain_list.texts import MODE_NUMBERS, PAIR_WORDS
 from plain_list.words import GREATEST
 
 #: texts with any first line: this many for each of the others, of at most this many lines, because nothing is
 #: answered after a bad first line
 FIRST_LINE, FIRST_TEXTS, FIRST_LINES = "first", 10, 5
-OFTEN = ("insert", "use", "cursor", "entry")
-SELDOM = ("clear", "keep", "set_capacity")
 #: words that replace a word, or are added
 BAD_WORDS = ("", "01", "-1", "+1", "1.0", "0x1", str(GREATEST), "1_0", "up", "GET", "1\r", "\t", "\0", "\xff")
 

@@ -1,12 +1,67 @@
 """The model's answers to the lines of caches."""
 
-from .model import NO_CAPACITY, Model
+from .model import MANY_LINES, NO_CAPACITY, READ_LINES, WALK_LINES, Model
 
 
 class CacheModel(Model):
     """The model of a cache with a capacity."""
 
     kind = "cache"
+
+    LINES = {
+        "read": (*READ_LINES, "2 get KEY", "peek KEY", "2 evicted_by KEY", "peek_lru", "capacity", "raw_read WAY KEY"),
+        "put": (
+            *("5 insert KEY VALUE", "5 push KEY VALUE", "3 get_or_insert_with KEY VALUE NEW?"),
+            *("3 get_or_try_insert_with KEY MADE", "each RANGE insert n n"),
+        ),
+        "take": ("4 remove KEY", "4 remove_entry KEY", "3 remove_lru", "3 make_room", "each RANGE remove n"),
+        "lend": ("get_mut KEY NEW?", "peek_mut KEY NEW?"),
+        "entry": ("entry KEY ENTRY",),
+        "raw": ("2 raw WAY KEY FOUND", "raw WAY KEY OR_INSERT"),
+        "walk": WALK_LINES,
+        "drain": ("2 drain STEP*", "forgotten_drain STEP*", "into_iter STEP*"),
+        "retain": ("retain CACHE_KEEP", "retain_from CACHE_KEEP"),
+        "room": ("3 set_capacity CAPACITY", "clone"),
+        "many": MANY_LINES,
+        "make": ("clear",),
+        # calls of the cache's map
+        "inside": {name: lines for name, lines in Model.LINES.items() if name != "both"},
+    }
+
+    FREE = (
+        (
+            "cache 2\nextend 1 10 2 20 3 30",
+            {
+                0: (
+                    *("peek_lru", "back", "make_room", "remove_lru", "set_capacity 2", "clear", "inside front"),
+                    *("retain even", "retain_from even", "iter next back", "keys next back", "values next back"),
+                    *("iter_mut next back", "drain next"),
+                ),
+                1: (
+                    "get 2",
+                    "get_mut 2",
+                    "peek 2",
+                    "peek_mut 2",
+                    "contains_key 2",
+                    "evicted_by 9",
+                    "remove 2",
+                    "remove_entry 2",
+                    "raw_read key 2",
+                    "raw key 2 get_mut",
+                ),
+                2: (
+                    "insert 2 20",
+                    "insert n 10",
+                    "push 2 20",
+                    "push n 10",
+                    "get_or_insert_with n 10",
+                    "get_or_try_insert_with n 10",
+                    "entry n or_insert 10",
+                ),
+            },
+        ),
+        ("cache 2\nextend 1 10 2 20\ninside insert 3 30", {1: ("evicted_by 1",)}),
+    )
 
     def is_like(self, words):
         return words == self.state().split(" ")
@@ -79,6 +134,24 @@ class WeightedModel(Model):
     """The model of a cache with a budget, which is its capacity. The number of a value is its weight."""
 
     kind = "weighted"
+
+    LINES = {
+        "read": ("get KEY", "peek KEY", "len", "is_empty", "total", "budget"),
+        "put": ("6 insert KEY WEIGHED", "6 insert_evicting KEY WEIGHED", "each RANGE insert n WEIGHED"),
+        "take": ("6 remove KEY", "each RANGE remove n"),
+        "walk": ("iter STEP* CLONED?",),
+    }
+
+    FREE = (
+        (
+            "weighted 2\ninsert 1 10.1\ninsert 2 20.1\ninsert 3 30.1",
+            {
+                0: ("total", "budget", "is_empty", "iter next back"),
+                1: ("get 3", "peek 3", "remove 9"),
+                2: ("insert 3 30.1", "insert n 10.1", "insert_evicting n 10.1", "insert 1 10.3"),
+            },
+        ),
+    )
 
     def is_like(self, words):
         return words == self.state().split(" ")

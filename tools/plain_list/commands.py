@@ -23,6 +23,24 @@ STEP_NUMBERS = {
     **dict.fromkeys(("next", "prev", "cur", "peek_next", "peek_prev"), 0),
     **dict.fromkeys(("before", "after"), 2),
 }
+FULL_MAP = ("map", "insert 1 10", "insert 2 20", "insert 3 30", "remove 3")
+FULL_CACHE = ("cache 2", "insert 1 10", "insert 2 20", "insert 3 30")
+FULL_WEIGHTED = ("weighted 2", "insert 1 10 1", "insert 2 20 1")
+#: words that random texts and lists of commands have often, and words that they have seldom, since little is
+#: left after them
+OFTEN = ("insert", "use", "cursor", "entry")
+SELDOM = ("clear", "keep", "set_capacity")
+#: lines of a text after which these lines request no memory
+FREE = (
+    (FULL_MAP, ("insert 1 10", "insert_front 1 10", "replace 1 10", "remove 9", "len", "keep")),
+    (FULL_MAP, ("entry 1 or_insert 10", "entry 1 insert 10", "entry 1 insert_entry 10")),
+    (FULL_MAP, ("entry 1 replace_entry 10", "get 1", "to_front 1", "to_back 1", "front", "back")),
+    (FULL_MAP, ("insert 9 90", "pop_back", "insert_front 9 90", "pop_front", "replace 9 90", "remove 9")),
+    (FULL_MAP, ("entry 9 or_insert 90", "entry 9 remove", "entry 9 get", "entry 9 replace_entry 90")),
+    (FULL_CACHE, ("insert 2 20", "use 2 20", "get 2", "peek 2", "remove 9", "len")),
+    (FULL_CACHE, ("insert 4 40", "use 5 50", "insert 6 60", "remove_lru", "insert 7 70")),
+    (FULL_WEIGHTED, ("insert 1 10 1", "get 1", "insert 3 30 1", "insert 2 20 1")),
+)
 
 
 def are_numbers(words, count):

@@ -10,12 +10,157 @@ NO_CAPACITY = GREATEST - 1
 #: the calls after which the row answers how many items were not read
 KEPT = ("extend_from", "extend_kept", "extend_ref", "extend_by_trait")
 WALKS = ("iter", "keys", "values", "iter_mut", "values_mut", "drain", "forgotten_drain", "into_iter")
+#: calls of a map and of a cache, as lines of random rows
+MANY_LINES = ("extend PAIR*", "extend_from PAIR*", "extend_kept PAIR*", "extend_by_trait PAIR*")
+WALK_LINES = (
+    *("2 iter STEP* CLONED?", "keys STEP* CLONED?", "values STEP* CLONED?"),
+    "2 iter_mut PAIR_STEP*",
+)
+READ_LINES = ("get KEY", "contains_key KEY", "len", "is_empty", "back")
 
 
 class Model(Entries, Cursors):
     """The model of a map. Without a capacity it has the greatest one, and a budget is a capacity."""
 
     kind = "map"
+
+    #: the calls by their groups, as lines of random rows (tools/chance/calls.py)
+    LINES = {
+        "read": (
+            *(*READ_LINES, "front", "get_key_value KEY", "index KEY", "2 raw_read WAY KEY"),
+            *("room SIZE", "capacity SIZE", "under SIZE"),
+        ),
+        "put": (
+            *("6 insert KEY VALUE", "3 insert_front KEY VALUE", "3 replace KEY VALUE"),
+            *("3 get_or_insert_with KEY VALUE NEW?", "2 each RANGE insert n n"),
+            *("each RANGE insert_front n VALUE", "each RANGE entry n or_insert VALUE"),
+        ),
+        "take": (
+            *("4 remove KEY", "4 remove_entry KEY", "3 pop_front", "3 pop_back", "each RANGE remove n"),
+            *("each RANGE raw WAY n remove_entry", "cursor END MOVE* take_entry"),
+        ),
+        "lend": (
+            *("get_mut KEY NEW?", "to_front KEY NEW?", "to_back KEY NEW?", "index_mut KEY NEW?"),
+            "back_value_mut NEW?",
+        ),
+        "entry": ("entry KEY ENTRY",),
+        "raw": ("6 raw WAY KEY RAW", "front_entry FOUND", "back_entry FOUND"),
+        "cursor": ("3 cursor END MOVE* LAST?", "2 cursor_of KEY MOVE*"),
+        "walk": (*WALK_LINES, "values_mut VALUE_STEP*", "iter_from KEY"),
+        "drain": ("2 drain STEP*", "3 forgotten_drain STEP*", "into_iter STEP*"),
+        "retain": ("retain KEEP", "retain_with_order KEEP", "retain_from KEEP"),
+        "room": ("3 reserve SIZE", "3 try_reserve SIZE", "5 shrink", "4 clone", "collect"),
+        "many": MANY_LINES,
+        "make": ("2 from_iter PAIR*", "from_iter_kept PAIR*", "2 clear", "with_capacity SIZE"),
+        "both": ("eq", "less", "cmp", "hash"),
+    }
+
+    #: lines after which these calls request no memory besides a block for each item that a call names. They
+    #: are listed by the number of these items
+    FREE = (
+        (
+            "map\nextend 1 10 2 20 3 30\nremove 3",
+            {
+                0: (
+                    "front",
+                    "back_value_mut 5",
+                    "len",
+                    "clear",
+                    "reserve 1",
+                    "try_reserve 1",
+                    "pop_back",
+                    "retain even",
+                    "retain_with_order even",
+                    "retain_from even",
+                    "iter next back",
+                    "keys next back",
+                    "values next back",
+                    "iter_mut next back",
+                    "iter_mut peek value value_back",
+                    "values_mut next back",
+                    "drain next",
+                    "cursor front next prev at",
+                    "cursor front write 7 write_pair 7 write_next 7 write_prev 7",
+                    "cursor front entry",
+                    "cursor front take_entry",
+                    "cursor front take_into_entry",
+                    "front_entry to_back",
+                    "front_entry into_key",
+                    "back_entry remove_entry",
+                    "both eq",
+                    "both less",
+                    "both cmp",
+                    "both hash",
+                ),
+                1: (
+                    "get 1",
+                    "get_mut 1 11",
+                    "contains_key 1",
+                    "get_key_value 1",
+                    "index 1",
+                    "remove 1",
+                    "remove_entry 1",
+                    "to_front 1",
+                    "to_back 1",
+                    "iter_from 1",
+                    "cursor_of 1 next",
+                    "entry 1 get",
+                    "entry 1 and_modify 7",
+                    "entry 1 replace_key",
+                    "entry 1 into_mut 7",
+                    "entry 1 to_front",
+                    "entry 1 to_back",
+                    "entry 1 cursor next",
+                    "entry 1 remove",
+                    "entry 1 remove_entry",
+                    "entry 9 vacant key",
+                    "entry 9 vacant into_key",
+                    "entry 9 vacant raw",
+                    "raw_read key 1",
+                    "raw_read hash 1",
+                    "raw_read test 1",
+                    "raw key 1 get_mut",
+                    "raw key 1 get_key_value_mut 7",
+                    "raw key 1 into_key",
+                    "raw key 1 into_mut 7",
+                    "raw key 1 cursor next",
+                    "raw key 1 remove",
+                    "raw hash 1 to_front",
+                    "raw test 1 to_back",
+                    "raw of_key 1 replace_key",
+                    "raw of_hash 1 get_mut",
+                    "raw of_test 1 get_mut",
+                ),
+                2: (
+                    "insert 1 10",
+                    "insert_front 1 10",
+                    "replace 1 10",
+                    "get_or_insert_with 1 10",
+                    "entry 1 or_insert 10",
+                    "entry 1 insert 10",
+                    "entry 1 insert_entry 10",
+                    "entry 1 replace_entry 10",
+                    "entry 1 raw_replace_value 10",
+                    "entry 9 vacant take 90",
+                    "cursor back before 1 10",
+                    "cursor front next after 2 20",
+                    "raw key 1 or_insert 10",
+                    "raw key 1 replace_value 10",
+                ),
+            },
+        ),
+        # so many pairs that each call removes one
+        (
+            "map\neach 1 1001 insert n 10",
+            {
+                0: ("pop_front", "front_entry remove", "back_entry remove_entry", "cursor front take_entry"),
+                1: (
+                    *("remove n", "entry n remove", "entry n remove_entry"),
+                    *("raw key n remove", "raw key n remove_entry"),
+                ),
+            },
+        ),
+    )
 
     def __init__(self, capacity=NO_CAPACITY):
         self.list = PlainList()

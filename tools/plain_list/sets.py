@@ -9,6 +9,70 @@ class SetModel(Model):
 
     kind = "set"
 
+    LINES = {
+        "read": (
+            *("contains KEY", "get KEY", "front", "back", "len", "is_empty"),
+            *("room SIZE", "capacity SIZE", "under SIZE"),
+        ),
+        "put": (
+            *("6 insert KEY", "3 replace KEY", "3 get_or_insert KEY", "3 get_or_insert_with KEY"),
+            "2 each RANGE insert n",
+        ),
+        "take": ("4 remove KEY", "4 take KEY", "3 pop_front", "3 pop_back", "each RANGE remove n"),
+        "lend": ("to_front KEY", "to_back KEY"),
+        "walk": ("iter STEP* CLONED?",),
+        "drain": Model.LINES["drain"],
+        "retain": ("retain SET_KEEP", "retain_with_order SET_KEEP"),
+        "room": ("3 reserve SIZE", "3 try_reserve SIZE", "5 shrink", "4 clone"),
+        "many": ("extend KEY*", "extend_from KEY*", "extend_kept KEY*", "extend_by_trait KEY*"),
+        "make": ("2 from_iter KEY*", "from_iter_kept KEY*", "2 clear", "with_capacity SIZE"),
+        "both": (
+            *("eq", "hash", "is_disjoint", "is_subset", "is_superset", "|", "&", "^", "-"),
+            *("2 union COUNT?", "2 intersection COUNT?", "2 difference COUNT?"),
+            "2 symmetric_difference COUNT?",
+        ),
+    }
+
+    FREE = (
+        (
+            "set\nextend 1 2 3\nremove 3",
+            {
+                0: (
+                    "front",
+                    "pop_front",
+                    "pop_back",
+                    "clear",
+                    "iter next back",
+                    "retain odd",
+                    "retain_with_order odd",
+                    "drain next",
+                    "both is_subset",
+                    "both is_superset",
+                    "both is_disjoint",
+                    "both eq",
+                    "both hash",
+                    "both union 3",
+                    "both intersection 3",
+                    "both difference 3",
+                    "both symmetric_difference 3",
+                ),
+                1: (
+                    "contains 1",
+                    "get 1",
+                    "insert 1",
+                    "replace 1",
+                    "get_or_insert 1",
+                    "remove 1",
+                    "take 1",
+                    "to_front 1",
+                    "to_back 1",
+                ),
+                # The line makes an element too.
+                2: ("get_or_insert_with 1",),
+            },
+        ),
+    )
+
     def shown(self):
         return [item_word(key) for key, _ in self.list.pairs]
 
