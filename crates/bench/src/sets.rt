@@ -1,6 +1,5 @@
 //! The calls of one set.
-ghost use Rattle.std.specs.Prelude.{◌≡◌};
-ghost use Rattle.std.specs.Iterator.{IsFinite};
+ghost use Rattle.std.specs.{Prelude.◌≡◌, Iterator.IsFinite};
 
 use crate::fill::Fill::{Empty, Full};
 use crate::fill::Made::{Anew, Once};

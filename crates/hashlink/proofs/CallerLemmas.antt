@@ -4,65 +4,43 @@
 use Rattle.std.proofs.Common.{◌≡◌, ℕ, zero, suc, ◌-◌, ◌≤◌, ◌<◌, Bool, true, false, cond, not, is_some, List}
 use Rattle.std.proofs.Common.{[], ◌∷◌, ◌++◌, length, take, drop, Option, None, Some, Result, Ok, Err, refl}
 use Rattle.std.proofs.Common.{sym, ap, subst, ◌∙◌, lt-ltb, map, ◌⊎◌, inl, inr, true≢false, arith, filter}
-use Rattle.std.proofs.Common.{nat_le, le_refl, zero-le, max}
 use Rattle.std.specs.Prelude.{All, IsSome, OnOk, insert, remove, slice_get, unwrap_or, MatchOption}
-use Rattle.std.specs.Prelude.{MatchResult, fold}
+use Rattle.std.proofs.lemmas.List.Elements.{All-cons, All-head, All-tail, All-same, All-append, All-take}
+use Rattle.std.proofs.{Common.{nat_le, le_refl, zero-le, max}, lemmas.Map.{NonePasses, keys-set_value}}
+use Rattle.std.specs.{Prelude.{MatchResult, fold}, List.Sorted.IsNonDecreasingBy, Map.Iter.TakesFirst}
 use Rattle.std.specs.Option.{UnwrapsOrElse, option_map, option_map_or, option_or, option_to_list}
-use Rattle.std.specs.Cmp.{IsEquivalence}
-use Rattle.std.specs.Iterator.{DrainsIf, Yields, YieldsThen}
-use Rattle.std.specs.List.{AllPass, list_any}
-use Rattle.std.specs.List.Sorted.{IsNonDecreasingBy}
-use Rattle.std.specs.Map.{lookup, lookup_entry, keys_of, remove_entry, set_value}
-use Rattle.std.specs.Map.Iter.{TakesFirst}
-use Rattle.std.specs.Set.{is_member}
-use Rattle.std.proofs.lemmas.Bool.{le-leb, lt-leb}
-use Rattle.std.proofs.lemmas.List.{append-nil, map-append, map-id, take-append-drop}
-use Rattle.std.proofs.lemmas.List.Edits.{insert_end}
-use Rattle.std.proofs.lemmas.List.Elements.{All-cons, All-head, All-tail, All-same, All-append}
-use Rattle.std.proofs.lemmas.List.Elements.{All-take, All-drop, All-push, All-filter}
-use Rattle.std.proofs.lemmas.List.Sums.{AllPass-from_list_all}
-use Rattle.std.proofs.lemmas.List.Sorted.{IsNonDecreasingBy-drop, IsNonDecreasingBy-push}
-use Rattle.std.proofs.lemmas.Map.{NonePasses, keys-set_value}
-use Rattle.std.proofs.lemmas.Map.Entries.{place_from_lookup}
-use Rattle.std.proofs.lemmas.Map.Made.{is_some-lookup}
-use Rattle.std.proofs.lemmas.Option.{none-some, same_Some, slice_get-get_or}
+use Rattle.std.specs.{Cmp.IsEquivalence, Set.is_member}
+use Rattle.std.{specs.Iterator.{DrainsIf, Yields, YieldsThen}, proofs.lemmas.Map.Made.is_some-lookup}
+use Rattle.std.specs.{List.{AllPass, list_any}, Map.{lookup, lookup_entry, keys_of, remove_entry, set_value}}
+use Rattle.std.proofs.lemmas.{Bool.{le-leb, lt-leb}, List.{append-nil, map-append, map-id, take-append-drop}}
+use Rattle.std.proofs.lemmas.List.{Edits.insert_end, Sorted.{IsNonDecreasingBy-drop, IsNonDecreasingBy-push}}
+use Rattle.std.proofs.lemmas.List.{Elements.{All-drop, All-push, All-filter}, Sums.AllPass-from_list_all}
+use Rattle.std.proofs.lemmas.{Map.Entries.place_from_lookup, Option.{none-some, same_Some, slice_get-get_or}}
 use Rattle.hashlink_model.specs.Cache.{CacheState, CacheGetsAndWrites, CacheInserts, IsWithin, cache_put}
-use Rattle.hashlink_model.specs.Cache.{last_entries}
 use Rattle.hashlink_model.specs.Entries.{IsEntries, place_left, place_of, place_without, place_or_end}
+use Rattle.hashlink_model.proofs.Splits.{Stands, splits, remove_entry-here, none_from_lookup}
+use Rattle.hashlink_model.specs.{Cache.last_entries, Entry.{EntryState, entry_of, key_at, value_at}}
 use Rattle.hashlink_model.specs.Entries.{moved_at, moved_match, put, set_key_at, stored_key, without}
-use Rattle.hashlink_model.specs.Entry.{EntryState, entry_of, key_at, value_at}
-use Rattle.hashlink_model.specs.Lookups.{Updates, UpdatesLast}
-use Rattle.hashlink_model.specs.Many.{AcceptsAll, StopsAt}
-use Rattle.hashlink_model.specs.MapState.{MapState, Inserts}
-use Rattle.hashlink_model.specs.Retain.{KeepsInOrder, RetainsInOrder}
+use Rattle.hashlink_model.specs.{Lookups.{Updates, UpdatesLast}, Many.{AcceptsAll, StopsAt}}
+use Rattle.hashlink_model.specs.{MapState.{MapState, Inserts}, Retain.{KeepsInOrder, RetainsInOrder}}
 use Rattle.hashlink_model.specs.Sets.{SetState, SetInserts, at_element, elements_of, pairs_of}
-use Rattle.hashlink_model.specs.Steps.{KeepsOnly, RemovesMatch, MovesMatch}
-use Rattle.hashlink_model.specs.Walk.{first_of, last_of}
-use Rattle.hashlink_run.specs.declared.commands.Command.{Command}
-use Rattle.hashlink_run.specs.declared.commands.Command.TheVariants.{Insert, Remove}
-use Rattle.hashlink_run.specs.declared.replies.Reply.{Reply}
-use Rattle.hashlink_run.specs.declared.replies.Reply.TheVariants.{Value}
-use Rattle.hashlink_run.specs.CallReplies.{insert_reply, is_refused}
-use Rattle.hashlink_run.specs.Chain.{Answered, replies_of}
+use Rattle.hashlink_model.specs.{Steps.{KeepsOnly, RemovesMatch, MovesMatch}, Walk.{first_of, last_of}}
+use Rattle.hashlink_model.proofs.{Distinct.{IsEntries-middle, IsEntries-insert}, Finds.lookup_is}
+use Rattle.hashlink_model.proofs.{Puts.none_without, SetElements.{keys-filter, set_inserts}}
+use Rattle.hashlink_model.proofs.SetViews.{keys_of-pairs_of, pairs_of-keys_of}
+use Rattle.hashlink_model.proofs.Splits.{remove_entry-none, lookup_key-none, place_of-none, place_of-here}
+use Rattle.hashlink_run.specs.declared.commands.{Command.Command, Command.TheVariants.{Insert, Remove}}
+use Rattle.hashlink_run.specs.declared.replies.{Reply.Reply, Reply.TheVariants.Value}
+use Rattle.hashlink_run.specs.{CallReplies.{insert_reply, is_refused}, Chain.{Answered, replies_of}}
 use Rattle.hashlink_run.specs.Run.{LawfulRun, Run, ShownBy, TakesKeysWhereShorter, keeps_nodes}
 use Rattle.hashlink_run.specs.Step.{KeepAsks, ReadBy, Step}
-use Rattle.hashlink_map.specs.EntryLends.{PutsLast}
-use Rattle.hashlink_map.specs.declared.try_insert_error.TryInsertError.{TryInsertError}
+use Rattle.hashlink_map.specs.{EntryLends.PutsLast, declared.try_insert_error.TryInsertError.TryInsertError}
 use Rattle.hashlink_map.specs.declared.try_insert_error.TryInsertError.TheVariants.{Make, Memory}
+use Rattle.hashlink_map.proofs.{Outcomes.inserts_entries, Taken.{taken_all, taken_front}}
 use Rattle.hashlink_lru.specs.Cached.{FailsToUse, PutsNewIn, UsesAndWrites}
 use Rattle.hashlink_lru.specs.Evicted.{evicted_by, evicted_entries, pushed_out}
 use Rattle.hashlink_lru.proofs.Evicting.{long, named, named_first, unnamed}
-use Rattle.hashlink_map.proofs.Outcomes.{inserts_entries}
-use Rattle.hashlink_core.proofs.AtKeyNode.{is_some-map}
-use Rattle.hashlink_core.proofs.InTurn.{stops_before}
-use Rattle.hashlink_map.proofs.Taken.{taken_all, taken_front}
-use Rattle.hashlink_model.proofs.Distinct.{IsEntries-middle, IsEntries-insert}
-use Rattle.hashlink_model.proofs.Finds.{lookup_is}
-use Rattle.hashlink_model.proofs.Puts.{none_without}
-use Rattle.hashlink_model.proofs.SetElements.{keys-filter, set_inserts}
-use Rattle.hashlink_model.proofs.SetViews.{keys_of-pairs_of, pairs_of-keys_of}
-use Rattle.hashlink_model.proofs.Splits.{Stands, splits, remove_entry-here, none_from_lookup}
-use Rattle.hashlink_model.proofs.Splits.{remove_entry-none, lookup_key-none, place_of-none, place_of-here}
+use Rattle.hashlink_core.proofs.{AtKeyNode.is_some-map, InTurn.stops_before}
 -- ---- lemmas of lower crates
 
 -- goal: `lookup`, or `lookup_entry`, at the key that was put, at another key, after a removal, and after a

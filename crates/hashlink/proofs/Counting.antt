@@ -1,10 +1,8 @@
 -- What a retain leaves whose closure counts: it removes the first entries that pass, up to a number.
-use Rattle.std.proofs.Common.{◌≡◌, ◌+◌, ◌≤◌, ℕ, zero, suc, Bool, cond, not, ◌&&◌, nat_lt, List}
-use Rattle.std.proofs.Common.{[], ◌∷◌, length, ap, refl, sym, subst, ◌∙◌, arith, true, false, filter}
+use Rattle.std.proofs.Common.{◌≡◌, ◌+◌, ◌≤◌, ℕ, zero, suc, Bool, cond, not, ◌&&◌, nat_lt, List, [], ◌∷◌}
+use Rattle.std.proofs.Common.{length, ap, refl, sym, subst, ◌∙◌, arith, true, false, filter}
 use Rattle.std.specs.Map.{keys_of}
-use Rattle.hashlink_model.specs.MapState.{MapState}
-use Rattle.hashlink_model.specs.Retain.{KeepsInOrder, RetainsInOrder}
-use Rattle.hashlink_model.specs.Steps.{KeepsOnly}
+use Rattle.hashlink_model.specs.{MapState.MapState, Retain.{KeepsInOrder, RetainsInOrder}, Steps.KeepsOnly}
 use Rattle.hashlink.specs.WithoutFirst.{without_first}
 
 module _ {X : Type 0} (passes : X → Bool) where

@@ -1,24 +1,15 @@
 -- Entries in two lists that share no key, such as those of two caches.
-use Rattle.std.proofs.Common.{◌≡◌, ◌<◌, ℕ, Bool, true, false, cond, List, [], ◌∷◌, ◌++◌, length}
-use Rattle.std.proofs.Common.{Option, None, Some, Result, Ok, Err, refl, sym, ap, subst, ◌∙◌, arith}
-use Rattle.std.proofs.Common.{true≢false}
-use Rattle.std.specs.Cmp.{IsEquivalence}
-use Rattle.std.specs.Map.{lookup, lookup_entry}
-use Rattle.std.specs.Option.{IfSome, option_map, option_or, option_to_list}
-use Rattle.std.specs.Prelude.{IsSome, OnOk}
-use Rattle.std.proofs.lemmas.Option.{none-some}
-use Rattle.hashlink_model.specs.Cache.{CacheState, IsWithin, cache_put}
-use Rattle.hashlink_model.specs.Entries.{IsEntries, put}
-use Rattle.hashlink_model.specs.Lookups.{EvictsOthers, UpdatesWithin}
-use Rattle.hashlink_model.proofs.Afterwards.{lookup-put}
-use Rattle.hashlink_model.proofs.Caches.{cache_put-with_a_place}
+use Rattle.std.proofs.Common.{◌≡◌, ◌<◌, ℕ, Bool, true, false, cond, List, [], ◌∷◌, ◌++◌, length, Option, None}
+use Rattle.std.proofs.Common.{Some, Result, Ok, Err, refl, sym, ap, subst, ◌∙◌, arith, true≢false}
+use Rattle.std.specs.{Cmp.IsEquivalence, Map.{lookup, lookup_entry}, Prelude.{IsSome, OnOk}}
+use Rattle.std.{specs.Option.{IfSome, option_map, option_or, option_to_list}, proofs.lemmas.Option.none-some}
+use Rattle.hashlink_model.specs.{Cache.{CacheState, IsWithin, cache_put}, Entries.{IsEntries, put}}
+use Rattle.hashlink_model.{specs.Lookups.{EvictsOthers, UpdatesWithin}, proofs.Afterwards.lookup-put}
+use Rattle.hashlink_model.proofs.{Caches.cache_put-with_a_place, Splits.{lookup-none, none_from_lookup}}
 use Rattle.hashlink_model.proofs.Distinct.{IsEntries-head, IsEntries-tail, each-right, none_equal}
-use Rattle.hashlink_model.proofs.Finds.{lookup-equal, lookup_is}
-use Rattle.hashlink_model.proofs.Puts.{IsEntries-put, put_back_absent}
-use Rattle.hashlink_model.proofs.Splits.{lookup-none, none_from_lookup}
+use Rattle.hashlink_model.proofs.{Finds.{lookup-equal, lookup_is}, Puts.{IsEntries-put, put_back_absent}}
 use Rattle.hashlink_lru.specs.Evicted.{Pushes, pushed_out}
-use Rattle.hashlink.specs.Joined.{AreParts, ShareNoKey}
-use Rattle.hashlink.proofs.CallerLemmas.{lookup-append, pushed_absent}
+use Rattle.hashlink.{specs.Joined.{AreParts, ShareNoKey}, proofs.CallerLemmas.{lookup-append, pushed_absent}}
 
 lookup_entry-passes : {K V : Type 0} (test : K → Bool) (es : List (K × V)) (e : K × V)
     → lookup_entry test es ≡ Some e → test e.0 ≡ true

@@ -1,17 +1,10 @@
 -- What a look-up finds by any test of keys: the key's own, a query's, or a text's.
-use Rattle.std.proofs.Common.{◌≡◌, ℕ, Bool, true, false, cond, List, Option, None, refl, sym, ap, ◌∙◌}
-use Rattle.std.proofs.Common.{⊎_elim, inl, inr, [], ◌∷◌, arith, map, is_some, Some, subst}
-use Rattle.std.proofs.Math.Path.{fun_ext}
-use Rattle.std.specs.Cmp.Lexicographic.{bytes_decides}
-use Rattle.std.specs.Map.{AreApart, IsKeyTest, KeepsOthers, keys_of, lookup, set_value}
-use Rattle.std.specs.Option.{UnwrapsOrElse, option_map_or}
-use Rattle.std.specs.Prelude.{slice_get}
-use Rattle.std.specs.Set.{is_member}
-use Rattle.std.specs.Str.{bytes_eq}
-use Rattle.std.specs.String.{string_bytes, string_eq}
-use Rattle.std.specs.declared.string.String.{String}
-use Rattle.std.proofs.lemmas.Bool.{cases_Bool, cond-true, cond-false}
-use Rattle.std.proofs.lemmas.Cmp.{nat_list_eq_equiv}
+use Rattle.std.proofs.Common.{◌≡◌, ℕ, Bool, true, false, cond, List, Option, None, refl, sym, ap, ◌∙◌, ⊎_elim}
+use Rattle.std.proofs.{Common.{inl, inr, [], ◌∷◌, arith, map, is_some, Some, subst}, Math.Path.fun_ext}
+use Rattle.std.specs.{Cmp.Lexicographic.bytes_decides, Option.{UnwrapsOrElse, option_map_or}, Set.is_member}
+use Rattle.std.specs.{Map.{AreApart, IsKeyTest, KeepsOthers, keys_of, lookup, set_value}, Prelude.slice_get}
+use Rattle.std.specs.{Str.bytes_eq, String.{string_bytes, string_eq}, declared.string.String.String}
+use Rattle.std.proofs.lemmas.{Bool.{cases_Bool, cond-true, cond-false}, Cmp.nat_list_eq_equiv}
 use Rattle.std.proofs.lemmas.Map.Entries.{place_from_lookup}
 use Rattle.hashlink_model.specs.Lookups.{KeepsLookups, UpdatesBy, UpdatesLent}
 use Rattle.hashlink_model.proofs.Splits.{splits, lookup-none}

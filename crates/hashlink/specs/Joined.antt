@@ -1,6 +1,5 @@
 -- Two lists of entries, such as those of two caches.
-use Rattle.std.specs.Prelude.{◌≡◌, ◌++◌, Bool, IsSome, List, None}
-use Rattle.std.specs.Map.{lookup}
+use Rattle.std.specs.{Prelude.{◌≡◌, ◌++◌, Bool, IsSome, List, None}, Map.lookup}
 
 module _ {K V : Type 0} (eq : K → K → Bool) where
   -- no key of the first list is in the second

@@ -1,7 +1,5 @@
 -- The texts that a query for a text finds.
-use Rattle.std.specs.Prelude.{ℕ, Bool, List}
-use Rattle.std.specs.Str.{bytes_eq}
-use Rattle.std.specs.String.{string_bytes}
+use Rattle.std.specs.{Prelude.{ℕ, Bool, List}, Str.bytes_eq, String.string_bytes}
 use Rattle.std.specs.declared.string.String.{String}
 
 -- whether a text has these bytes

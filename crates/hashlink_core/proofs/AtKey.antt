@@ -1,13 +1,12 @@
 -- A step at the place of a key, as the step of a map at the key.
-use Rattle.hashlink_core.proofs.Names.{◌≡◌, ℕ, Bool, List, [], ◌∷◌, length, None, Some, refl, sym, ap}
-use Rattle.hashlink_core.proofs.Names.{subst, ◌∙◌, arith, set_value, NonePasses, place_of}
-use Rattle.hashlink_core.proofs.Names.{RemovesKey, WritesEntry, with_value_of, moved_at-put}
-use Rattle.hashlink_core.proofs.Names.{set_value_at-place}
+use Rattle.hashlink_core.proofs.Names.{◌≡◌, ℕ, Bool, List, [], ◌∷◌, length, None, Some, refl, sym, ap, subst}
+use Rattle.hashlink_core.proofs.Names.{◌∙◌, arith, set_value, NonePasses, place_of, RemovesKey, WritesEntry}
+use Rattle.hashlink_core.proofs.Steps.{lookup-place, lookup_entry-unplaced, removes_match}
+use Rattle.hashlink_core.proofs.Names.{with_value_of, moved_at-put, set_value_at-place}
+use Rattle.hashlink_core.proofs.Steps.{none_passes_from_place}
 use Rattle.hashlink_model.specs.Entry.{InsertsValue, ReplacesValue, TakesEntry}
 use Rattle.hashlink_model.specs.MapState.{MapState, Changes, PutsEntry, with_value}
 use Rattle.hashlink_model.proofs.Puts.{put_at_its_place}
-use Rattle.hashlink_core.proofs.Steps.{lookup-place, lookup_entry-unplaced, removes_match}
-use Rattle.hashlink_core.proofs.Steps.{none_passes_from_place}
 
 module _ {K V S : Type 0} (eq : K → K → Bool) (old new : MapState K V S) (k : K) (j : ℕ)
     (p : place_of (eq k) old.entries ≡ Some j) where

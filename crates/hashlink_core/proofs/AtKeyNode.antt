@@ -6,17 +6,14 @@ use Rattle.hashlink_core.proofs.Names.{IsEntries, IsKeyTest, place_of, Shrinks, 
 use Rattle.hashlink_core.proofs.Names.{with_match_value, lookup-moved, set_value_at-place, moved_at-put}
 use Rattle.hashlink_core.proofs.Names.{put-absent, Keyed, entries_of, state_of, HoldsKey, HoldsMatch, IsKeyed}
 use Rattle.hashlink_core.proofs.Names.{pair_with_value, with_value_at, place_number, AddsNode, MovesNode}
+use Rattle.hashlink_core.proofs.Steps.{lookup_entry-place, lookup-place, lookup-unplaced, then_moves}
 use Rattle.hashlink_core.proofs.Names.{WritesNode, GrowsRoom, place_number-renewed, renewed-holds}
+use Rattle.hashlink_core.{specs.Places.{Node, Holds}, proofs.Holding.moved-holds_key}
+use Rattle.hashlink_core.proofs.{Mapped.values-renewed_value, Steps.none_passes_from_place}
 use Rattle.std.specs.Prelude.{Result, Ok, Err, IsErrAnd, IsOk, OnOk, OnErr}
 use Rattle.std.proofs.lemmas.Result.{err_from_is_err_and}
-use Rattle.hashlink_model.specs.Entries.{moved_match}
+use Rattle.hashlink_model.{specs.Entries.moved_match, proofs.Splits.key_from_place}
 use Rattle.hashlink_model.specs.MapState.{RoomFor, Changes, AddsEntry, PutsEntry, RefusesEntry}
-use Rattle.hashlink_model.proofs.Splits.{key_from_place}
-use Rattle.hashlink_core.specs.Places.{Node, Holds}
-use Rattle.hashlink_core.proofs.Holding.{moved-holds_key}
-use Rattle.hashlink_core.proofs.Mapped.{values-renewed_value}
-use Rattle.hashlink_core.proofs.Steps.{lookup_entry-place, lookup-place, lookup-unplaced, then_moves}
-use Rattle.hashlink_core.proofs.Steps.{none_passes_from_place}
 
 -- the guard's number is the length
 pub guard-number : {K V S : Type 0} (m : Keyed K V S) → place_number m.nodes None ≡ length (entries_of m)

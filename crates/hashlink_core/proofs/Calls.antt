@@ -15,18 +15,15 @@ use Rattle.hashlink_core.proofs.Names.{short, insert-map, remove-map, length-ins
 use Rattle.hashlink_core.proofs.Names.{moved-map, remove_entry-at, moved_at-is, none-inserted, passes-at}
 use Rattle.hashlink_core.proofs.Names.{keys_of-map_values, lookup-map_values, IsNodeAt, node-at}
 use Rattle.hashlink_core.proofs.Names.{put_before-at, set_value-at, renewed_at-is, moves_before-at}
-use Rattle.hashlink_core.proofs.Names.{moves_after-at, same-number, same-place}
-use Rattle.std.proofs.Common.{OnOk, length-drop}
-use Rattle.std.specs.Option.{option_map_or, IfSome}
-use Rattle.std.specs.Int.{IsPowerOfTwo}
-use Rattle.hashlink_model.specs.MapState.{Changes, StoresAtMost}
 use Rattle.hashlink_core.proofs.Mapped.{length-mapped, remove_entry-mapped, place_number-mapped}
+use Rattle.hashlink_core.proofs.Names.{moves_after-at, same-number, same-place}
 use Rattle.hashlink_core.proofs.Mapped.{renewed-mapped, values-renewed_value, values-renewed_key}
 use Rattle.hashlink_core.proofs.Neighbours.{distinct-left, next-number, prev-number}
 use Rattle.hashlink_core.proofs.Stepping.{pair-at, length-pairs, step-in, step-out, step-renewed, kept}
-use Rattle.hashlink_core.proofs.Steps.{none_passes_from_place}
-use Rattle.hashlink_core.proofs.Walk.{after-number, before-number}
-use Rattle.std.specs.Prelude.{IfNone, ◌<◌}
+use Rattle.hashlink_core.proofs.{Steps.none_passes_from_place, Walk.{after-number, before-number}}
+use Rattle.std.{proofs.Common.{OnOk, length-drop}, specs.Option.{option_map_or, IfSome}}
+use Rattle.std.specs.{Int.IsPowerOfTwo, Prelude.{IfNone, ◌<◌}}
+use Rattle.hashlink_model.specs.MapState.{Changes, StoresAtMost}
 use Rattle.hashlink_nodes.specs.NodesLends.{with_value_at as ring_with_value_at}
 
 pub on_err : {A E : Type 0} (r : Result A E) (P : Type 0) → P → OnErr r P

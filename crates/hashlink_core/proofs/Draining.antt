@@ -2,9 +2,7 @@
 use Rattle.hashlink_core.proofs.Names.{◌≡◌, ◌-◌, List, [], ◌∷◌, ◌++◌, length, Option, None, Some, refl, sym}
 use Rattle.hashlink_core.proofs.Names.{ap, ◌∙◌, arith, take, length-append, map-append, values_of}
 use Rattle.hashlink_core.specs.Drained.{Drained, GivesLast, state_with}
-use Rattle.hashlink_model.proofs.Places.{last_of-end}
-use Rattle.hashlink_model.specs.MapState.{MapState}
-use Rattle.hashlink_model.specs.Steps.{PopsBack}
+use Rattle.hashlink_model.{proofs.Places.last_of-end, specs.MapState.MapState, specs.Steps.PopsBack}
 use Rattle.hashlink_model.specs.Walk.{last_of, before_last_of}
 use Rattle.std.proofs.Math.Seq.{take-append_seam}
 

@@ -1,20 +1,14 @@
 -- Lists changed at an index, and the place of a key in a list.
 use Rattle.std.proofs.Common.{◌≡◌, ℕ, zero, suc, ◌+◌, ◌-◌, ◌<◌, ◌≤◌, Bool, true, false, cond, List, [], ◌∷◌}
 use Rattle.std.proofs.Common.{◌++◌, length, take, drop, Option, None, Some, refl, ap, sym, subst, ◌∙◌, arith}
-use Rattle.std.proofs.Common.{add-one, map, lt-ltb, le-ltb}
-use Rattle.std.specs.Prelude.{slice_get, insert, remove, unwrap_or, Contains}
-use Rattle.std.specs.Option.{option_map, option_map_or}
-use Rattle.std.specs.Map.{remove_entry}
-use Rattle.std.specs.Cmp.{IsEquivalence}
-use Rattle.std.proofs.lemmas.Bool.Decides.{nat_tests}
-use Rattle.std.proofs.lemmas.Map.{NonePasses}
-use Rattle.std.proofs.lemmas.List.{take-append-drop, map-append, take-map, drop-map}
-use Rattle.std.proofs.lemmas.List.Sorted.{length_permutation, IsPermutation-insert}
-use Rattle.std.proofs.lemmas.List.Edits.{length-remove, get_or-insert_at}
+use Rattle.std.{proofs.Common.{add-one, map, lt-ltb, le-ltb}, specs.Option.{option_map, option_map_or}}
+use Rattle.std.specs.{Prelude.{slice_get, insert, remove, unwrap_or, Contains}, Cmp.IsEquivalence}
+use Rattle.std.{specs.Map.remove_entry, proofs.lemmas.List.Edits.{length-remove, get_or-insert_at}}
+use Rattle.std.proofs.lemmas.{Bool.Decides.nat_tests, List.{take-append-drop, map-append, take-map, drop-map}}
+use Rattle.std.proofs.lemmas.{Map.NonePasses, List.Sorted.{length_permutation, IsPermutation-insert}}
 use Rattle.std.proofs.lemmas.Option.{slice_get-map, slice_get_within, slice_get-get_or, get_or_from_slice_get}
 use Rattle.hashlink_model.specs.Entries.{IsEntries, place_of, place_or_end, place_left, moved_at}
-use Rattle.hashlink_model.proofs.Splits.{stands_from_place}
-use Rattle.hashlink_model.proofs.Places.{slice_get_here}
+use Rattle.hashlink_model.proofs.{Splits.stands_from_place, Places.slice_get_here}
 use Rattle.hashlink_model.proofs.Distinct.{none_others, IsEntries-middle, IsEntries-insert}
 
 -- ---- any list, changed at an index

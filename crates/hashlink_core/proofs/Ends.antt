@@ -1,13 +1,11 @@
 -- The first and the last node of a ring whose entries are taken at its ends.
-use Rattle.hashlink_core.proofs.Names.{◌≡◌, ◌<◌, true, cond, List, [], ◌∷◌, ◌++◌, length, Option, None}
-use Rattle.hashlink_core.proofs.Names.{Some, refl, sym, ap, ◌∙◌, arith, subst, slice_get, IfSome}
-use Rattle.hashlink_core.proofs.Names.{keys_of, lookup, remove_entry, NonePasses, IsEntries, Node, same_node}
-use Rattle.hashlink_core.proofs.Names.{same_node_equiv, node_after, node_before, last_node, next_place}
-use Rattle.hashlink_core.proofs.Names.{prev_place, each-left}
-use Rattle.std.proofs.Common.{append-nil}
-use Rattle.hashlink_model.proofs.Distinct.{none_others}
-use Rattle.hashlink_model.proofs.Splits.{remove_entry-here}
+use Rattle.hashlink_core.proofs.Names.{◌≡◌, ◌<◌, true, cond, List, [], ◌∷◌, ◌++◌, length, Option, None, Some}
+use Rattle.hashlink_core.proofs.Names.{refl, sym, ap, ◌∙◌, arith, subst, slice_get, IfSome, keys_of, lookup}
+use Rattle.hashlink_core.proofs.Names.{remove_entry, NonePasses, IsEntries, Node, same_node, same_node_equiv}
+use Rattle.hashlink_core.proofs.Names.{node_after, node_before, last_node, next_place, prev_place, each-left}
 use Rattle.hashlink_core.specs.Drained.{HasEnds}
+use Rattle.std.proofs.Common.{append-nil}
+use Rattle.hashlink_model.proofs.{Distinct.none_others, Splits.remove_entry-here}
 
 same : (n : Node) → same_node n n ≡ true
 same n = same_node_equiv.refl n

@@ -11,13 +11,12 @@ use Rattle.hashlink_core.proofs.Names.{IsKeyTest, same_node, same_node_equiv, eq
 use Rattle.hashlink_core.proofs.Names.{pair_of, with_number, Held, Node, Contents, Keeps, nodes_of, pairs_in}
 use Rattle.hashlink_core.proofs.Names.{HoldsMatch, place_number, Tells, IsInStep, short, hash_with, mapped-at}
 use Rattle.hashlink_core.proofs.Names.{from_part, element-at, at-element, lookup-map_values, node-at}
-use Rattle.std.specs.Option.{is_some, IfSome, IfNone, MatchOption}
-use Rattle.std.proofs.Math.Path.{fun_ext}
+use Rattle.hashlink_core.proofs.Mapped.{place_number-mapped}
+use Rattle.hashlink_core.proofs.Stepping.{pair-at, held-at, kept, listed, in-table, number-of, was-kept}
+use Rattle.std.{specs.Option.{is_some, IfSome, IfNone, MatchOption}, proofs.Math.Path.fun_ext}
 use Rattle.std.proofs.lemmas.Map.Steps.{set_value_same}
 use Rattle.hashlink_model.proofs.Splits.{Stands, splits, place_of-none, stands_from_lookup, set_value-here}
 use Rattle.hashlink_model.proofs.Splits.{remove_entry-here}
-use Rattle.hashlink_core.proofs.Mapped.{place_number-mapped}
-use Rattle.hashlink_core.proofs.Stepping.{pair-at, held-at, kept, listed, in-table, number-of, was-kept}
 
 -- an entry with a new value, which is then taken out or gets another value
 module _ {X : Type 0} (test : Node → Bool) (es : List (Node × X)) (x : X) (found : lookup test es ≡ Some x)

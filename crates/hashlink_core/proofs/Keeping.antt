@@ -6,13 +6,10 @@ use Rattle.hashlink_core.proofs.Names.{length-values_of, same_node, same_node_eq
 use Rattle.hashlink_core.proofs.Names.{lookup-moved, moved_at-place, place_of_its_key, Keyed, entries_of}
 use Rattle.hashlink_core.proofs.Names.{IsKeyed, pair_with_value, place_number, renewed_at, AddsNode}
 use Rattle.hashlink_core.proofs.Names.{MovesNode, WritesNode, GrowsRoom, KeepsKeys, KeepsPlace}
-use Rattle.hashlink_core.proofs.Names.{lookup-map_values, node-at}
+use Rattle.hashlink_core.{proofs.Names.{lookup-map_values, node-at}, specs.Places.{Node, Holds, IsPlace}}
+use Rattle.hashlink_core.proofs.{AtKeyNode.is_some-map, Holding.{at-node, holds_key-at}, Mapped.mapped}
 use Rattle.std.proofs.lemmas.Map.{none_passes_from_lookup, lookup-remove_entry, lookup-insert}
 use Rattle.std.proofs.lemmas.Option.{slice_get_past}
-use Rattle.hashlink_core.specs.Places.{Node, Holds, IsPlace}
-use Rattle.hashlink_core.proofs.AtKeyNode.{is_some-map}
-use Rattle.hashlink_core.proofs.Holding.{at-node, holds_key-at}
-use Rattle.hashlink_core.proofs.Mapped.{mapped}
 
 -- there is no entry at the guard
 pub at-guard : {K V S : Type 0} (m : Keyed K V S) → slice_get (entries_of m) (place_number m.nodes None)

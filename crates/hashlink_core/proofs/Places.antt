@@ -1,30 +1,21 @@
 -- The indices of places, and the ring's definitions by places in terms of them.
 use Rattle.std.proofs.Common.{◌≡◌, ◌≢◌, ℕ, zero, suc, ◌+◌, ◌<◌, ◌≤◌, Bool, true, false, cond, List, [], ◌∷◌}
 use Rattle.std.proofs.Common.{length, Option, None, Some, refl, ap, sym, subst, ◌∙◌, arith, add-one, ⊎_elim}
-use Rattle.std.proofs.lemmas.Bool.Decides.{nat_tests}
-use Rattle.std.specs.Prelude.{slice_get, insert, remove, is_some}
-use Rattle.std.specs.Option.{option_map, IfSome}
-use Rattle.std.specs.List.{list_any}
+use Rattle.std.{proofs.lemmas.Bool.Decides.nat_tests, specs.Prelude.{slice_get, insert, remove, is_some}}
+use Rattle.std.{specs.Option.{option_map, IfSome}, specs.List.list_any, proofs.lemmas.Bool.cases_lt}
 use Rattle.std.specs.Map.{lookup, lookup_entry, remove_entry, set_value, keys_of}
-use Rattle.std.proofs.lemmas.Bool.{cases_lt}
-use Rattle.std.proofs.lemmas.Map.{lookup-remove_entry}
-use Rattle.std.proofs.lemmas.Map.Entries.{length-keys_of}
-use Rattle.std.proofs.lemmas.Map.Made.{is_some-lookup}
-use Rattle.std.proofs.lemmas.List.Edits.{insert_end}
-use Rattle.std.proofs.lemmas.Option.{slice_get_within}
+use Rattle.std.proofs.lemmas.{Map.lookup-remove_entry, Map.Entries.length-keys_of, Map.Made.is_some-lookup}
+use Rattle.std.proofs.lemmas.{List.Edits.insert_end, Option.slice_get_within}
 use Rattle.hashlink_model.specs.Cursor as cursor
-use Rattle.hashlink_model.specs.Entries.{IsEntries, place_left, moved_at}
-use Rattle.hashlink_model.proofs.Finds.{lookup_is}
+use Rattle.hashlink_model.{specs.Entries.{IsEntries, place_left, moved_at}, proofs.Finds.lookup_is}
 use Rattle.hashlink_model.proofs.Places.{slice_get-place_or_end}
 use Rattle.hashlink_model.proofs.Splits.{stands_from_lookup, lookup_entry-here}
-use Rattle.hashlink_nodes.specs.declared.node.Node.{Node}
-use Rattle.hashlink_nodes.specs.Node.{same_node, same_node_equiv, eq-same_node}
 use Rattle.hashlink_nodes.specs.Ring.{put_before, put_before_node, put_after, put_after_node, Holds, IsPlace}
+use Rattle.hashlink_nodes.specs.{declared.node.Node.Node, Node.{same_node, same_node_equiv, eq-same_node}}
 use Rattle.hashlink_nodes.specs.Ring.{MovesBefore, MovesAfter}
-use Rattle.hashlink_core.specs.Places.{place_number, renewed_at}
 use Rattle.hashlink_core.proofs.Edits.{length-removed, place_or_end-cons, place_or_end-most, remove_entry-at}
 use Rattle.hashlink_core.proofs.Edits.{place_left-past, place_left-first, place_left-suc, moved_at-is}
-use Rattle.hashlink_core.proofs.Edits.{mapped-at}
+use Rattle.hashlink_core.{specs.Places.{place_number, renewed_at}, proofs.Edits.mapped-at}
 use native.Mathlib.Nat.{mod-eq_of_lt, mod_self}
 
 pub around : (n : ℕ) → cursor.following_place n n ≡ 0

@@ -2,13 +2,12 @@
 use Rattle.hashlink_core.proofs.Names.{◌≡◌, inl, inr, ℕ, zero, suc, ◌+◌, Bool, List, [], ◌∷◌, ◌++◌, length}
 use Rattle.hashlink_core.proofs.Names.{None, Some, refl, sym, ap, ap₂, subst, ◌∙◌, arith, slice_get}
 use Rattle.hashlink_core.proofs.Names.{option_map, lookup, lookup_entry, NonePasses, none-some, place_of}
-use Rattle.hashlink_core.proofs.Names.{moved_at, set_value_at, set_key_at, key_at, value_at}
-use Rattle.hashlink_core.proofs.Names.{RemovesMatch, slice_get_here, remove-place, from_part}
+use Rattle.hashlink_core.proofs.Names.{moved_at, set_value_at, set_key_at, key_at, value_at, RemovesMatch}
+use Rattle.hashlink_core.proofs.Names.{slice_get_here, remove-place, from_part}
 use Rattle.std.specs.Prelude.{Option}
-use Rattle.hashlink_model.specs.MapState.{MapState, Changes, Removes, RemovesAt, MovesAt, SetsKeyAt}
 use Rattle.hashlink_model.proofs.Splits.{splits, stands_from_place, place_of-here, lookup-none}
-use Rattle.hashlink_model.proofs.Splits.{lookup_entry-none, lookup_entry-here}
-use Rattle.hashlink_model.proofs.Finds.{lookup_is}
+use Rattle.hashlink_model.specs.MapState.{MapState, Changes, Removes, RemovesAt, MovesAt, SetsKeyAt}
+use Rattle.hashlink_model.proofs.{Splits.{lookup_entry-none, lookup_entry-here}, Finds.lookup_is}
 
 -- ---- what the place of a key tells about lookups
 

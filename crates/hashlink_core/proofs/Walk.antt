@@ -1,9 +1,8 @@
 -- An iterator along a ring, by its places at both ends.
-use Rattle.std.specs.Iterator.{MakesProgress, at_most}
-use Rattle.std.proofs.Common.{length-append}
-use Rattle.hashlink_core.proofs.Names.{◌≡◌, ℕ, zero, suc, ◌+◌, ◌-◌, ◌<◌, ◌≢◌, true, false, cond, List}
-use Rattle.hashlink_core.proofs.Names.{[], ◌∷◌, ◌++◌, length, take, drop, Option, None, Some, refl, ap, sym}
-use Rattle.hashlink_core.proofs.Names.{◌∙◌, arith, ⊎_elim, slice_get, is_some, unwrap_or, IfSome, IsDistinct}
+use Rattle.std.{specs.Iterator.{MakesProgress, at_most}, proofs.Common.length-append}
+use Rattle.hashlink_core.proofs.Names.{◌≡◌, ℕ, zero, suc, ◌+◌, ◌-◌, ◌<◌, ◌≢◌, true, false, cond, List, []}
+use Rattle.hashlink_core.proofs.Names.{◌∷◌, ◌++◌, length, take, drop, Option, None, Some, refl, ap, sym, ◌∙◌}
+use Rattle.hashlink_core.proofs.Names.{arith, ⊎_elim, slice_get, is_some, unwrap_or, IfSome, IsDistinct}
 use Rattle.hashlink_core.proofs.Names.{option_map, lookup, keys_of, TakesFirst, TakesLast, ShowsInOrder}
 use Rattle.hashlink_core.proofs.Names.{ShowsInReverse, from_front, from_back, take-length, take-suc, cases_lt}
 use Rattle.hashlink_core.proofs.Names.{slice_get_within, get_or_from_slice_get, preceding_place, place_or_end}

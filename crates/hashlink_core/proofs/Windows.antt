@@ -1,12 +1,8 @@
 -- Two windows of two lists, which may overlap, cover them.
-use Rattle.std.proofs.Common.{◌≡◌, ℕ, ◌-◌, ◌*◌, ◌≤◌, Bool, true, false, List, ◌++◌, length, take}
-use Rattle.std.proofs.Common.{drop, refl, sym, ap, ap₂, ◌∙◌, arith, length-take-le, ◌<◌, Option, None, Some}
-use Rattle.std.proofs.Common.{Bor}
-use Rattle.std.specs.Array.{IsFirstChunk, IsWholeChunk}
-use Rattle.std.specs.Option.{MatchOption, option_eq}
-use Rattle.std.proofs.lemmas.List.{take-append-drop, take-append-le}
-use Rattle.std.specs.Str.{bytes_eq}
-use Rattle.std.specs.Cmp.Lexicographic.{bytes_decides}
+use Rattle.std.proofs.Common.{◌≡◌, ℕ, ◌-◌, ◌*◌, ◌≤◌, Bool, true, false, List, ◌++◌, length, take, drop, refl}
+use Rattle.std.proofs.Common.{sym, ap, ap₂, ◌∙◌, arith, length-take-le, ◌<◌, Option, None, Some, Bor}
+use Rattle.std.specs.{Array.{IsFirstChunk, IsWholeChunk}, Option.{MatchOption, option_eq}, Str.bytes_eq}
+use Rattle.std.{proofs.lemmas.List.{take-append-drop, take-append-le}, specs.Cmp.Lexicographic.bytes_decides}
 
 module _ {X : Type 0} where
   take-within : (xs : List X) (n m : ℕ) → n ≤ length xs → m ≤ n → take m xs ≡ take m (take n xs)

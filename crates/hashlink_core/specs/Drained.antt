@@ -1,9 +1,7 @@
 -- The nodes that a drain took out of a keyed list, as contracts see them.
 use Rattle.std.specs.Prelude.{◌≡◌, ℕ, ◌+◌, ◌≤◌, List, [], ◌∷◌, ◌++◌, length, Option, None, IfSome}
-use Rattle.std.specs.Prelude.{MatchOption}
-use Rattle.hashlink_nodes.specs.declared.node.Node.{Node}
-use Rattle.hashlink_nodes.specs.Ring.{Ring, next_place, prev_place}
-use Rattle.std.specs.Map.{keys_of, values_of}
+use Rattle.std.specs.{Prelude.MatchOption, Map.{keys_of, values_of}}
+use Rattle.hashlink_nodes.specs.{declared.node.Node.Node, Ring.{Ring, next_place, prev_place}}
 use Rattle.hashlink_model.specs.MapState.{MapState, map_state}
 use Rattle.hashlink_core.specs.Keyed.{Keyed, keyed, nodes_of}
 use denote.Struct.Props.{props}

@@ -1,13 +1,9 @@
 -- A keyed list, as contracts see it: the entries in order, each with its node, and a map's numbers and
 -- hasher.
-use Rattle.std.specs.Prelude.{◌≡◌, ℕ, Bool, true, List, length, map, Some, IfSome}
-use Rattle.std.specs.Map.{values_of}
-use Rattle.hashlink_model.specs.Entries.{IsEntries, place_of}
-use Rattle.hashlink_model.specs.MapState.{MapState, map_state, HasRoom}
+use Rattle.std.specs.{Prelude.{◌≡◌, ℕ, Bool, true, List, length, map, Some, IfSome}, Map.values_of}
+use Rattle.hashlink_model.specs.{Entries.{IsEntries, place_of}, MapState.{MapState, map_state, HasRoom}}
 use Rattle.hashlink_model.specs.Entry.{key_at}
-use Rattle.hashlink_nodes.specs.declared.node.Node.{Node}
-use Rattle.hashlink_nodes.specs.Node.{same_node}
-use Rattle.hashlink_nodes.specs.declared.held.Held.{Held}
+use Rattle.hashlink_nodes.specs.{declared.node.Node.Node, Node.same_node, declared.held.Held.Held}
 use Rattle.hashlink_nodes.specs.Ring.{Ring, Holds, pair_of}
 use Rattle.hashlink_table.specs.Contents.{Contents}
 use Rattle.hashlink_core.specs.Places.{place_number}

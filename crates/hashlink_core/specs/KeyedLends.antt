@@ -1,12 +1,10 @@
 -- A keyed list, after a `&mut` to one of its values has ended.
-use Rattle.std.specs.Prelude.{ℕ, Bool, List, Some}
-use Rattle.std.specs.Borrow.{Fml, RattleType, MutBor, Lends}
+use Rattle.std.specs.{Prelude.{ℕ, Bool, List, Some}, Borrow.{Fml, RattleType, MutBor, Lends}}
 use Rattle.std.specs.declared.hash.Hasher as hasher
 use Rattle.std.specs.declared.hash.BuildHasher as builder
 use Rattle.hashlink_nodes.specs.declared.node.Node.{Node}
 use Rattle.hashlink_nodes.specs.contracts.node.Node as node
-use Rattle.hashlink_core.specs.contracts.keyed_list.KeyedList.{the_row}
-use Rattle.hashlink_core.specs.Keyed.{Keyed, pair_with_value}
+use Rattle.hashlink_core.specs.{contracts.keyed_list.KeyedList.the_row, Keyed.{Keyed, pair_with_value}}
 use Rattle.hashlink_core.specs.Places.{place_number, renewed_at}
 
 -- the value of K.Hash in a clause

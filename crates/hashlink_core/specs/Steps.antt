@@ -1,15 +1,12 @@
 -- The steps between two states of a keyed list, by the indices of places: the list of nodes afterwards, and
 -- the step of a map.
-use Rattle.std.specs.Prelude.{◌≡◌, ℕ, ◌+◌, Bool, insert, remove, length, Option, None}
-use Rattle.std.specs.Map.{lookup}
-use Rattle.hashlink_nodes.specs.declared.node.Node.{Node}
-use Rattle.hashlink_nodes.specs.Node.{same_node}
-use Rattle.hashlink_model.specs.Cursor.{place_kept}
+use Rattle.std.specs.{Prelude.{◌≡◌, ℕ, ◌+◌, Bool, insert, remove, length, Option, None}, Map.lookup}
 use Rattle.std.specs.Option.{option_map}
+use Rattle.hashlink_nodes.specs.{declared.node.Node.Node, Node.same_node}
+use Rattle.hashlink_model.specs.{Cursor.place_kept, Entries.moved_at}
+use Rattle.hashlink_model.specs.MapState.{RoomFor, AddsAt, RemovesAt, MovesAt, WritesAt, SetsKeyAt}
 use Rattle.hashlink_core.specs.Places.{Holds, IsPlace, place_number, renewed_at}
 use Rattle.hashlink_core.specs.Keyed.{Keyed, entries_of, state_of, pair_with_value, pair_with_key}
-use Rattle.hashlink_model.specs.MapState.{RoomFor, AddsAt, RemovesAt, MovesAt, WritesAt, SetsKeyAt}
-use Rattle.hashlink_model.specs.Entries.{moved_at}
 
 module _ {K V S : Type 0} where
   -- a new node n with the pair was inserted at the place b

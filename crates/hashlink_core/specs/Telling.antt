@@ -1,7 +1,5 @@
 -- A hash and a test, in place of a key.
-use Rattle.std.specs.Prelude.{◌≡◌, ℕ, Bool, List, Contains}
-use Rattle.std.specs.Borrow.{Bor}
-use Rattle.std.specs.Fn.{Shared}
+use Rattle.std.specs.{Prelude.{◌≡◌, ℕ, Bool, List, Contains}, Borrow.Bor, Fn.Shared}
 
 -- the key has the hash; and the test, which may be called on each key of the list, distinguishes the keys
 -- equal to this one from all others

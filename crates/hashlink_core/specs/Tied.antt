@@ -1,14 +1,9 @@
 -- How the ring of nodes and the table of their hashes agree.
-use Rattle.std.specs.Prelude.{◌≡◌, ℕ, ◌+◌, ◌%◌, ◌^◌, ◌≤◌, Bool, List, length, map, IsPermutation}
-use Rattle.std.specs.List.{fold}
-use Rattle.hashlink_nodes.specs.declared.node.Node.{Node}
-use Rattle.hashlink_nodes.specs.declared.held.Held.{Held}
-use Rattle.hashlink_nodes.specs.Node.{same_node}
-use Rattle.hashlink_nodes.specs.Ring.{Ring}
+use Rattle.std.specs.{Prelude.{◌≡◌, ℕ, ◌+◌, ◌%◌, ◌^◌, ◌≤◌, Bool, List, length, map, IsPermutation}, List.fold}
+use Rattle.hashlink_nodes.specs.{declared.node.Node.Node, declared.held.Held.Held, Node.same_node, Ring.Ring}
 use Rattle.hashlink_model.specs.Entries.{IsEntries}
 use Rattle.hashlink_core.specs.Keyed.{pairs_in}
-use Rattle.hashlink_table.specs.Contents.{Contents, len_of}
-use Rattle.hashlink_table.specs.declared.hashed.Hashed.{Hashed}
+use Rattle.hashlink_table.specs.{Contents.{Contents, len_of}, declared.hashed.Hashed.Hashed}
 
 -- the hash of a key, from the builder's `build`, a hasher's `write` and `finish`, and the key's `input`
 abbrev pub hash_with : {K S H : Type 0} → (S → H) → (H → List ℕ → H) → (H → ℕ)

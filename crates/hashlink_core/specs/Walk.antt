@@ -1,9 +1,7 @@
 -- The state of an iterator along the ring, from both ends.
 use Rattle.std.specs.Prelude.{◌≡◌, ℕ, ◌+◌, ◌<◌, ◌≤◌, List, length, take, drop, Option}
-use Rattle.hashlink_nodes.specs.declared.node.Node.{Node}
-use Rattle.hashlink_nodes.specs.declared.held.Held.{Held}
-use Rattle.hashlink_core.specs.Keyed.{pairs_in}
-use Rattle.hashlink_core.specs.Places.{place_number}
+use Rattle.hashlink_nodes.specs.declared.{node.Node.Node, held.Held.Held}
+use Rattle.hashlink_core.specs.{Keyed.pairs_in, Places.place_number}
 
 -- `count` pairs, from a place on
 abbrev pub pairs_from : {K V : Type 0} → List (Node × Held K V) → Option Node → ℕ → List (K × V)

@@ -1,6 +1,5 @@
 //! Comparisons of iterators, pair by pair, key before value.
-ghost use Rattle.std.specs.Prelude.{◌≡◌, ◌&&◌};
-ghost use Rattle.std.specs.Ordering.{ordering_then, partial_ordering_then};
+ghost use Rattle.std.specs.{Prelude.{◌≡◌, ◌&&◌}, Ordering.{ordering_then, partial_ordering_then}};
 ghost use Rattle.hashlink_model.specs.Compare.{entries_eq, entries_cmp, entries_partial_cmp};
 
 use crate::iter::Iter;

@@ -1,6 +1,5 @@
 //! The nodes of a keyed list during a drain.
-ghost use Rattle.std.specs.Prelude.{◌≡◌, length};
-ghost use Rattle.std.specs.Map.{values_of};
+ghost use Rattle.std.specs.{Prelude.{◌≡◌, length}, Map.values_of};
 ghost use Rattle.hashlink_core.specs.Drained.{GivesFirst, GivesLast};
 
 use crate::iter::Iter;

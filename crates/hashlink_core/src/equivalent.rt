@@ -1,13 +1,8 @@
 //! The queries that a lookup takes in place of a key.
-ghost use Rattle.std.specs.Prelude.{◌≡◌, Bool, IsTrue};
-ghost use Rattle.std.specs.Box.{boxed_slice_items, boxed_str_bytes};
+ghost use Rattle.std.specs.{Prelude.{◌≡◌, Bool, IsTrue}, Box.{boxed_slice_items, boxed_str_bytes}};
 ghost use Rattle.std.specs.Hash as fed;
-ghost use Rattle.std.specs.Hash.{items_Alike};
-ghost use Rattle.std.specs.Prelude.{string_bytes};
-ghost use Rattle.std.specs.Rc.{rc_str_bytes};
-ghost use Rattle.std.specs.Str.{bytes_eq};
-ghost use Rattle.std.specs.Cmp.Lexicographic.{pointwise, bytes_decides};
-ghost use Rattle.std.proofs.Common.{ap};
+ghost use Rattle.std.specs.{Hash.items_Alike, Prelude.string_bytes, Rc.rc_str_bytes, Str.bytes_eq};
+ghost use Rattle.std.{specs.Cmp.Lexicographic.{pointwise, bytes_decides}, proofs.Common.ap};
 ghost use Rattle.std.proofs.lemmas.Cmp.{lists_equiv, nat_list_eq_equiv};
 ghost use Rattle.hashlink_model.specs.Entries.{IsKeyTest};
 

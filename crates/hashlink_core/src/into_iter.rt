@@ -1,8 +1,6 @@
 //! The owning iterator over the entries of a keyed list.
-ghost use Rattle.std.specs.Prelude.{◌≡◌, Some, IfSome, length};
-ghost use Rattle.std.specs.Iterator.{at_most, UpTo};
-ghost use Rattle.std.specs.Iterator.SizeHint.{IsWithinCount};
-ghost use Rattle.std.specs.Map.Iter.{TakesFirst, TakesLast};
+ghost use Rattle.std.specs.{Prelude.{◌≡◌, Some, IfSome, length}, Iterator.{at_most, UpTo}};
+ghost use Rattle.std.specs.{Iterator.SizeHint.IsWithinCount, Map.Iter.{TakesFirst, TakesLast}};
 
 use crate::iter::Iter;
 use hashlink_nodes::Nodes;

@@ -1,8 +1,7 @@
 //! The keyed list, by places. A place is a node of the list, or `None` for the guard, which is after the last
 //! entry.
 ghost use Rattle.std.specs.Prelude.{◌≡◌, ◌*◌, ◌^◌, ◌<◌, ◌≤◌, ◌↔◌, [], length, max, Ok, Err, IfOk};
-ghost use Rattle.hashlink_core.specs.Keyed.{keyed, entries_of, IsKeyed};
-ghost use Rattle.hashlink_core.specs.Tied.{short};
+ghost use Rattle.hashlink_core.specs.{Keyed.{keyed, entries_of, IsKeyed}, Tied.short};
 ghost use Rattle.hashlink_table.specs.declared.error.TryReserveError.TheVariants.{CapacityOverflow};
 ghost use Rattle.hashlink_table.specs.declared.table.TheConstants.{MAX_ROOM};
 
@@ -41,8 +40,7 @@ pub struct KeyedList<K: Eq + Hash, V, S: BuildHasher> {
 }
 
 impl<K: Eq + Hash, V, S: BuildHasher> Model for KeyedList<K, V, S> {
-    ghost use Rattle.hashlink_core.specs.Keyed.{Keyed, seen_as};
-    ghost use Rattle.hashlink_core.specs.Tied.{hash_with, IsInStep};
+    ghost use Rattle.hashlink_core.specs.{Keyed.{Keyed, seen_as}, Tied.{hash_with, IsInStep}};
 
     ghost Value = { Keyed K V S };
 

@@ -1,6 +1,5 @@
 //! Equality of texts, for lookups by a text.
-ghost use Rattle.std.specs.Prelude.{◌≡◌, ◌*◌, ◌≤◌, length};
-ghost use Rattle.std.specs.Str.{bytes_eq};
+ghost use Rattle.std.specs.{Prelude.{◌≡◌, ◌*◌, ◌≤◌, length}, Str.bytes_eq};
 ghost use Rattle.hashlink_core.specs.declared.texts.TheConstants.{WINDOW};
 
 // The number of bytes that one instruction compares.

@@ -3,10 +3,8 @@ use Rattle.hashlink_curve.proofs.Names.{◌≡◌, ℕ, suc, ◌+◌, ◌-◌, �
 use Rattle.hashlink_curve.proofs.Names.{cond, List, [], ◌∷◌, length, drop, refl, sym, ap, ◌∙◌, arith, nat_eq}
 use Rattle.hashlink_curve.proofs.Names.{sum, All, drop-nil, nat_tests, sum_by-cons, CurveState, ListsFalls}
 use Rattle.hashlink_curve.proofs.Names.{falls_from, misses_at}
-use Rattle.std.specs.Prelude.{AllPairs, Contains}
-use Rattle.std.proofs.Math.Nat.{eq-or-lt_of_le}
-use Rattle.std.proofs.lemmas.List.Elements.{All-nil, All-cons}
-use Rattle.std.proofs.lemmas.List.Kept.{AllPairs-cons}
+use Rattle.std.{specs.Prelude.{AllPairs, Contains}, proofs.Math.Nat.eq-or-lt_of_le}
+use Rattle.std.proofs.lemmas.List.{Elements.{All-nil, All-cons}, Kept.AllPairs-cons}
 
 module _ (f : ℕ → ℕ) where
   -- the misses at the item's capacity, which is above c, are fewer than at the capacity before

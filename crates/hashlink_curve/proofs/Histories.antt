@@ -4,24 +4,17 @@ use Rattle.hashlink_curve.proofs.Names.{List, [], ◌∷◌, ◌++◌, length, t
 use Rattle.hashlink_curve.proofs.Names.{sym, ap, ap₂, ◌∙◌, subst, subst₂, arith, append_assoc, length-append}
 use Rattle.hashlink_curve.proofs.Names.{get_or, set, sum, IsEquivalence, AllZip, after_last, list_any}
 use Rattle.hashlink_curve.proofs.Names.{IsTallied, is_member, unique_keys, drop-nil, nat_tests, Touches}
-use Rattle.hashlink_curve.proofs.Names.{tallied, sum_by-append, sum_by-set, reuse_distance}
-use Rattle.hashlink_curve.proofs.Names.{CanCount, cache_misses_from, CurveState, Counted, Counts, misses_at}
-use Rattle.hashlink_curve.proofs.Names.{MovesPast}
-use Rattle.std.proofs.Common.{Option, true≢false, Vec, vec_len, vec_capacity, ◌^◌}
-use Rattle.std.specs.declared.alloc.Global.{Global}
-use Rattle.std.specs.Set.{remove_key, distinct_count}
-use Rattle.std.proofs.Math.Path.{fun_ext}
-use Rattle.std.proofs.lemmas.List.{append-nil, length-set}
-use Rattle.std.proofs.lemmas.List.Folds.{list_any-append}
+use Rattle.hashlink_curve.proofs.Names.{tallied, sum_by-append, sum_by-set, reuse_distance, CanCount}
+use Rattle.hashlink_curve.proofs.Names.{cache_misses_from, CurveState, Counted, Counts, misses_at, MovesPast}
+use Rattle.hashlink_curve.{specs.Curve.distance_of, proofs.Sums.{sum-set-after, sum-set-before, sum-take-le}}
+use Rattle.std.proofs.{Common.{Option, true≢false, Vec, vec_len, vec_capacity, ◌^◌}, Math.Path.fun_ext}
+use Rattle.std.specs.{declared.alloc.Global.Global, Set.{remove_key, distinct_count}}
+use Rattle.std.proofs.lemmas.{List.{append-nil, length-set}, List.Folds.list_any-append}
 use Rattle.std.proofs.lemmas.List.Sums.{sum_by-take-drop, get_or-le-sum_by}
-use Rattle.hashlink_history.specs.History.{cache_misses}
-use Rattle.hashlink_model.proofs.Members.{none_from_is_member, is_member_from_none}
 use Rattle.hashlink_history.proofs.Recency.{zip_push, zip_length, remove_key-left, remove_key-right}
 use Rattle.hashlink_history.proofs.Recency.{is_member-unique, unique_keys-push, last_use, unique_keys-last}
-use Rattle.hashlink_history.proofs.Recency.{after_last-here}
-use Rattle.hashlink_model.proofs.Distinct.{answers_alike}
-use Rattle.hashlink_curve.specs.Curve.{distance_of}
-use Rattle.hashlink_curve.proofs.Sums.{sum-set-after, sum-set-before, sum-take-le}
+use Rattle.hashlink_history.{specs.History.cache_misses, proofs.Recency.after_last-here}
+use Rattle.hashlink_model.proofs.{Members.{none_from_is_member, is_member_from_none}, Distinct.answers_alike}
 
 -- ---- the misses of a cache of capacity c for one more use
 

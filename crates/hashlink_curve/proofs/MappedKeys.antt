@@ -3,8 +3,7 @@ use Rattle.hashlink_curve.proofs.Names.{◌≡◌, ℕ, ◌+◌, Bool, true, ◌
 use Rattle.hashlink_curve.proofs.Names.{length, drop, nat_lt, ◌-◌, refl, sym, ap, ap₂, ◌∙◌, subst, arith, sum}
 use Rattle.hashlink_curve.proofs.Names.{AllZip, after_last, is_member, unique_keys, map-append, length-map}
 use Rattle.hashlink_curve.proofs.Names.{reuse_distance, cache_misses_from, CurveState, Counted}
-use Rattle.std.proofs.Common.{map, not, reverse}
-use Rattle.std.specs.List.{prefix_len, suffix_len}
+use Rattle.std.{proofs.Common.{map, not, reverse}, specs.List.{prefix_len, suffix_len}}
 use Rattle.std.proofs.lemmas.List.{drop-map, reverse-append}
 
 module _ {K L : Type 0} (f : K → L) (eq : K → K → Bool) (seen : L → L → Bool)

@@ -4,24 +4,19 @@ use Rattle.hashlink_curve.proofs.Names.{[], ◌∷◌, ◌++◌, length, take, N
 use Rattle.hashlink_curve.proofs.Names.{subst, arith, length-append, get_or, ◌||◌, nat_eq, nat_lt}
 use Rattle.hashlink_curve.proofs.Names.{IsEquivalence, count_by, list_any, keys_of, nat_tests, IsEntries}
 use Rattle.hashlink_curve.proofs.Names.{IsKeyTest, none_from_lookup, Marked, MovesPast, GoesLast}
+use Rattle.hashlink_curve.specs.Recency.{RecencyState, Rises, IsPlaced, PutsKeyLast}
+use Rattle.hashlink_curve.proofs.Sums.{count_by-middle, count_by-cons}
 use Rattle.hashlink_model.proofs.Distinct.{each-right, none_equal, none_others}
-use Rattle.std.proofs.Common.{Option, add-one}
-use Rattle.std.proofs.Math.Path.{fun_ext}
-use Rattle.std.proofs.lemmas.List.{append-nil, map-append, length-map}
-use Rattle.std.specs.Map.{lookup, values_of}
-use Rattle.std.proofs.lemmas.Map.{NonePasses}
-use Rattle.std.proofs.lemmas.Option.{same_Some}
-use Rattle.std.proofs.lemmas.Bool.{true≢false}
-use Rattle.hashlink_core.proofs.Steps.{lookup-place, none_passes_from_place}
 use Rattle.hashlink_model.specs.Entries.{moved_at, place_of, put, set_value_at}
-use Rattle.hashlink_model.specs.Entry.{ReplacesValue, value_at}
-use Rattle.hashlink_model.specs.MapState.{AddsEntry, MapState, MovesAt}
+use Rattle.hashlink_model.specs.{Entry.{ReplacesValue, value_at}, MapState.{AddsEntry, MapState, MovesAt}}
 use Rattle.hashlink_model.proofs.Splits.{stands_from_lookup, lookup-here, key_from_place}
 use Rattle.hashlink_model.proofs.ByPlace.{moved_at-put, keys-set_value_at, length-set_value_at}
 use Rattle.hashlink_model.proofs.Puts.{IsEntries-put, put_back_absent, put_back_here}
+use Rattle.std.{proofs.Common.{Option, add-one}, proofs.Math.Path.fun_ext, specs.Map.{lookup, values_of}}
+use Rattle.std.proofs.lemmas.{List.{append-nil, map-append, length-map}, Map.NonePasses, Option.same_Some}
+use Rattle.std.proofs.lemmas.Bool.{true≢false}
+use Rattle.hashlink_core.proofs.Steps.{lookup-place, none_passes_from_place}
 use Rattle.hashlink_map.specs.WritingWalk.{WritingWalk, after_front, walk_with}
-use Rattle.hashlink_curve.specs.Recency.{RecencyState, Rises, IsPlaced, PutsKeyLast}
-use Rattle.hashlink_curve.proofs.Sums.{count_by-middle, count_by-cons}
 
 pub same_keys : {K : Type 0} {s t : RecencyState K} → s ≡ t → s.keys ≡ t.keys
 same_keys same = ap (λ s. s.keys) same

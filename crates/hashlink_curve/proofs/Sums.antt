@@ -1,19 +1,13 @@
 -- The sum before a place, by the rows of sums, and a change at a place.
-use Rattle.std.proofs.lemmas.Bool.{cases_lt}
-use Rattle.std.proofs.Common.{◌≡◌, ℕ, zero, suc, ◌+◌, ◌-◌, ◌*◌, ◌/◌, ◌^◌, ◌<◌, ◌≤◌, Bool}
-use Rattle.std.proofs.Common.{List, [], ◌∷◌, ◌++◌, length, take, drop, get_or, set, replicate, refl, sym, ap}
-use Rattle.std.proofs.Common.{◌∙◌, ◌⊎◌, inl, inr, arith, cond, subst, subst₂}
-use Rattle.std.specs.Prelude.{nat_eq, nat_lt, sum, slice_range, All, Vec}
-use Rattle.std.specs.List.{count_by}
-use Rattle.std.proofs.Math.Seq.{take-set-lt, take-add}
+use Rattle.std.proofs.Common.{◌≡◌, ℕ, zero, suc, ◌+◌, ◌-◌, ◌*◌, ◌/◌, ◌^◌, ◌<◌, ◌≤◌, Bool, List, [], ◌∷◌, ◌++◌}
+use Rattle.std.proofs.Common.{length, take, drop, get_or, set, replicate, refl, sym, ap, ◌∙◌, ◌⊎◌, inl, inr}
 use Rattle.std.proofs.lemmas.List.{take-set-le, take_all, get_or-take, length-set, length-take}
-use Rattle.std.proofs.lemmas.List.{take-append-le, length-replicate, length-map}
 use Rattle.std.proofs.lemmas.List.Sums.{sum_by-cons, sum_by-append, sum_by-set, sum_by_more, sum_by-take-le}
-use Rattle.std.proofs.lemmas.List.Sums.{get_or-le-sum_by, sum_by-le}
-use Rattle.std.proofs.lemmas.List.Elements.{All-set, All-replicate}
-use Rattle.std.proofs.lemmas.List.Folds.{sum_by-replicate}
-use Rattle.std.proofs.lemmas.Bool.Decides.{nat_tests}
-use Rattle.std.specs.declared.alloc.Global.{Global}
+use Rattle.std.{proofs.lemmas.Bool.cases_lt, proofs.Common.{arith, cond, subst, subst₂}, specs.List.count_by}
+use Rattle.std.specs.{Prelude.{nat_eq, nat_lt, sum, slice_range, All, Vec}, declared.alloc.Global.Global}
+use Rattle.std.proofs.{Math.Seq.{take-set-lt, take-add}, lemmas.List.Sums.{get_or-le-sum_by, sum_by-le}}
+use Rattle.std.proofs.lemmas.{List.{take-append-le, length-replicate, length-map}, Bool.Decides.nat_tests}
+use Rattle.std.proofs.lemmas.List.{Elements.{All-set, All-replicate}, Folds.sum_by-replicate}
 use Rattle.hashlink_curve.specs.Marks.{Marked, HasSums, HasRows, AreSummed, rows_of, sum_before, HasNode}
 use Rattle.hashlink_curve.specs.Marks.{changed, CanChange}
 

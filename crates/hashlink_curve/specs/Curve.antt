@@ -2,9 +2,7 @@
 use Rattle.std.specs.Prelude.{◌≡◌, ℕ, ◌+◌, ◌-◌, ◌^◌, ◌<◌, ◌≤◌, Bool, true, false, nat_eq, List, [], ◌∷◌, ◌++◌}
 use Rattle.std.specs.Prelude.{length, drop, sum, All, AllPairs, Contains, IsTrue, Option, None, Some}
 use Rattle.std.specs.Prelude.{if◌then◌else◌, nat_lt, set, slice_index, Vec, vec_len, vec_capacity}
-use Rattle.std.specs.declared.alloc.Global.{Global}
-use Rattle.std.specs.List.{AllZip, list_any}
-use Rattle.std.specs.Set.{is_member, unique_keys}
+use Rattle.std.specs.{declared.alloc.Global.Global, List.{AllZip, list_any}, Set.{is_member, unique_keys}}
 use Rattle.hashlink_history.specs.History.{reuse_distance, cache_misses}
 
 -- the keys in the order of their last uses, each once; the number of uses at each distance; and the number of

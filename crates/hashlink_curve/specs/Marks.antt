@@ -1,9 +1,8 @@
 -- Marks at the places of a row, and the rows of sums above it. Each row of sums has the sums of the blocks of
 -- 64 entries of the row below.
 use Rattle.std.specs.Prelude.{◌≡◌, ℕ, ◌+◌, ◌-◌, ◌*◌, ◌/◌, ◌^◌, ◌<◌, ◌≤◌, List, [], ◌∷◌, length, take, sum}
-use Rattle.std.specs.Prelude.{nat_eq, slice_index, slice_range, All, map, set, Vec, ⊤}
+use Rattle.std.specs.{Prelude.{nat_eq, slice_index, slice_range, All, map, set, Vec, ⊤}, List.count_by}
 use Rattle.std.specs.declared.alloc.Global.{Global}
-use Rattle.std.specs.List.{count_by}
 
 abbrev pub rows_of : List (Vec ℕ Global) → List (List ℕ)
 rows_of rows = map (λ row. row.items) rows

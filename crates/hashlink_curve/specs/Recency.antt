@@ -1,10 +1,7 @@
 -- The keys of a history, each once, in the order of their last uses, and each with its place in a row of
 -- marks.
 use Rattle.std.specs.Prelude.{◌≡◌, ℕ, ◌+◌, ◌≤◌, Bool, true, false, List, [], ◌∷◌, ◌++◌, length, Option, None}
-use Rattle.std.specs.Prelude.{Some}
-use Rattle.std.specs.Map.{lookup, values_of}
-use Rattle.std.specs.List.{list_any}
-use Rattle.std.specs.Set.{is_member}
+use Rattle.std.specs.{Prelude.Some, Map.{lookup, values_of}, List.list_any, Set.is_member}
 use Rattle.hashlink_model.specs.Entries.{IsEntries, put}
 use Rattle.hashlink_curve.specs.Marks.{Marked}
 

@@ -1,11 +1,10 @@
 //! The miss curve.
 ghost use Rattle.std.specs.Prelude.{◌≡◌, ◌≤◌, ◌<◌, ◌+◌, ◌-◌, ◌^◌, ℕ, List, [], length, drop, sum, Ok, IfOk};
-ghost use Rattle.std.specs.Prelude.{IfErr, IsOk, OnErr, OnOk, IsTrue, vec_capacity};
-ghost use Rattle.std.specs.List.{list_any};
+ghost use Rattle.std.specs.{Prelude.{IfErr, IsOk, OnErr, OnOk, IsTrue, vec_capacity}, List.list_any};
 ghost use Rattle.std.specs.Set.{distinct_count, is_member};
 ghost use Rattle.hashlink_history.specs.History.{cache_misses};
-ghost use Rattle.hashlink_curve.specs.Curve.{Counted, Counts, CanMakeMatch, misses_at};
-ghost use Rattle.hashlink_curve.specs.Curve.{falls_from, ListsFalls, CanCount, KeepsCounts, tallied};
+ghost use Rattle.hashlink_curve.specs.Curve.{Counted, Counts, CanMakeMatch, misses_at, falls_from};
+ghost use Rattle.hashlink_curve.specs.Curve.{ListsFalls, CanCount, KeepsCounts, tallied};
 
 use crate::falls::Falls;
 use crate::recency::Recency;

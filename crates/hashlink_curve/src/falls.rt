@@ -1,6 +1,5 @@
 //! The capacities at which a miss curve falls.
-ghost use Rattle.std.specs.Prelude.{◌≡◌, ◌-◌, ◌^◌, ◌≤◌, ◌<◌, length, sum};
-ghost use Rattle.std.specs.Iterator.{at_most, YieldsFirst};
+ghost use Rattle.std.specs.{Prelude.{◌≡◌, ◌-◌, ◌^◌, ◌≤◌, ◌<◌, length, sum}, Iterator.{at_most, YieldsFirst}};
 ghost use Rattle.hashlink_curve.specs.Curve.{falls_from};
 
 use std::marker::Model;

@@ -1,7 +1,6 @@
 //! Marks at places, and the number of marks before a place.
 ghost use Rattle.std.specs.Prelude.{◌≡◌, ℕ, ◌+◌, ◌-◌, ◌/◌, ◌<◌, ◌≤◌, ◌^◌, List, [], ◌∷◌, ◌++◌, IfOk, nat_lt};
-ghost use Rattle.std.specs.Prelude.{slice_index, length, set, sum};
-ghost use Rattle.std.specs.List.{count_by};
+ghost use Rattle.std.specs.{Prelude.{slice_index, length, set, sum}, List.count_by};
 ghost use Rattle.hashlink_curve.specs.Marks.{Marked, rows_of, sum_before, HasNode, CanChange, changed};
 
 use std::alloc::{AllocError, Global};

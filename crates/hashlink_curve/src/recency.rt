@@ -1,9 +1,6 @@
 //! Keys in the order of their last uses.
 ghost use Rattle.std.specs.Prelude.{◌≡◌, ◌+◌, ◌-◌, ◌<◌, ◌≤◌, [], length, Ok, IfOk, IfErr, IsOk, OnOk, OnErr};
-ghost use Rattle.std.specs.Prelude.{None, IsTrue};
-ghost use Rattle.std.specs.List.{list_any};
-ghost use Rattle.std.specs.Map.{keys_of, lookup};
-ghost use Rattle.std.specs.Set.{is_member};
+ghost use Rattle.std.specs.{Prelude.{None, IsTrue}, List.list_any, Map.{keys_of, lookup}, Set.is_member};
 ghost use Rattle.hashlink_core.specs.Keyed.{entries_of};
 ghost use Rattle.hashlink_curve.specs.Curve.{CanMakeMatch};
 ghost use Rattle.hashlink_curve.specs.Recency.{Touches, TouchesMatch, IsPlaced, KeepsKeys, PutsKeyLast};
@@ -25,8 +22,7 @@ pub(crate) struct Recency<K: Eq + Hash, S: BuildHasher> {
 }
 
 impl<K: Eq + Hash, S: BuildHasher> Model for Recency<K, S> {
-    ghost use Rattle.std.specs.Prelude.{◌-◌, length};
-    ghost use Rattle.std.specs.Map.{keys_of};
+    ghost use Rattle.std.specs.{Prelude.{◌-◌, length}, Map.keys_of};
     ghost use Rattle.hashlink_core.specs.Keyed.{entries_of};
     ghost use Rattle.hashlink_curve.specs.Recency.{RecencyState, IsPlaced};
 

@@ -5,16 +5,14 @@ use Rattle.hashlink_map.proofs.Names.{Logic, sem, follows_by, such_by, RattleTyp
 use Rattle.hashlink_map.proofs.Names.{MutBor, follows_if, Node, IsPlace, place_number, node_row}
 use Rattle.hashlink_map.proofs.Names.{with_value_at, CursorMut, cursor_node, lent_pair, IsPlace-prop, param}
 use Rattle.hashlink_map.proofs.Names.{Laws, NamedLft, CursorState, fres, entries_of, at-guard}
-use Rattle.std.specs.Prelude.{Option, Some, None}
-use Rattle.std.specs.Borrow.{Fml, name_if_some}
+use Rattle.std.specs.{Prelude.{Option, Some, None}, Borrow.{Fml, name_if_some}}
 use Rattle.hashlink_map.specs.contracts.as_node.NodeAsNode.TheImpl
 use Rattle.hashlink_map.specs.contracts.cursor.CursorMut as cursor
-use Rattle.hashlink_map.proofs.Written.{cursor_written}
-use Rattle.hashlink_map.proofs.LendAtPlace.{Lending, LendingAt}
-use types.Kit.{‵, ◌$◌, ◌∵◌, !, qed, fpack, done}
+use Rattle.hashlink_map.proofs.{Written.cursor_written, LendAtPlace.{Lending, LendingAt}}
 use Rattle.hashlink_map.specs.Cursor.{cursor_map, cursor_state, CursorWritten, LentAt, TakesPlace}
 use Rattle.hashlink_map.specs.CursorLends.{cursor_with, LendsAtCursorNode, LendsPairFromCursor}
 use Rattle.hashlink_map.specs.Bounds.{EqGhosts, HashGhosts, HasherGhosts, BuilderGhosts, NodeGhosts}
+use types.Kit.{‵, ◌$◌, ◌∵◌, !, qed, fpack, done}
 
 module _ {K V S T : Type 0} {g : EqGhosts K} {h : HashGhosts K} {b : BuilderGhosts S T}
     {w : HasherGhosts T}

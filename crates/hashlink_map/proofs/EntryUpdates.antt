@@ -1,23 +1,17 @@
 -- What a look-up finds after a step at the place of a key.
 use Rattle.hashlink_map.proofs.Names
-use Names.{◌≡◌, ℕ, ◌+◌, Bool, true, cond, List, [], ◌∷◌, ◌++◌, Option, None, Some, length}
-use Names.{sym, ap, ap₂, subst, ◌∙◌, true≢false, is_some, IsEquivalence, IsEntries, lookup, place_of}
-use Names.{MapState, slice_get, option_map}
-use Rattle.std.specs.Prelude.{IsSome}
-use Rattle.std.specs.Option.{option_map_or}
-use Rattle.std.proofs.Common.{⊎_elim}
-use Rattle.std.proofs.lemmas.Bool.{cases_Bool}
-use Rattle.std.specs.Map.{KeepsOthers, set_value}
-use Rattle.hashlink_model.specs.Entries.{IsKeyTest, moved_at, moved_match, set_key_at, set_value_at}
+use Names.{◌≡◌, ℕ, ◌+◌, Bool, true, cond, List, [], ◌∷◌, ◌++◌, Option, None, Some, length, sym, ap, ap₂}
+use Names.{subst, ◌∙◌, true≢false, is_some, IsEquivalence, IsEntries, lookup, place_of, MapState, slice_get}
+use Names.{option_map}
+use Rattle.std.{specs.Prelude.IsSome, specs.Option.option_map_or, proofs.Common.⊎_elim}
+use Rattle.std.{proofs.lemmas.Bool.cases_Bool, specs.Map.{KeepsOthers, set_value}}
 use Rattle.hashlink_model.specs.Entry.{InsertsValue, InsertsEntry, ReplacesEntry, ReplacesKey, TakesEntry}
-use Rattle.hashlink_model.specs.Entry.{replace_entry}
-use Rattle.hashlink_model.specs.Lookups.{UpdatesBy, Updates, KeepsLookups}
-use Rattle.hashlink_model.proofs.ByPlace.{set_value_at-place}
-use Rattle.hashlink_model.proofs.Puts.{place_of-set_value}
+use Rattle.hashlink_model.specs.Entries.{IsKeyTest, moved_at, moved_match, set_key_at, set_value_at}
+use Rattle.hashlink_model.specs.{Entry.replace_entry, Lookups.{UpdatesBy, Updates, KeepsLookups}}
+use Rattle.hashlink_model.proofs.{ByPlace.set_value_at-place, Puts.place_of-set_value}
 use Rattle.hashlink_model.proofs.Splits.{stands_from_place}
 use Rattle.hashlink_model.proofs.Updates.{updates-put, updates-left, updates-written, keeps-moved}
-use Rattle.hashlink_core.proofs.AtKey.{inserted-key, taken-key}
-use Rattle.hashlink_core.proofs.Steps.{lookup-place}
+use Rattle.hashlink_core.proofs.{AtKey.{inserted-key, taken-key}, Steps.lookup-place}
 use Rattle.hashlink_map.proofs.Outcomes.{removes_entries}
 
 module _ {K : Type 0} (eq : K → K → Bool) (laws : IsEquivalence eq) where

@@ -1,10 +1,9 @@
 -- An entry that is the last: it moved there, or its pair was inserted there.
 use Rattle.hashlink_map.proofs.Names
-use Names.{◌≡◌, ℕ, ◌-◌, Bool, None, Some, length, refl, sym, ap, ap₂, subst, ◌∙◌}
-use Names.{slice_get, Result, Ok, Err, IfOk, IfErr, OnErr, MatchOption, Bor, MutBor}
-use Names.{IsEquivalence, IsEntries, place_of, MapState, MovesAt, AddsEntry}
-use Names.{RefusesEntry, RawEntryState, place_of_its_key, Keyed, state_of}
-use Names.{entries_of, Node, Holds, place_number, at-node, node-at, RawOccupiedEntryMut, raw_occupied_state}
+use Names.{◌≡◌, ℕ, ◌-◌, Bool, None, Some, length, refl, sym, ap, ap₂, subst, ◌∙◌, slice_get, Result, Ok, Err}
+use Names.{IfOk, IfErr, OnErr, MatchOption, Bor, MutBor, IsEquivalence, IsEntries, place_of, MapState}
+use Names.{MovesAt, AddsEntry, RefusesEntry, RawEntryState, place_of_its_key, Keyed, state_of, entries_of}
+use Names.{Node, Holds, place_number, at-node, node-at, RawOccupiedEntryMut, raw_occupied_state}
 use Names.{raw_occupied_map, raw_place, raw_pair, PutsLast, StandsLast, with_value_at}
 use Rattle.std.specs.Prelude.{Option}
 use Rattle.hashlink_map.specs.contracts.as_node.NodeAsNode.TheImpl

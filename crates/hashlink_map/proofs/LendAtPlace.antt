@@ -18,9 +18,8 @@ use Rattle.std.proofs.option.Option.TheLaws as option_laws
 use Rattle.std.specs.contracts.option.Option as option
 use Rattle.hashlink_core.proofs.Node.TheLaws as node_laws
 use Rattle.hashlink_core.specs.contracts.Node.{the_row as node_row}
-use Rattle.hashlink_map.proofs.PairRows.{Lent, lent_laws}
+use Rattle.hashlink_map.proofs.{PairRows.{Lent, lent_laws}, PairValues.{valued, some_had, none_had}}
 use Rattle.hashlink_map.proofs.PairSteps.{Asks, adds_fact, asks_again, ended, clauses}
-use Rattle.hashlink_map.proofs.PairValues.{valued, some_had, none_had}
 use types.Kit.{‵, raw, ◌⊛◌, some, later, ◌$◌, ◌∵◌, !, qed, by, move, keep, drop, split, join, fsplit, fjoin}
 use types.Kit.{fpick, feq_l, pick, await, rewrite, use0, use1, at_ret, any_q, post, fsplit3, suffices}
 use Rattle.std.specs.Prelude.{None, Some}

@@ -5,10 +5,8 @@ use Rattle.hashlink_map.proofs.Names.{state_of, lookup, Node, Holds, place_of, p
 use Rattle.hashlink_map.proofs.Names.{with_value_at, moved-found, lent-moved, moved-value, lookup-unplaced}
 use Rattle.hashlink_map.proofs.Names.{none_passes_from_place}
 use Rattle.hashlink_core.specs.Keyed.{HoldsMatch}
-use Rattle.hashlink_model.specs.Entries.{IsKeyTest, moved_match}
-use Rattle.hashlink_model.specs.Lookups.{KeepsLookups, UpdatesLent}
-use Rattle.hashlink_model.specs.Steps.{MovesMatchAndWrites}
-use Rattle.hashlink_model.proofs.MovedLast.{moves_none}
+use Rattle.hashlink_model.specs.{Entries.{IsKeyTest, moved_match}, Lookups.{KeepsLookups, UpdatesLent}}
+use Rattle.hashlink_model.{specs.Steps.MovesMatchAndWrites, proofs.MovedLast.moves_none}
 use Rattle.hashlink_model.proofs.Updates.{keeps-moved, updates-lent_moved}
 
 module _ {K V S : Type 0} {eq : K → K → Bool} (laws : IsEquivalence eq) {test : K → Bool}

@@ -8,10 +8,9 @@ use Rattle.hashlink_map.proofs.Names.{raw_occupied_map, raw_occupied_state, raw_
 use Rattle.std.specs.Prelude.{Some, length}
 use Rattle.std.specs.Borrow.{Fml, ftrue, RattleType, RestsIfErr, follows, follows_so, name_if_ok}
 use Rattle.hashlink_map.specs.contracts.as_node.NodeAsNode.TheImpl
-use Rattle.hashlink_map.specs.contracts.map.LinkedHashMap.{the_row}
-use Rattle.hashlink_map.proofs.AtNode.{adds-written, added-parts}
-use types.Kit.{‵, ◌$◌, ◌∵◌, !, qed, drop, move, use2, fpick, fpack, done}
+use Rattle.hashlink_map.{specs.contracts.map.LinkedHashMap.the_row, proofs.AtNode.{adds-written, added-parts}}
 use Rattle.hashlink_map.specs.Bounds.{EqGhosts, HashGhosts, HasherGhosts, BuilderGhosts}
+use types.Kit.{‵, ◌$◌, ◌∵◌, !, qed, drop, move, use2, fpick, fpack, done}
 
 module _ {K V S T : Type 0} {g : EqGhosts K} {h : HashGhosts K} {b : BuilderGhosts S T}
     {w : HasherGhosts T} where

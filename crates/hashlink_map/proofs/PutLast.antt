@@ -3,14 +3,12 @@ use Rattle.hashlink_map.proofs.Names.{◌≡◌, [], ◌∷◌, None, Ura, Lft, 
 use Rattle.hashlink_map.proofs.Names.{RattleType, heard, MutBor, IsEquivalence, IfOk, IfErr, OnErr}
 use Rattle.hashlink_map.proofs.Names.{MatchOption, RawEntryState, AddsEntry, RefusesEntry, Keyed, state_of}
 use Rattle.hashlink_map.proofs.Names.{entries_of, PutsLast, raw_occupied_map, raw_occupied_state, raw_pair}
-use Rattle.hashlink_map.proofs.Names.{raw_place, StandsLast}
-use Rattle.std.specs.Prelude.{length}
-use Rattle.hashlink_map.proofs.EnterAndLend.{Made_at, Lent_at, Entering}
-use Rattle.hashlink_map.proofs.LastMoved.{put_written, put_parts}
 use Rattle.hashlink_map.proofs.PairTies.{ok_carried, err_carried, on_err_carried, IsLent, IsHandedOn}
-use Rattle.hashlink_map.proofs.PairTies.{new_written, new_parts}
-use types.Kit.{raw, ◌$◌, ◌∵◌, !, qed, by, done, drop, use0}
+use Rattle.hashlink_map.proofs.{Names.{raw_place, StandsLast}, EnterAndLend.{Made_at, Lent_at, Entering}}
+use Rattle.hashlink_map.proofs.{LastMoved.{put_written, put_parts}, PairTies.{new_written, new_parts}}
 use Rattle.hashlink_map.specs.Bounds.{EqGhosts, HashGhosts, HasherGhosts, BuilderGhosts}
+use Rattle.std.specs.Prelude.{length}
+use types.Kit.{raw, ◌$◌, ◌∵◌, !, qed, by, done, drop, use0}
 
 module _ {M : Type 1} (𝓤 : Ura M) (𝓛 : Logic 𝓤) (K V S T : RattleType) (LK : Laws K) (LV : Laws V)
     (LS : Laws S) (LT : Laws T) (p : EqGhosts K.Denot) (h : HashGhosts K.Denot)

@@ -2,8 +2,7 @@
 use Rattle.hashlink_map.proofs.Names.{Option, None, Some, ap, sym, subst, ◌∙◌, TakesFirst, TakesLast}
 use Rattle.hashlink_map.proofs.Names.{GivesInOrder, GivesInReverse, as_is, as_is_back, in-order, in-reverse}
 use Rattle.hashlink_map.proofs.Names.{MapState, PopsFront, PopsBack, after_first_of, before_last_of}
-use Rattle.hashlink_model.specs.Steps.{KeepsOnly}
-use Rattle.hashlink_model.proofs.Walks.{takes_first, takes_last}
+use Rattle.hashlink_model.{specs.Steps.KeepsOnly, proofs.Walks.{takes_first, takes_last}}
 
 module _ {K V S : Type 0} (old new : MapState K V S) where
   pub pop-takes_first : (r : Option (K × V)) → PopsFront old new r

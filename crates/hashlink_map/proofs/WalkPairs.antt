@@ -6,19 +6,17 @@ use Rattle.hashlink_map.proofs.Names.{slice_get, option_map, Bor, MutBor, follow
 use Rattle.hashlink_map.proofs.Names.{place_number, entries_of, first_of, last_of, node_row, with_value_at}
 use Rattle.hashlink_map.proofs.Names.{IterMut, lent_pair, WritingWalk, StandsIn, walk_with, walk_rest}
 use Rattle.hashlink_map.proofs.Names.{last_place, after_front, after_back, param, Laws, NamedLft, fres}
-use Rattle.std.proofs.Common.{drop}
-use Rattle.std.specs.Prelude.{Option, Some, None}
+use Rattle.std.{proofs.Common.drop, specs.Prelude.{Option, Some, None}}
 use Rattle.std.specs.Borrow.{Fml, GName, name_if_some}
 use Rattle.hashlink_map.specs.contracts.as_node.NodeAsNode.TheImpl
 use Rattle.hashlink_map.specs.contracts.iter_mut.IterMut as walk
-use Rattle.hashlink_map.proofs.Walking.{written-there, first-taken, last-taken}
-use Rattle.hashlink_map.proofs.LendAtPlace.{Lending, LendingAt}
-use types.Kit.{‵, ◌$◌, ◌∵◌, !, qed, fpick, fpack, rewrite, done}
-use Rattle.hashlink_map.specs.IterMut.{walk_map, walk_state}
 use Rattle.hashlink_map.specs.IterMutLends.{walk_with_value, LendsAtWalkNode, LendsPairThere}
+use Rattle.hashlink_map.proofs.Walking.{written-there, first-taken, last-taken}
+use Rattle.hashlink_map.{proofs.LendAtPlace.{Lending, LendingAt}, specs.IterMut.{walk_map, walk_state}}
 use Rattle.hashlink_map.specs.IterMutLends.{LendsPairFromWalk, LentFrom, StaysThere, StepsAndWrites, TakesOff}
 use Rattle.hashlink_map.specs.WritingWalk.{StandsIn-prop}
 use Rattle.hashlink_map.specs.Bounds.{EqGhosts, HashGhosts, HasherGhosts, BuilderGhosts, NodeGhosts}
+use types.Kit.{‵, ◌$◌, ◌∵◌, !, qed, fpick, fpack, rewrite, done}
 
 module _ {K V S T : Type 0} {g : EqGhosts K} {h : HashGhosts K} {b : BuilderGhosts S T}
     {w : HasherGhosts T}

@@ -2,12 +2,11 @@
 use Rattle.hashlink_map.proofs.Names
 use Names.{◌≡◌, ◌≢◌, ℕ, zero, suc, ◌+◌, ◌-◌, ◌<◌, ◌≤◌, List, [], ◌∷◌, length, ◌++◌, map, take, Option, None}
 use Names.{Some, refl, ap, ap₂, sym, subst, length-take-le, ◌∙◌, arith, slice_get, OnSome, option_map}
-use Names.{value_at}
-use Names.{set_value_at, MapState, map_state, with_value, first_of, last_of, Keyed, entries_of, state_of}
-use Names.{pair_with_value, with_value_at, values-renewed_value, length-map, PlacesLeft, WritingWalk}
-use Names.{writing_walk, walk_with, walk_in, walk_rest, WritesSoFar, after_front, last_place, after_back}
-use Names.{StandsIn, Node, Holds, place_number}
-use Names.{place_number-renewed, within-holds, slice_get-drop}
+use Names.{value_at, set_value_at, MapState, map_state, with_value, first_of, last_of, Keyed, entries_of}
+use Names.{state_of, pair_with_value, with_value_at, values-renewed_value, length-map, PlacesLeft}
+use Names.{WritingWalk, writing_walk, walk_with, walk_in, walk_rest, WritesSoFar, after_front, last_place}
+use Names.{after_back, StandsIn, Node, Holds, place_number, place_number-renewed, within-holds}
+use Names.{slice_get-drop}
 use Rattle.std.proofs.Common.{drop, add-one, length-drop}
 use Rattle.hashlink_map.specs.WritingWalk.{TakesPlace}
 

@@ -1,8 +1,6 @@
 -- What a map is made from, and why the making stopped.
-use Rattle.std.specs.Prelude.{◌≡◌, Bool, true, List, Result}
-use Rattle.std.specs.List.{AllZip}
-use Rattle.hashlink_model.specs.Compare.{entries_eq}
-use Rattle.hashlink_model.specs.Many.{StopsAtLast, MadeFrom, InsertsPair}
+use Rattle.std.specs.{Prelude.{◌≡◌, Bool, true, List, Result}, List.AllZip}
+use Rattle.hashlink_model.specs.{Compare.entries_eq, Many.{StopsAtLast, MadeFrom, InsertsPair}}
 use Rattle.hashlink_model.specs.MapState.{MapState, empty_map}
 
 -- each pair of the second list has a clone of the key and a clone of the value of the pair at the same place

@@ -1,9 +1,7 @@
 -- Comparisons of maps, and what a map feeds to a hasher: both depend on its entries only.
-use Rattle.std.specs.Prelude.{◌≡◌, Bool, true, List, Option, Some}
 use Rattle.std.specs.Cmp.{IsEquivalence, IsPartialEquivalence, IsPartialOrder, IsTotalOrder, on_equiv, on_per}
-use Rattle.std.specs.Cmp.{on_po, on_total, partial_equiv_from_equiv}
-use Rattle.std.specs.Ordering.{eq_by_cmp}
-use Rattle.std.specs.declared.cmp.Ordering.{Ordering}
+use Rattle.std.specs.{Prelude.{◌≡◌, Bool, true, List, Option, Some}, Ordering.eq_by_cmp}
+use Rattle.std.specs.{Cmp.{on_po, on_total, partial_equiv_from_equiv}, declared.cmp.Ordering.Ordering}
 use Rattle.hashlink_model.specs.Compare.{entries_eq, entries_cmp, entries_partial_cmp, entries_hash_input}
 use Rattle.hashlink_model.proofs.Comparisons as compared
 use Rattle.hashlink_core.specs.Keyed.{Keyed, entries_of}

@@ -1,12 +1,9 @@
 -- Cursors, as contracts see them.
-use Rattle.std.specs.Prelude.{◌≡◌, ℕ, Option}
-use Rattle.std.specs.Borrow.{Bor, MutBor}
-use Rattle.std.specs.Option.{option_map}
+use Rattle.std.specs.{Prelude.{◌≡◌, ℕ, Option}, Borrow.{Bor, MutBor}, Option.option_map}
 use Rattle.hashlink_map.specs.Bounds.{EqGhosts, HashGhosts, HasherGhosts, BuilderGhosts, NodeGhosts}
-use Rattle.hashlink_model.specs.Cursor.{CursorState, entry_in, with_value_in}
-use Rattle.hashlink_core.specs.Places.{Node, IsPlaceAt, place_number}
-use Rattle.hashlink_core.specs.Keyed.{Keyed, state_of}
 use Rattle.hashlink_map.specs.declared.cursor.CursorMut.{CursorMut}
+use Rattle.hashlink_model.specs.Cursor.{CursorState, entry_in, with_value_in}
+use Rattle.hashlink_core.specs.{Places.{Node, IsPlaceAt, place_number}, Keyed.{Keyed, state_of}}
 
 -- the pair behind a reference to a key and one to its value
 abbrev pub lent_pair : {K V : Type 0} → Bor K × MutBor V → K × V

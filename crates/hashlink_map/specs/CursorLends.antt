@@ -4,12 +4,10 @@ use Rattle.std.specs.Borrow.{Fml, RattleType, Bor, MutBor, Lends, LendsSo, follo
 use mir.Syntax.{named}
 use Rattle.hashlink_map.specs.Bounds.{EqGhosts, HashGhosts, HasherGhosts, BuilderGhosts, NodeGhosts}
 use Rattle.hashlink_model.specs.Cursor.{place_next, place_previous}
-use Rattle.hashlink_core.specs.Places.{Node, place_number}
-use Rattle.hashlink_core.specs.KeyedLends.{node_row, with_value_at}
+use Rattle.hashlink_core.specs.{Places.{Node, place_number}, KeyedLends.{node_row, with_value_at}}
 use Rattle.hashlink_map.specs.contracts.cursor.CursorMut as cursor
-use Rattle.hashlink_map.specs.declared.cursor.CursorMut.{CursorMut}
+use Rattle.hashlink_map.specs.{declared.cursor.CursorMut.CursorMut, Standing.still_placed}
 use Rattle.hashlink_map.specs.Cursor.{cursor_map, cursor_node, cursor_state, CursorWritten}
-use Rattle.hashlink_map.specs.Standing.{still_placed}
 
 module _ {K V S T : Type 0} {g : EqGhosts K} {h : HashGhosts K} {b : BuilderGhosts S T}
     {w : HasherGhosts T}

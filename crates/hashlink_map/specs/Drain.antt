@@ -1,10 +1,7 @@
 -- Drains, as contracts see them.
-use Rattle.std.specs.Prelude.{◌≡◌, List, Option}
-use Rattle.std.specs.Borrow.{MutBor}
-use Rattle.std.specs.Map.Iter.{TakesFirst, TakesLast}
+use Rattle.std.specs.{Prelude.{◌≡◌, List, Option}, Borrow.MutBor, Map.Iter.{TakesFirst, TakesLast}}
 use Rattle.hashlink_model.specs.Steps.{PopsFront, PopsBack}
-use Rattle.hashlink_core.specs.Drained.{with_drained}
-use Rattle.hashlink_core.specs.Keyed.{Keyed, entries_of, state_of}
+use Rattle.hashlink_core.specs.{Drained.with_drained, Keyed.{Keyed, entries_of, state_of}}
 use Rattle.hashlink_map.specs.Bounds.{EqGhosts, HashGhosts, HasherGhosts, BuilderGhosts, DrainedGhosts}
 use Rattle.hashlink_map.specs.declared.drain.Drain.{Drain}
 

@@ -1,18 +1,12 @@
 -- Entries with a given key, as contracts see them.
-use Rattle.std.specs.Prelude.{◌≡◌, ℕ, Option, Some, None, MatchOption, option_and_then}
-use Rattle.std.specs.Borrow.{MutBor}
+use Rattle.std.specs.{Prelude.{◌≡◌, ℕ, Option, Some, None, MatchOption, option_and_then}, Borrow.MutBor}
 use Rattle.std.specs.Fn.{Once, FnOnceReturnsAtMut}
 use Rattle.hashlink_map.specs.Bounds.{EqGhosts, HashGhosts, HasherGhosts, BuilderGhosts, NodeGhosts}
-use Rattle.hashlink_model.specs.MapState.{with_value}
-use Rattle.hashlink_model.specs.Entry.{EntryState, value_at}
-use Rattle.hashlink_core.specs.Places.{place_number}
-use Rattle.hashlink_core.specs.Keyed.{Keyed, state_of}
-use Rattle.hashlink_core.specs.KeyedLends.{with_value_at}
-use Rattle.hashlink_map.specs.Standing.{still_holds_match}
-use Rattle.hashlink_map.specs.declared.entry.Entry.{Entry}
+use Rattle.hashlink_map.specs.{Standing.still_holds_match, declared.entry.vacant.VacantEntry.VacantEntry}
+use Rattle.hashlink_map.specs.declared.entry.{Entry.Entry, occupied.OccupiedEntry.OccupiedEntry}
 use Rattle.hashlink_map.specs.declared.entry.Entry.TheVariants.{Occupied, Vacant}
-use Rattle.hashlink_map.specs.declared.entry.occupied.OccupiedEntry.{OccupiedEntry}
-use Rattle.hashlink_map.specs.declared.entry.vacant.VacantEntry.{VacantEntry}
+use Rattle.hashlink_model.specs.{MapState.with_value, Entry.{EntryState, value_at}}
+use Rattle.hashlink_core.specs.{Places.place_number, Keyed.{Keyed, state_of}, KeyedLends.with_value_at}
 
 module _ {K V S : Type 0} where
   -- the value at the place, or `None` if there is no entry

@@ -1,21 +1,17 @@
 -- A map or an entry, after a `&mut` to a value that was lent through an entry has ended.
-use Rattle.std.specs.Prelude.{[], length, Bool, Result, Ok, IfErr}
+use Rattle.std.specs.{Prelude.{[], length, Bool, Result, Ok, IfErr}, Map.lookup}
 use Rattle.std.specs.Borrow.{Fml, RattleType, MutBor, Lends, LendsSoOk}
 use mir.Syntax.{named}
 use Rattle.hashlink_map.specs.Bounds.{EqGhosts, HashGhosts, HasherGhosts, BuilderGhosts, NodeGhosts}
-use Rattle.std.specs.Map.{lookup}
-use Rattle.hashlink_model.specs.MapState.{MapState, Inserts, AddsEntry, RefusesEntry}
-use Rattle.hashlink_core.specs.Keyed.{state_of, entries_of}
-use Rattle.hashlink_core.specs.Places.{Node}
-use Rattle.hashlink_core.specs.KeyedLends.{node_row, with_value_at}
 use Rattle.hashlink_map.specs.contracts.map.LinkedHashMap.{the_row}
+use Rattle.hashlink_model.specs.MapState.{MapState, Inserts, AddsEntry, RefusesEntry}
+use Rattle.hashlink_core.specs.{Keyed.{state_of, entries_of}, Places.Node}
+use Rattle.hashlink_core.specs.KeyedLends.{node_row, with_value_at}
 use Rattle.hashlink_map.specs.contracts.entry.occupied.OccupiedEntry as occupied
-use Rattle.hashlink_map.specs.declared.entry.Entry.{Entry}
-use Rattle.hashlink_map.specs.declared.entry.occupied.OccupiedEntry.{OccupiedEntry}
-use Rattle.hashlink_map.specs.declared.entry.vacant.VacantEntry.{VacantEntry}
+use Rattle.hashlink_map.specs.declared.entry.{Entry.Entry, occupied.OccupiedEntry.OccupiedEntry}
+use Rattle.hashlink_map.specs.{declared.entry.vacant.VacantEntry.VacantEntry, TryInsert.FailsToInsert}
 use Rattle.hashlink_map.specs.declared.try_insert_error.TryInsertError.{TryInsertError}
 use Rattle.hashlink_map.specs.Entry.{occupied_with, entry_map, entry_state}
-use Rattle.hashlink_map.specs.TryInsert.{FailsToInsert}
 
 -- the step of an insert at the end: a present key moved there, and an absent one was added there
 abbrev pub PutsLast : {K V S : Type 0} → (K → K → Bool) → MapState K V S → MapState K V S → K → V → Type 0

@@ -1,13 +1,9 @@
 -- A map, after a `&mut` to the value of a present key has ended.
-use Rattle.std.specs.Prelude.{Bool, IsSome}
-use Rattle.std.specs.Borrow.{Fml, RattleType, MutBor, Lends}
-use Rattle.std.specs.Map.{lookup}
-use Rattle.hashlink_map.specs.Bounds.{HasherGhosts, BuilderGhosts}
+use Rattle.std.specs.{Prelude.{Bool, IsSome}, Borrow.{Fml, RattleType, MutBor, Lends}, Map.lookup}
+use Rattle.hashlink_map.specs.{Bounds.{HasherGhosts, BuilderGhosts}, Lends.map_row}
 use Rattle.hashlink_model.specs.Entries.{place_or_end}
-use Rattle.hashlink_core.specs.Keyed.{Keyed, entries_of, pair_with_value}
-use Rattle.hashlink_core.specs.KeyedLends.{HashMembers}
+use Rattle.hashlink_core.specs.{Keyed.{Keyed, entries_of, pair_with_value}, KeyedLends.HashMembers}
 use Rattle.hashlink_core.specs.Places.{renewed_at}
-use Rattle.hashlink_map.specs.Lends.{map_row}
 
 module _ {K V S : Type 0} (eq : K → K → Bool) where
   -- the key is present

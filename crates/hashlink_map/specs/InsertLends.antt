@@ -1,12 +1,8 @@
 -- A map, after a `&mut` to the value of a key that was put last has ended.
-use Rattle.std.specs.Prelude.{Result, IfErr}
-use Rattle.std.specs.Borrow.{Fml, RattleType, MutBor, LendsSoOk}
-use Rattle.hashlink_map.specs.Bounds.{HasherGhosts, BuilderGhosts}
+use Rattle.std.specs.{Prelude.{Result, IfErr}, Borrow.{Fml, RattleType, MutBor, LendsSoOk}}
+use Rattle.hashlink_map.specs.{Bounds.{HasherGhosts, BuilderGhosts}, EntryLends.PutsLast, Lends.map_row}
 use Rattle.hashlink_model.specs.MapState.{RefusesEntry}
-use Rattle.hashlink_core.specs.Keyed.{Keyed, state_of}
-use Rattle.hashlink_core.specs.KeyedLends.{HashMembers}
-use Rattle.hashlink_map.specs.EntryLends.{PutsLast}
-use Rattle.hashlink_map.specs.Lends.{map_row}
+use Rattle.hashlink_core.specs.{Keyed.{Keyed, state_of}, KeyedLends.HashMembers}
 
 module _ (K V S T : RattleType) (g : HashMembers K.Denot) (b : BuilderGhosts S.Denot T.Denot)
     (w : HasherGhosts T.Denot) where

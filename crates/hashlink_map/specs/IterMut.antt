@@ -1,10 +1,9 @@
 -- Iterators that lend values for writing, with the keys and without, as contracts see them.
 use Rattle.std.specs.Borrow.{MutBor}
 use Rattle.hashlink_map.specs.Bounds.{EqGhosts, HashGhosts, HasherGhosts, BuilderGhosts, NodeGhosts}
-use Rattle.hashlink_core.specs.Keyed.{Keyed}
-use Rattle.hashlink_map.specs.declared.iter_mut.IterMut.{IterMut}
-use Rattle.hashlink_map.specs.declared.values_mut.ValuesMut.{ValuesMut}
+use Rattle.hashlink_map.specs.declared.{iter_mut.IterMut.IterMut, values_mut.ValuesMut.ValuesMut}
 use Rattle.hashlink_map.specs.WritingWalk.{WritingWalk, walk_in}
+use Rattle.hashlink_core.specs.Keyed.{Keyed}
 
 module _ {K V S T : Type 0} {g : EqGhosts K} {h : HashGhosts K} {b : BuilderGhosts S T}
     {w : HasherGhosts T}

@@ -4,18 +4,14 @@ use Rattle.std.specs.Borrow.{Fml, RattleType, Bor, MutBor, Lends, LendsSo, follo
 use Rattle.std.specs.Option.{option_map, option_copied_mut}
 use mir.Syntax.{named}
 use Rattle.hashlink_map.specs.Bounds.{EqGhosts, HashGhosts, HasherGhosts, BuilderGhosts, NodeGhosts}
-use Rattle.hashlink_core.specs.Keyed.{Keyed, entries_of}
-use Rattle.hashlink_core.specs.Places.{Node, place_number}
+use Rattle.hashlink_core.specs.{Keyed.{Keyed, entries_of}, Places.{Node, place_number}}
 use Rattle.hashlink_core.specs.KeyedLends.{node_row, with_value_at}
 use Rattle.hashlink_map.specs.contracts.iter_mut.IterMut as walk
 use Rattle.hashlink_map.specs.contracts.values_mut.ValuesMut as values
-use Rattle.hashlink_map.specs.declared.iter_mut.IterMut.{IterMut}
-use Rattle.hashlink_map.specs.declared.values_mut.ValuesMut.{ValuesMut}
-use Rattle.hashlink_map.specs.IterMut.{walk_map, walk_state, values_map, values_state}
 use Rattle.hashlink_map.specs.WritingWalk.{WritingWalk, TakesPlace, walk_with, after_front, after_back}
-use Rattle.hashlink_map.specs.WritingWalk.{last_place}
-use Rattle.hashlink_map.specs.Cursor.{lent_pair}
-use Rattle.hashlink_map.specs.Standing.{still_standing}
+use Rattle.hashlink_map.specs.declared.{iter_mut.IterMut.IterMut, values_mut.ValuesMut.ValuesMut}
+use Rattle.hashlink_map.specs.{IterMut.{walk_map, walk_state, values_map, values_state}, Cursor.lent_pair}
+use Rattle.hashlink_map.specs.{WritingWalk.last_place, Standing.still_standing}
 
 -- a walk of any type, by the map that it borrows and its state
 module _ {W K V S : Type 0} (map : W → MutBor (Keyed K V S)) (state : W → WritingWalk K V S) where

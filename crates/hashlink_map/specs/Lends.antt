@@ -2,13 +2,10 @@
 use Rattle.std.specs.Prelude.{◌≡◌, ℕ, ◌-◌, Bool, Option, OnSome, length, ⊤}
 use Rattle.std.specs.Borrow.{Fml, RattleType, MutBor, Lends, LendsSo, follows_so}
 use mathlib.Core.Option.{none}
-use Rattle.hashlink_map.specs.Bounds.{HasherGhosts, BuilderGhosts}
-use Rattle.hashlink_model.specs.MapState.{with_value}
-use Rattle.hashlink_model.specs.Steps.{with_match_value, MovesMatchAndWrites}
-use Rattle.hashlink_core.specs.Keyed.{Keyed, state_of, entries_of}
-use Rattle.hashlink_core.specs.KeyedLends.{HashMembers, with_value_at}
+use Rattle.hashlink_map.specs.{Bounds.{HasherGhosts, BuilderGhosts}, contracts.map.LinkedHashMap.the_row}
+use Rattle.hashlink_model.specs.{MapState.with_value, Steps.{with_match_value, MovesMatchAndWrites}}
+use Rattle.hashlink_core.specs.{Keyed.{Keyed, state_of, entries_of}, KeyedLends.{HashMembers, with_value_at}}
 use Rattle.hashlink_core.specs.Places.{Node}
-use Rattle.hashlink_map.specs.contracts.map.LinkedHashMap.{the_row}
 
 module _ (K V S T : RattleType) (g : HashMembers K.Denot) (b : BuilderGhosts S.Denot T.Denot)
     (w : HasherGhosts T.Denot) where

@@ -1,20 +1,15 @@
 -- Raw entries, as contracts see them, and the conditions that their callers may have to meet.
 use Rattle.std.specs.Prelude.{◌≡◌, ℕ, Option, None, Some, MatchOption, slice_get, option_and_then}
-use Rattle.std.specs.Borrow.{Bor, MutBor}
-use Rattle.std.specs.Fn.{Shared, Once}
+use Rattle.std.specs.{Borrow.{Bor, MutBor}, Fn.{Shared, Once}}
 use Rattle.hashlink_map.specs.Bounds.{EqGhosts, HashGhosts, HasherGhosts, BuilderGhosts, NodeGhosts}
-use Rattle.hashlink_model.specs.MapState.{with_value}
-use Rattle.hashlink_model.specs.Entry.{RawEntryState}
-use Rattle.hashlink_core.specs.Places.{place_number}
-use Rattle.hashlink_core.specs.Keyed.{Keyed, state_of}
-use Rattle.hashlink_core.specs.KeyedLends.{with_value_at}
-use Rattle.hashlink_map.specs.Standing.{still_holds}
+use Rattle.hashlink_map.specs.{Standing.still_holds, declared.raw_entry.RawEntryMut.RawEntryMut}
 use Rattle.hashlink_map.specs.declared.raw_entry.builders.RawEntryBuilder.{RawEntryBuilder}
 use Rattle.hashlink_map.specs.declared.raw_entry.builders.RawEntryBuilderMut.{RawEntryBuilderMut}
-use Rattle.hashlink_map.specs.declared.raw_entry.RawEntryMut.{RawEntryMut}
 use Rattle.hashlink_map.specs.declared.raw_entry.RawEntryMut.TheVariants.{Occupied, Vacant}
 use Rattle.hashlink_map.specs.declared.raw_entry.occupied.RawOccupiedEntryMut.{RawOccupiedEntryMut}
 use Rattle.hashlink_map.specs.declared.raw_entry.vacant.RawVacantEntryMut.{RawVacantEntryMut}
+use Rattle.hashlink_model.specs.{MapState.with_value, Entry.RawEntryState}
+use Rattle.hashlink_core.specs.{Places.place_number, Keyed.{Keyed, state_of}, KeyedLends.with_value_at}
 
 -- the hasher may be called on the key, and returns its hash
 pub record Hashes {K F : Type 0} (calls : Shared F (Bor K × Unit {0}) ℕ) (hash : K → ℕ) (hasher : F) (k : K)

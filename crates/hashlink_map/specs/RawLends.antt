@@ -1,23 +1,18 @@
 -- A map or a raw entry, after a loan through a raw entry has ended.
 use Rattle.std.specs.Prelude.{◌≡◌, ◌-◌, Bool, [], Option, Some, MatchOption, length, slice_get, Result, Ok}
-use Rattle.std.specs.Prelude.{Err, IfOk, IfErr, ⊤}
 use Rattle.std.specs.Borrow.{Fml, ftrue, RattleType, Bor, MutBor, Lends, RestsIfNone, RestsIfErr, follows_so}
-use Rattle.std.specs.Borrow.{name_if_ok}
+use Rattle.std.specs.{Prelude.{Err, IfOk, IfErr, ⊤}, Borrow.name_if_ok}
 use mathlib.Core.Option.{none}
 use mir.Syntax.{named}
 use Rattle.hashlink_map.specs.Bounds.{EqGhosts, HashGhosts, HasherGhosts, BuilderGhosts, NodeGhosts}
-use Rattle.hashlink_model.specs.Entries.{place_of}
-use Rattle.hashlink_model.specs.MapState.{AddsEntry, RefusesEntry, MovesAt}
-use Rattle.hashlink_model.specs.Entry.{RawEntryState}
-use Rattle.hashlink_core.specs.Keyed.{Keyed, state_of, entries_of}
-use Rattle.hashlink_core.specs.Places.{Node}
-use Rattle.hashlink_core.specs.KeyedLends.{HashMembers, node_row, with_value_at}
 use Rattle.hashlink_map.specs.contracts.map.LinkedHashMap.{the_row}
+use Rattle.hashlink_model.specs.{Entries.place_of, MapState.{AddsEntry, RefusesEntry, MovesAt}}
+use Rattle.hashlink_model.specs.Entry.{RawEntryState}
+use Rattle.hashlink_core.specs.{Keyed.{Keyed, state_of, entries_of}, Places.Node}
+use Rattle.hashlink_core.specs.KeyedLends.{HashMembers, node_row, with_value_at}
 use Rattle.hashlink_map.specs.contracts.raw_entry.occupied.RawOccupiedEntryMut as occupied
-use Rattle.hashlink_map.specs.declared.raw_entry.RawEntryMut.{RawEntryMut}
+use Rattle.hashlink_map.specs.{declared.raw_entry.RawEntryMut.RawEntryMut, EntryLends.PutsLast, Lends.map_row}
 use Rattle.hashlink_map.specs.declared.raw_entry.occupied.RawOccupiedEntryMut.{RawOccupiedEntryMut}
-use Rattle.hashlink_map.specs.EntryLends.{PutsLast}
-use Rattle.hashlink_map.specs.Lends.{map_row}
 use Rattle.hashlink_map.specs.RawEntry.{raw_occupied_map, raw_with, raw_map, raw_state}
 
 -- the entry found is that of a given pair that was put last, or that of a pair that moved from its place to

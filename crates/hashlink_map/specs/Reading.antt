@@ -1,7 +1,6 @@
 -- What a call reads from an iterator: the entries from a key on; all or some of its items; and, for an
 -- iterator that the caller keeps, that no more was read.
-use Rattle.std.specs.Prelude.{Bool, List, [], drop, Option, None}
-use Rattle.std.specs.Iterator.{Yields, YieldsThen}
+use Rattle.std.specs.{Prelude.{Bool, List, [], drop, Option, None}, Iterator.{Yields, YieldsThen}}
 use Rattle.std.specs.Option.{option_map_or}
 use Rattle.hashlink_model.specs.Entries.{place_of}
 

@@ -1,6 +1,5 @@
 -- The texts of errors of an insert: no value was made, or memory for it was lacking.
-use Rattle.std.specs.Prelude.{ℕ, List, ◌++◌, codes, Option, Some}
-use Rattle.std.specs.Option.{option_map}
+use Rattle.std.specs.{Prelude.{ℕ, List, ◌++◌, codes, Option, Some}, Option.option_map}
 use Rattle.hashlink_map.specs.declared.try_insert_error.TryInsertError.{TryInsertError}
 use Rattle.hashlink_map.specs.declared.try_insert_error.TryInsertError.TheVariants.{Make, Memory}
 

@@ -1,13 +1,10 @@
 -- The place of a node after a step, and that it still has its keys.
 use Rattle.std.specs.Prelude.{◌≡◌, ℕ, zero, suc, ◌+◌, ◌≤◌, length, Bool, cond, List, [], ◌∷◌, Option, None}
-use Rattle.std.specs.Prelude.{Some}
-use Rattle.std.specs.Option.{option_map}
-use Rattle.std.specs.Map.{values_of}
+use Rattle.std.specs.{Prelude.Some, Option.option_map, Map.values_of}
 use Rattle.std.proofs.Common.{refl, sym, ap, subst, ◌∙◌}
 use Rattle.hashlink_model.specs.Entries.{place_of}
-use Rattle.hashlink_core.specs.Places.{Node, Holds, IsPlace, place_number, renewed_at}
+use Rattle.hashlink_core.specs.{Places.{Node, Holds, IsPlace, place_number, renewed_at}, Walk.StandsBetween}
 use Rattle.hashlink_core.specs.Keyed.{Keyed, HoldsKey, HoldsMatch, pair_with_value}
-use Rattle.hashlink_core.specs.Walk.{StandsBetween}
 use Rattle.hashlink_core.proofs.Places.{place_number-renewed, renewed-holds}
 use denote.Struct.Props.{props}
 

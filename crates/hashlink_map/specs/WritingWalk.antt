@@ -2,8 +2,7 @@
 use Rattle.std.specs.Prelude.{◌≡◌, ℕ, ◌+◌, ◌-◌, ◌<◌, List, ◌++◌, length, map, take, drop, Option, Some}
 use Rattle.std.specs.Prelude.{MatchOption}
 use Rattle.hashlink_model.specs.MapState.{MapState, with_value}
-use Rattle.hashlink_core.specs.Keyed.{Keyed, state_of}
-use Rattle.hashlink_core.specs.Places.{Node, Holds, place_number}
+use Rattle.hashlink_core.specs.{Keyed.{Keyed, state_of}, Places.{Node, Holds, place_number}}
 use Rattle.hashlink_core.specs.Walk.{StandsBetween}
 use Rattle.hashlink_map.specs.declared.places_left.PlacesLeft.{PlacesLeft}
 use denote.Struct.Props.{props}

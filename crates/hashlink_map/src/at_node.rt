@@ -1,16 +1,11 @@
 //! Calls at a node of a map, for the methods of entries.
-ghost use Rattle.std.specs.Prelude.{◌≡◌, ◌+◌, ◌-◌, ◌<◌, length, slice_get, None, Some, IfOk};
-ghost use Rattle.std.specs.Borrow.{sem};
+ghost use Rattle.std.specs.{Prelude.{◌≡◌, ◌+◌, ◌-◌, ◌<◌, length, slice_get, None, Some, IfOk}, Borrow.sem};
 ghost use Rattle.std.specs.Map.Iter.{deref_pair};
-ghost use Rattle.hashlink_model.specs.Entries.{place_of, IsEntries};
-ghost use Rattle.hashlink_model.specs.Lookups.{Updates};
-ghost use Rattle.hashlink_model.specs.MapState.{MovesAt};
 ghost use Rattle.hashlink_model.specs.Entry.{key_at, value_at, InsertsValue, InsertsEntry, ReplacesEntry};
-ghost use Rattle.hashlink_model.specs.Entry.{ReplacesKey};
-ghost use Rattle.hashlink_model.specs.Entry.{ReplacesValue, TakesEntry, VacantInserts};
-ghost use Rattle.hashlink_core.specs.Keyed.{state_of, entries_of, HoldsKey, EqualsKeyAt};
+ghost use Rattle.hashlink_model.specs.{Entries.{place_of, IsEntries}, Lookups.Updates, MapState.MovesAt};
+ghost use Rattle.hashlink_model.specs.Entry.{ReplacesKey, ReplacesValue, TakesEntry, VacantInserts};
+ghost use Rattle.hashlink_core.specs.{Keyed.{state_of, entries_of, HoldsKey, EqualsKeyAt}, Tied.hash_with};
 ghost use Rattle.hashlink_core.specs.Places.{Holds, place_number};
-ghost use Rattle.hashlink_core.specs.Tied.{hash_with};
 
 use crate::as_node::AsNode;
 use crate::map::LinkedHashMap;
@@ -18,8 +13,7 @@ use hashlink_core::Node;
 use std::hash::{BuildHasher, Hash};
 
 impl<K: Eq + Hash, V, S: BuildHasher> LinkedHashMap<K, V, S> {
-    ghost use Rattle.hashlink_map.specs.Standing.{StaysHeld};
-    ghost use Rattle.hashlink_map.specs.Lends.{LendsAtNode, StaysAsItWas};
+    ghost use Rattle.hashlink_map.specs.{Standing.StaysHeld, Lends.{LendsAtNode, StaysAsItWas}};
 
     /// Returns the pair of the node.
     #[inline]

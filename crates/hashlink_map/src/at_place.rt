@@ -1,13 +1,10 @@
 //! Calls at a place of a map, which is a node or the guard, for the methods of cursors.
-ghost use Rattle.std.specs.Prelude.{◌≡◌, slice_get, length, Option, Some, OnOk};
-ghost use Rattle.std.specs.Option.{option_map};
+ghost use Rattle.std.specs.{Prelude.{◌≡◌, slice_get, length, Option, Some, OnOk}, Option.option_map};
 ghost use Rattle.std.specs.Map.Iter.{deref_pair};
-ghost use Rattle.hashlink_model.specs.Cursor.{following_place, preceding_place};
-ghost use Rattle.hashlink_model.specs.Lookups.{Updates};
+ghost use Rattle.hashlink_model.specs.{Cursor.{following_place, preceding_place}, Lookups.Updates};
 ghost use Rattle.hashlink_model.specs.MapState.{Inserts};
-ghost use Rattle.hashlink_core.specs.Keyed.{entries_of, state_of};
+ghost use Rattle.hashlink_core.specs.{Keyed.{entries_of, state_of}, Steps.KeepsPlace};
 ghost use Rattle.hashlink_core.specs.Places.{Node, IsPlace, IsPlaceAt, place_number};
-ghost use Rattle.hashlink_core.specs.Steps.{KeepsPlace};
 
 use crate::map::LinkedHashMap;
 use hashlink_core::Node;

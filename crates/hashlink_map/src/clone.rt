@@ -1,8 +1,7 @@
 //! Maps built from the items of an iterator, and clones.
 ghost use Rattle.std.specs.Prelude.{◌≡◌, List, [], Bool, true, Option, Ok, IfOk, OnOk, OnErr, ⊤};
 ghost use Rattle.std.specs.Iterator.{DrainsIf, IsFiniteIterable};
-ghost use Rattle.hashlink_model.specs.Compare.{entries_eq};
-ghost use Rattle.hashlink_model.specs.Many.{MadeFrom, InsertsPair};
+ghost use Rattle.hashlink_model.specs.{Compare.entries_eq, Many.{MadeFrom, InsertsPair}};
 ghost use Rattle.hashlink_core.specs.Keyed.{state_of, entries_of};
 ghost use Rattle.hashlink_map.specs.Cloning.{ArePairClones, IsMadeOf, IsOfPairClones, StopsMaking};
 ghost use Rattle.hashlink_map.specs.Reading.{ReadsAll, ReadsSome};

@@ -1,7 +1,6 @@
 //! Comparisons of maps, by their entries in order. Their hashers do not matter.
-ghost use Rattle.hashlink_map.specs.Compared.{maps_eq, maps_cmp, maps_partial_cmp};
-ghost use Rattle.hashlink_map.specs.Compared.{maps_per, maps_equiv, maps_po, maps_total, maps_agree};
-ghost use Rattle.hashlink_map.specs.Compared.{maps_tie};
+ghost use Rattle.hashlink_map.specs.Compared.{maps_eq, maps_cmp, maps_partial_cmp, maps_per, maps_equiv};
+ghost use Rattle.hashlink_map.specs.Compared.{maps_po, maps_total, maps_agree, maps_tie};
 
 use crate::map::LinkedHashMap;
 use hashlink_core::{iter_cmp, iter_eq, iter_partial_cmp};

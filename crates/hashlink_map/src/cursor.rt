@@ -1,10 +1,8 @@
 //! Cursors. A cursor is on an entry of a map or on the guard, which is between the last entry and the first.
 //! A clause sees a cursor as the map's state and the index of its place. The index of the guard is the
 //! length.
-ghost use Rattle.std.specs.Prelude.{◌≡◌, ◌-◌, length};
-ghost use Rattle.std.specs.Option.{option_map};
-ghost use Rattle.hashlink_core.specs.Keyed.{entries_of};
-ghost use Rattle.hashlink_core.specs.Places.{IsPlace};
+ghost use Rattle.std.specs.{Prelude.{◌≡◌, ◌-◌, length}, Option.option_map};
+ghost use Rattle.hashlink_core.specs.{Keyed.entries_of, Places.IsPlace};
 ghost use Rattle.hashlink_map.specs.Standing.{IsPlace-prop};
 
 use crate::as_node::AsNode;

@@ -1,9 +1,7 @@
 //! The draining iterator of a map.
-ghost use Rattle.std.specs.Prelude.{◌≡◌, Some, IfSome, length};
-ghost use Rattle.std.specs.Iterator.{at_most, UpTo};
+ghost use Rattle.std.specs.{Prelude.{◌≡◌, Some, IfSome, length}, Iterator.{at_most, UpTo}};
 ghost use Rattle.std.specs.Iterator.SizeHint.{IsWithinCount};
-ghost use Rattle.hashlink_core.specs.Keyed.{state_of};
-ghost use Rattle.hashlink_core.specs.Drained.{with_drained, FitsBack, FitsBack-prop};
+ghost use Rattle.hashlink_core.specs.{Keyed.state_of, Drained.{with_drained, FitsBack, FitsBack-prop}};
 ghost use Rattle.hashlink_model.specs.Steps.{Drains};
 
 use crate::as_drained::AsDrained;

@@ -1,9 +1,7 @@
 //! Inserts of many items in turn, each by `insert`.
-ghost use Rattle.std.specs.Prelude.{[], OnOk, OnErr, IfErr, map};
+ghost use Rattle.std.specs.{Prelude.{[], OnOk, OnErr, IfErr, map}, Map.Iter.deref_pair};
 ghost use Rattle.std.specs.Iterator.{ExtendsWithItems, IsFinite, IsFiniteIterable};
-ghost use Rattle.std.specs.Map.Iter.{deref_pair};
-ghost use Rattle.hashlink_model.specs.Many.{AcceptsAll, StopsAt, StopsAtLast, InsertsPair};
-ghost use Rattle.hashlink_model.specs.MapState.{Grows};
+ghost use Rattle.hashlink_model.specs.{Many.{AcceptsAll, StopsAt, StopsAtLast, InsertsPair}, MapState.Grows};
 ghost use Rattle.hashlink_core.specs.Keyed.{state_of};
 ghost use Rattle.hashlink_map.specs.Extending.{TakesItems};
 ghost use Rattle.hashlink_map.specs.Reading.{GivesAll, GivesSome, ReadsAll, ReadsSome};

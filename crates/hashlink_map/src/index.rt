@@ -1,7 +1,5 @@
 //! `map[&key]`, for a key that is present.
-ghost use Rattle.std.specs.Prelude.{◌≡◌, Some};
-ghost use Rattle.std.specs.Borrow.{sem};
-ghost use Rattle.std.specs.Map.{lookup};
+ghost use Rattle.std.specs.{Prelude.{◌≡◌, Some}, Borrow.sem, Map.lookup};
 ghost use Rattle.hashlink_core.specs.Keyed.{entries_of};
 ghost use Rattle.hashlink_map.specs.Indexed.{HasKey, LendsIndexed};
 

@@ -1,7 +1,6 @@
 //! Conversions of a map into an iterator.
 ghost use Rattle.std.specs.Prelude.{◌≡◌, ◌^◌, ◌<◌, length};
-ghost use Rattle.std.specs.Map.Iter.{ShowsInOrder, deref_pair};
-ghost use Rattle.std.specs.Map.Iter.{GivesInOrder, GivesInReverse};
+ghost use Rattle.std.specs.Map.Iter.{ShowsInOrder, deref_pair, GivesInOrder, GivesInReverse};
 ghost use Rattle.hashlink_model.specs.Entries.{IsEntries};
 ghost use Rattle.hashlink_core.specs.Keyed.{entries_of};
 

@@ -1,8 +1,6 @@
 //! The iterator that begins at the entry of a key.
-ghost use Rattle.std.specs.Prelude.{◌≡◌, ◌^◌, ◌<◌, ⊤, IfSome, length};
-ghost use Rattle.std.specs.Iterator.{at_most, UpTo};
-ghost use Rattle.std.specs.Iterator.SizeHint.{IsWithinCount};
-ghost use Rattle.std.specs.Map.Iter.{TakesFirst, ShowsInOrder, deref_pair};
+ghost use Rattle.std.specs.{Prelude.{◌≡◌, ◌^◌, ◌<◌, ⊤, IfSome, length}, Iterator.{at_most, UpTo}};
+ghost use Rattle.std.specs.{Iterator.SizeHint.IsWithinCount, Map.Iter.{TakesFirst, ShowsInOrder, deref_pair}};
 ghost use Rattle.hashlink_model.specs.Entries.{IsEntries};
 ghost use Rattle.hashlink_core.specs.Keyed.{entries_of};
 
@@ -24,8 +22,7 @@ pub struct IterFrom<'a, K: Eq + Hash, V, S: BuildHasher = DefaultHashBuilder> {
 
 impl<'a, K: Eq + Hash, V, S: BuildHasher> Model for IterFrom<'a, K, V, S> {
     ghost use Rattle.std.specs.Prelude.{List, drop};
-    ghost use Rattle.hashlink_core.specs.Keyed.{entries_of};
-    ghost use Rattle.hashlink_core.specs.Places.{IsPlace, place_number};
+    ghost use Rattle.hashlink_core.specs.{Keyed.entries_of, Places.{IsPlace, place_number}};
 
     ghost Value = { List (K × V) };
 

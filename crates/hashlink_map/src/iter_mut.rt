@@ -1,11 +1,8 @@
 //! The lending iterator over the entries, from both ends. It lends one value at a time, mutably. A clause
 //! sees it as the map's state, the index of the first place left, and the number of entries left.
-ghost use Rattle.std.specs.Prelude.{◌≡◌, Some, length, slice_get};
-ghost use Rattle.std.specs.Borrow.{sem};
-ghost use Rattle.std.specs.Map.Iter.{deref_pair};
+ghost use Rattle.std.specs.{Prelude.{◌≡◌, Some, length, slice_get}, Borrow.sem, Map.Iter.deref_pair};
 ghost use Rattle.std.specs.Option.{option_map};
-ghost use Rattle.hashlink_core.specs.Keyed.{entries_of, state_of};
-ghost use Rattle.hashlink_core.specs.Places.{Holds, IsPlace, place_number};
+ghost use Rattle.hashlink_core.specs.{Keyed.{entries_of, state_of}, Places.{Holds, IsPlace, place_number}};
 ghost use Rattle.hashlink_model.specs.Walk.{first_of, last_of};
 ghost use Rattle.hashlink_map.specs.WritingWalk.{StandsIn, StandsIn-prop};
 
@@ -57,11 +54,10 @@ impl<K: Eq + Hash, V, S: BuildHasher> LinkedHashMap<K, V, S> {
 }
 
 impl<'a, K: Eq + Hash, V, S: BuildHasher> IterMut<'a, K, V, S> {
-    ghost use Rattle.hashlink_map.specs.Cursor.{lent_pair};
-    ghost use Rattle.hashlink_map.specs.IterMut.{walk_map, walk_state};
     ghost use Rattle.hashlink_map.specs.IterMutLends.{LendsAtWalkNode, LendsPairThere, LendsPairFromWalk};
-    ghost use Rattle.hashlink_map.specs.WritingWalk.{HasLeft, walk_rest, after_front, after_back, last_place};
+    ghost use Rattle.hashlink_map.specs.{Cursor.lent_pair, IterMut.{walk_map, walk_state}};
     ghost use Rattle.hashlink_map.specs.IterMutLends.{LendsFirst, LendsLast, LentFrom, LentValue, TakesOff};
+    ghost use Rattle.hashlink_map.specs.WritingWalk.{HasLeft, walk_rest, after_front, after_back, last_place};
 
     /// Returns the pair of the node.
     #[inline(always)]

@@ -1,9 +1,7 @@
 //! The map. A clause sees it as its state: the entries from front to back, and the numbers of free nodes, of
 //! room and of stored links.
 ghost use Rattle.std.specs.Prelude.{◌≡◌, ◌^◌, ◌<◌, ◌↔◌, length, IfOk, IsOk, IsTrue, Err};
-ghost use Rattle.hashlink_model.specs.Entries.{IsEntries};
-ghost use Rattle.hashlink_model.specs.MapState.{empty_map, HasRoom};
-ghost use Rattle.hashlink_model.specs.Steps.{IsMadeWith};
+ghost use Rattle.hashlink_model.specs.{Entries.IsEntries, MapState.{empty_map, HasRoom}, Steps.IsMadeWith};
 ghost use Rattle.hashlink_core.specs.Keyed.{state_of, entries_of};
 
 mod inserts;

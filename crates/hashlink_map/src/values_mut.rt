@@ -1,6 +1,5 @@
 //! The lending iterator over the values only, from both ends. A clause sees it as it sees `IterMut`.
-ghost use Rattle.std.specs.Prelude.{◌≡◌};
-ghost use Rattle.std.specs.Borrow.{sem};
+ghost use Rattle.std.specs.{Prelude.◌≡◌, Borrow.sem};
 ghost use Rattle.hashlink_model.specs.Walk.{first_of, last_of};
 ghost use Rattle.hashlink_map.specs.WritingWalk.{StandsIn, StandsIn-prop};
 
@@ -19,8 +18,7 @@ pub struct ValuesMut<'a, K: Eq + Hash, V, S: BuildHasher = DefaultHashBuilder, N
 }
 
 impl<'a, K: Eq + Hash, V, S: BuildHasher> ValuesMut<'a, K, V, S> {
-    ghost use Rattle.hashlink_map.specs.IterMut.{values_state};
-    ghost use Rattle.hashlink_map.specs.WritingWalk.{HasLeft, walk_rest};
+    ghost use Rattle.hashlink_map.specs.{IterMut.values_state, WritingWalk.{HasLeft, walk_rest}};
     ghost use Rattle.hashlink_map.specs.IterMutLends.{LendsFirstValue, LendsLastValue, LentValue};
 
     /// Returns the number of values that are left. It takes constant time.

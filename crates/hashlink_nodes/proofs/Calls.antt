@@ -7,15 +7,12 @@ use Names.{length-set_value, Node, Inside, same_node, state_of, Ring, ring, Held
 use Names.{ring_of, State, GuardIs, attached, detached, hold, store_next, Adds, Drops, AreThere, IsPlace}
 use Names.{put_before, put_after, held, pair_of, with_number}
 use Rattle.std.proofs.Common.{drop}
-use Rattle.hashlink_nodes.specs.declared.pool.Pool.{Pool}
-use Rattle.hashlink_nodes.proofs.Paths.{head_or, last_or, flip, off_last}
-use Rattle.hashlink_nodes.proofs.Cuts.{Gap, before_place, after_place, same_some}
-use Rattle.hashlink_nodes.proofs.Rings.{Linked, linked, attach, Entries, detach, held_out}
-use Rattle.hashlink_nodes.proofs.Rings.{holds_now, held_now, added, dropped, spared, take_spare, renew, Taken}
-use Rattle.hashlink_nodes.proofs.Rings.{guarded, held_anew}
-use Rattle.hashlink_nodes.proofs.Opening.{length-gap, Leaves, NodeAt, leaves, length-removed, opened}
-use Rattle.hashlink_nodes.proofs.Opening.{empty, known, shrinks, node_in, spare_guard, ring_facts}
-use Rattle.hashlink_nodes.proofs.Neighbours.{neighbours}
+use Rattle.hashlink_nodes.proofs.Rings.{Linked, linked, attach, Entries, detach, held_out, holds_now}
+use Rattle.hashlink_nodes.proofs.Rings.{held_now, added, dropped, spared, take_spare, renew, Taken, guarded}
+use Rattle.hashlink_nodes.proofs.Opening.{length-gap, Leaves, NodeAt, leaves, length-removed, opened, empty}
+use Rattle.hashlink_nodes.{specs.declared.pool.Pool.Pool, proofs.Paths.{head_or, last_or, flip, off_last}}
+use Rattle.hashlink_nodes.proofs.{Cuts.{Gap, before_place, after_place, same_some}, Neighbours.neighbours}
+use Rattle.hashlink_nodes.proofs.{Rings.held_anew, Opening.{known, shrinks, node_in, spare_guard, ring_facts}}
 
 module _ {K V : Type 0} where
   -- ---- an entry is inserted

@@ -1,18 +1,13 @@
 -- An arena may cross threads as its pairs may: it reaches them and its blocks by itself.
-use Rattle.std.specs.Prelude.{ℕ, List, [], ◌∷◌, Option, None, Some}
+use Rattle.std.{specs.Prelude.{ℕ, List, [], ◌∷◌, Option, None, Some}, proofs.Crossing.frees}
 use mir.Syntax.{Ty}
 use base.Shift.{Keyless}
-use denote.RattleType.{RattleType}
-use denote.RawPtr.{Ptr, block_ptr, null_ptr, room_for}
-use denote.Builtin.{usize}
-use denote.Struct.Struct.{exits_of}
-use denote.Struct.Owning.{shape, fields, to}
+use denote.{RattleType.RattleType, RawPtr.{Ptr, block_ptr, null_ptr, room_for}, Builtin.usize}
+use denote.Struct.{Struct.exits_of, Owning.{shape, fields, to}}
 use denote.Param.Send.{IsSend, IsSync, Common, AllSend, owning_send, struct_send, struct_sync, sendable}
-use Rattle.std.proofs.Crossing.{frees}
 use Rattle.std_alloc.proofs.SendSync.{quiet, lies, seen}
-use Rattle.hashlink_nodes.specs.Kept.{Kept, number_word}
-use Rattle.hashlink_nodes.specs.declared.node.Node.{Node}
 use Rattle.hashlink_nodes.specs.Ownership.{Links, block_lent, block_owns, blocks_lent, blocks_own, deed_owns}
+use Rattle.hashlink_nodes.specs.{Kept.{Kept, number_word}, declared.node.Node.Node}
 use Rattle.hashlink_nodes.specs.Ownership.{is_small, pair_lent, pair_owns}
 use Rattle.hashlink_nodes.specs.contracts.arena.Arena as Arena
 

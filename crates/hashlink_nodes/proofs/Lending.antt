@@ -2,9 +2,8 @@
 use Rattle.hashlink_nodes.proofs.Names.{◌≡◌, Some, ap, sym, subst, ◌∙◌, option_map, option_map_or, set_value}
 use Rattle.hashlink_nodes.proofs.Names.{lookup, Node, Inside, Ring, same_node, state_of, pool_with, IsSound}
 use Rattle.hashlink_nodes.proofs.Names.{ring_of, Held, Holds, pair_of, ring, with_value, entry_in, refl}
-use Rattle.hashlink_nodes.specs.NodesLends.{with_value_at}
-use Rattle.hashlink_nodes.proofs.StateLemmas.{pair_at, pair_anew, paired}
-use Rattle.hashlink_nodes.proofs.{Opening.Leaves, Opening.node_in, Calls.renewed}
+use Rattle.hashlink_nodes.{specs.NodesLends.with_value_at, proofs.StateLemmas.{pair_at, pair_anew, paired}}
+use Rattle.hashlink_nodes.proofs.{Opening.{Leaves, node_in}, Calls.renewed}
 
 pub lent : {K V : Type 0} {n : Inside K V} {v : Ring K V} → IsSound n → ring_of n ≡ v → (m : Node)
     → Holds v.entries m → (p : K × V) → option_map pair_of ((state_of n.pool).held m) ≡ Some p → (w : V)

@@ -2,12 +2,11 @@
 use Rattle.hashlink_nodes.proofs.Names.{◌≡◌, true, false, [], ◌∷◌, Option, None, Some, refl, sym, ap, ◌∙◌}
 use Rattle.hashlink_nodes.proofs.Names.{subst, then_some, is_some, unwrap_or, slice_get, IfSome, keys_of}
 use Rattle.hashlink_nodes.proofs.Names.{Node, State, Holds, IsRing, Ring, IsPlace, next_place, prev_place}
-use Rattle.hashlink_nodes.proofs.Names.{last_node}
-use Rattle.hashlink_nodes.proofs.Paths.{head_or, last_or, all_left, all_right}
+use Rattle.hashlink_nodes.proofs.Names.{last_node, lookup, same_node, state_of, Inside, IsSound, ring_of}
+use Rattle.hashlink_nodes.proofs.{Names.Held, Paths.{head_or, last_or, all_left, all_right}}
 use Rattle.hashlink_nodes.proofs.Cuts.{AfterPlace, BeforePlace, before_place, after_place}
 use Rattle.hashlink_nodes.proofs.Rings.{Entries, Full, Linked, linked}
 use Rattle.hashlink_nodes.proofs.Opening.{empty, guard_of, node_in, opened}
-use Rattle.hashlink_nodes.proofs.Names.{lookup, same_node, state_of, Inside, IsSound, ring_of, Held}
 use Rattle.std.specs.Prelude.{IfNone}
 
 module _ {K V : Type 0} where

@@ -5,10 +5,8 @@ use Names.{◌∙◌, arith, IsNone, is_some, lookup, set_value, remove_entry, l
 use Names.{same_node, same_node-refl, Differs, same_node_equiv, eq-same_node, State, Blocks, state, set_at}
 use Names.{next_in, prev_in, held_in, store_next, store_prev, hold, Adds, MakesGuard, Drops, Node, Link, Kept}
 use Names.{kept, alter, entry_in, with_links, with_pair, held, pair_of, option_map, Held}
-use Rattle.hashlink_nodes.proofs.{ArenaBlocks.found_entry, Opening.length-removed}
-use Rattle.hashlink_nodes.proofs.Cuts.{cut, cut_at}
-use Rattle.hashlink_nodes.proofs.Paths.{set_at_here, set_at_other}
-use Rattle.hashlink_nodes.specs.declared.pool.links.Links.{Links}
+use Rattle.hashlink_nodes.proofs.{ArenaBlocks.found_entry, Opening.length-removed, Cuts.{cut, cut_at}}
+use Rattle.hashlink_nodes.{proofs.Paths.{set_at_here, set_at_other}, specs.declared.pool.links.Links.Links}
 
 module _ {X Y : Type 0} (f : Option X → Y) where
   picked : (y : Bool) (w : X) (o : Option X) → f (cond y (Some w) o) ≡ cond y (f (Some w)) (f o)

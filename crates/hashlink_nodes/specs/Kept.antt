@@ -1,6 +1,5 @@
 -- The contents of a node's block: its links, and the number and the pair of an entry, if it holds one.
-use Rattle.std.specs.Prelude.{ℕ, ◌^◌, Bool, cond, List, [], ◌∷◌, Option, None, Some}
-use Rattle.std.specs.Option.{option_map}
+use Rattle.std.specs.{Prelude.{ℕ, ◌^◌, Bool, cond, List, [], ◌∷◌, Option, None, Some}, Option.option_map}
 use Rattle.hashlink_nodes.specs.declared.pool.links.Links.{Links}
 
 pub record Kept (T : Type 0) : Type 0 where

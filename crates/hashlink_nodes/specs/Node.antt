@@ -1,7 +1,6 @@
 -- When two nodes are the same. The parts of a node stay hidden: callers distinguish nodes only by
 -- `same_node`.
-use Rattle.std.specs.Prelude.{◌≡◌, Bool, true, false, ◌&&◌, nat_eq}
-use Rattle.std.specs.Cmp.{IsEquivalence, nat_eq_equiv}
+use Rattle.std.specs.{Prelude.{◌≡◌, Bool, true, false, ◌&&◌, nat_eq}, Cmp.{IsEquivalence, nat_eq_equiv}}
 use Rattle.std.proofs.Common.{refl, sym, ap, ◌∙◌, eqb-true}
 use denote.RawPtr.{Ptr, block_ptr, null_ptr}
 use Rattle.hashlink_nodes.specs.declared.node.Node.{Node}

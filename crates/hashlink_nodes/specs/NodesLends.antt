@@ -1,6 +1,5 @@
 -- A ring, after a `&mut` to one of its values has ended.
-use Rattle.std.{specs.Map.lookup, specs.Map.set_value, specs.Option.option_map_or}
-use Rattle.std.specs.Borrow.{Fml, RattleType, MutBor, Lends}
+use Rattle.std.specs.{Map.{lookup, set_value}, Option.option_map_or, Borrow.{Fml, RattleType, MutBor, Lends}}
 use Rattle.hashlink_nodes.specs.{declared.node.Node.Node, contracts.nodes.Nodes.the_row, Node.same_node}
 use Rattle.hashlink_nodes.specs.Ring.{Ring, with_value}
 

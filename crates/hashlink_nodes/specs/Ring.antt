@@ -3,10 +3,8 @@
 -- last entry and the first.
 pub use Rattle.hashlink_nodes.specs.declared.held.Held.{Held}
 use Rattle.std.specs.Prelude.{◌≡◌, ℕ, cond, List, [], ◌∷◌, ◌++◌, slice_get, Option, None, Some, IsSome}
-use Rattle.std.specs.Prelude.{IfSome}
-use Rattle.std.specs.Map.{lookup, lookup_entry, remove_entry}
-use Rattle.hashlink_nodes.specs.declared.node.Node.{Node}
-use Rattle.hashlink_nodes.specs.Node.{same_node}
+use Rattle.std.specs.{Prelude.IfSome, Map.{lookup, lookup_entry, remove_entry}}
+use Rattle.hashlink_nodes.specs.{declared.node.Node.Node, Node.same_node}
 
 -- the entries in the order of the ring, the free nodes in the order in which they will be used, and how many
 -- links were stored in nodes of either kind

@@ -1,7 +1,6 @@
 -- How the links of the blocks make a ring and a free list.
 use Rattle.std.specs.Prelude.{◌≡◌, ℕ, zero, suc, ◌+◌, ◌^◌, ◌<◌, true, List, [], ◌∷◌, ◌++◌, length, Option}
-use Rattle.std.specs.Prelude.{None, Some}
-use Rattle.std.{specs.List.AllByRecursion, specs.List.IsDistinct, specs.Map.keys_of}
+use Rattle.std.specs.{Prelude.{None, Some}, List.{AllByRecursion, IsDistinct}, Map.keys_of}
 use Rattle.hashlink_nodes.specs.{declared.node.Node.Node, declared.held.Held.Held, Node.same_node, Ring.Ring}
 use Rattle.hashlink_nodes.specs.{State.State, Pool.state_of, declared.nodes.Nodes.TheInside.Inside}
 

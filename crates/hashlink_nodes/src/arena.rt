@@ -3,11 +3,8 @@
 //! A block that no arena owns is std's `Vacant`: it contains nothing, and has the allocator to which its
 //! memory returns. It is not `Drop`: code that has one must free it or give it to an arena.
 ghost use Rattle.std.specs.Prelude.{◌≡◌, ◌^◌, ◌<◌, List, [], ◌∷◌, None, Some, IsSome, IsNone, IfSome};
-ghost use Rattle.std.specs.Option.{option_map};
-ghost use Rattle.std.specs.Map.{lookup, remove_entry};
-ghost use Rattle.std.specs.Borrow.{sem};
-ghost use Rattle.hashlink_nodes.specs.Node.{same_node};
-ghost use Rattle.hashlink_nodes.specs.declared.node.Node.{Node};
+ghost use Rattle.std.specs.{Option.option_map, Map.{lookup, remove_entry}, Borrow.sem};
+ghost use Rattle.hashlink_nodes.specs.{Node.same_node, declared.node.Node.Node};
 ghost use Rattle.hashlink_nodes.specs.Kept.{Kept, kept, alter, entry_in, number_word, with_entry};
 ghost use Rattle.hashlink_nodes.specs.Ownership.{blocks_own, blocks_lent};
 

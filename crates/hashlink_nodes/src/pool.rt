@@ -1,11 +1,8 @@
 //! The blocks of a ring, by their nodes: safe code over the arena.
-ghost use Rattle.std.specs.Prelude.{◌≡◌, ◌^◌, ◌<◌, true, false, [], IfOk, OnErr, None, Some, IsSome};
-ghost use Rattle.std.specs.Prelude.{is_some};
+ghost use Rattle.std.specs.Prelude.{◌≡◌, ◌^◌, ◌<◌, true, false, [], IfOk, OnErr, None, Some, IsSome, is_some};
+ghost use Rattle.std.specs.{Option.option_map, Borrow.sem};
 ghost use Rattle.hashlink_nodes.specs.State.{state, hold, detached, attached, AreThere, Drops, GuardIs};
-ghost use Rattle.std.specs.Option.{option_map};
-ghost use Rattle.std.specs.Borrow.{sem};
-ghost use Rattle.hashlink_nodes.specs.Ring.{held, pair_of, with_key};
-ghost use Rattle.hashlink_nodes.specs.Pool.{state_of};
+ghost use Rattle.hashlink_nodes.specs.{Ring.{held, pair_of, with_key}, Pool.state_of};
 
 mod link;
 mod links;

@@ -3,21 +3,16 @@
 use Rattle.hashlink_run.proofs.Names.{◌≡◌, ◌≤◌, Bool, true, false, List, [], ◌∷◌, length, refl, sym, ap, ◌∙◌}
 use Rattle.hashlink_run.proofs.Names.{subst, Option, Result, Ok, Err, arith, lookup_entry, Length, MapState}
 use Rattle.hashlink_run.proofs.Names.{KeepsNodes, first_of, kept-inserts, kept-moves, kept-removes_key}
-use Rattle.hashlink_run.proofs.Names.{kept-pops_front, Reply, insert_reply, is_refused, first_place}
-use Rattle.hashlink_run.proofs.Names.{Step}
-use Rattle.std.specs.declared.alloc.AllocError.{AllocError}
-use Rattle.hashlink_history.specs.Peak.{Passes}
-use Rattle.hashlink_history.proofs.Peaks.{passes-kept, passes-clears, passes-shrinks}
-use Rattle.hashlink_model.specs.Steps.{Replaces}
-use Rattle.hashlink_model.specs.Walk.{last_of}
-use Rattle.hashlink_model.proofs.KeptNodes.{kept-replaces, kept-pops_back, kept-keeps}
+use Rattle.hashlink_run.proofs.Names.{kept-pops_front, Reply, insert_reply, is_refused, first_place, Step}
 use Rattle.hashlink_run.specs.declared.commands.Command.{Command}
+use Rattle.std.specs.declared.alloc.AllocError.{AllocError}
+use Rattle.hashlink_history.{specs.Peak.Passes, proofs.Peaks.{passes-kept, passes-clears, passes-shrinks}}
+use Rattle.hashlink_model.specs.{Steps.Replaces, Walk.last_of}
+use Rattle.hashlink_model.proofs.KeptNodes.{kept-replaces, kept-pops_back, kept-keeps}
 use Rattle.hashlink_run.specs.declared.commands.Command.TheVariants as command
-use Rattle.hashlink_run.specs.CallReplies.{shrink_reply}
-use Rattle.hashlink_run.specs.Run.{passed_at, keeps_nodes}
-use Rattle.hashlink_run.proofs.CursorNodes.{cursor-keeps, inserts-taken, walk-taken}
+use Rattle.hashlink_run.specs.{CallReplies.shrink_reply, Run.{passed_at, keeps_nodes}}
+use Rattle.hashlink_run.proofs.{CursorNodes.{cursor-keeps, inserts-taken, walk-taken}, Kept.keeps_where-wider}
 use Rattle.hashlink_run.proofs.EntryNodes.{kept_unchanged, entry-leaves}
-use Rattle.hashlink_run.proofs.Kept.{keeps_where-wider}
 use Rattle.hashlink_run.proofs.Wider.{reads-wider, replies-wider, entry-wider, cursor-wider}
 
 -- ---- steps by P are steps by Q if Q allows each result that P allows

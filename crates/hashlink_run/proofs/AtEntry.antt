@@ -1,17 +1,14 @@
 -- A change through an entry is a step at the place of its key.
-use Rattle.hashlink_run.proofs.Names.{◌≡◌, ℕ, ◌-◌, Bool, List, length, slice_get, Option, None}
-use Rattle.hashlink_run.proofs.Names.{Some, refl, sym, ap, ap₂, ◌∙◌, subst, true, false, lookup_entry}
-use Rattle.hashlink_run.proofs.Names.{option_map, same_Some, place_of, MapState, EntryStep}
-use Rattle.hashlink_run.proofs.Names.{Reply, OccupiedStep, VacantStep, EntrySteps}
-use Rattle.std.proofs.Common.{nat_lt, if◌then◌else◌}
-use Rattle.std.specs.Prelude.{insert, remove}
+use Rattle.hashlink_run.proofs.Names.{◌≡◌, ℕ, ◌-◌, Bool, List, length, slice_get, Option, None, Some, refl}
+use Rattle.hashlink_run.proofs.Names.{sym, ap, ap₂, ◌∙◌, subst, true, false, lookup_entry, option_map}
+use Rattle.hashlink_run.proofs.Names.{same_Some, place_of, MapState, EntryStep, Reply, OccupiedStep}
+use Rattle.hashlink_run.proofs.Names.{VacantStep, EntrySteps}
+use Rattle.std.{proofs.Common.{nat_lt, if◌then◌else◌}, specs.Prelude.{insert, remove}}
 use Rattle.std.proofs.lemmas.Option.{none-some}
-use Rattle.hashlink_model.specs.Entries.{moved_at}
-use Rattle.hashlink_model.specs.Entry.{EntryState, entry_of, value_at, TakesEntry}
-use Rattle.hashlink_model.specs.MapState.{AddsEntry, MovesAt, RemovesAt}
-use Rattle.hashlink_model.proofs.Places.{slice_get_here}
-use Rattle.hashlink_map.proofs.AtNode.{last-moved}
+use Rattle.hashlink_model.specs.{Entries.moved_at, Entry.{EntryState, entry_of, value_at, TakesEntry}}
+use Rattle.hashlink_model.{specs.MapState.{AddsEntry, MovesAt, RemovesAt}, proofs.Places.slice_get_here}
 use Rattle.hashlink_model.proofs.Splits.{stands_from_place, lookup_entry-here}
+use Rattle.hashlink_map.proofs.AtNode.{last-moved}
 
 module _ {K V B S : Type 0} (eq : K → K → Bool) (Says : K → V → B → Type 0) {m : MapState K V S} {k : K}
     {e : EntryState K V S} (is : e ≡ entry_of eq m k) {step s : EntryStep V} (given : step ≡ s)

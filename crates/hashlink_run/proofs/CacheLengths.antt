@@ -4,15 +4,12 @@ use Rattle.hashlink_run.proofs.Names.{refl, sym, ap, subst, arith, lookup_entry,
 use Rattle.hashlink_run.proofs.Names.{MapState, first_of, CacheCommand, EntryStep, Reply, CacheStep, CacheRun}
 use Rattle.hashlink_run.proofs.Names.{Answered, EntrySteps}
 use Rattle.std.proofs.Common.{◌⊎◌}
-use Rattle.hashlink_model.specs.Cache.{IsWithin}
 use Rattle.hashlink_model.proofs.CacheBounds.{within-inserts, within-gets, within-removes, within-sets}
-use Rattle.hashlink_model.proofs.CacheBounds.{within-clears, within-pops_front}
+use Rattle.hashlink_model.{specs.Cache.IsWithin, proofs.CacheBounds.{within-clears, within-pops_front}}
 use Rattle.hashlink_model.proofs.Caches.{front_evicted-at_most}
 use Rattle.hashlink_run.specs.declared.cache_commands.CacheCommand.TheVariants as cache
-use Rattle.hashlink_run.specs.CacheRun.{names_no_entry, KeepsBounds, StaysBounded}
-use Rattle.hashlink_run.specs.CacheStep.{CacheRuns}
-use Rattle.hashlink_run.proofs.CachePuts.{use_cases}
-use Rattle.hashlink_run.proofs.Chained.{Chain-between, Chain-keeps}
+use Rattle.hashlink_run.specs.{CacheRun.{names_no_entry, KeepsBounds, StaysBounded}, CacheStep.CacheRuns}
+use Rattle.hashlink_run.proofs.{CachePuts.use_cases, Chained.{Chain-between, Chain-keeps}}
 use Rattle.hashlink_run.proofs.EntryNodes.{entry-leaves}
 
 -- ---- a step keeps the bound

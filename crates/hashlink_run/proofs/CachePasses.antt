@@ -12,9 +12,7 @@ use Rattle.hashlink_model.proofs.KeptNodes.{kept-keeps}
 use Rattle.hashlink_history.proofs.Peaks.{passes-cache_insert, passes-clears, passes_in_parts}
 use Rattle.hashlink_run.specs.declared.cache_commands.CacheCommand.TheVariants as cache
 use Rattle.hashlink_run.specs.CacheRun.{command_put, cache_passed, CacheWithinPeak}
-use Rattle.hashlink_run.proofs.CachePuts.{use_cases}
-use Rattle.hashlink_run.proofs.Called.{passed_one, used}
-use Rattle.hashlink_run.proofs.Chained.{Chain-take}
+use Rattle.hashlink_run.proofs.{CachePuts.use_cases, Called.{passed_one, used}, Chained.Chain-take}
 use Rattle.hashlink_run.proofs.EntryNodes.{kept_unchanged, entry-leaves}
 
 module _ {K V B S : Type 0} (eq : K → K → Bool) (Says : K → V → B → Type 0) (old new : CacheState K V S) where

@@ -3,16 +3,13 @@
 use Rattle.hashlink_run.proofs.Names.{◌≡◌, ℕ, Bool, List, [], ◌∷◌, length, Option, None, Some, Result, Ok}
 use Rattle.hashlink_run.proofs.Names.{Err, MatchOption, MatchResult, ap, subst, inl, inr, lookup}
 use Rattle.hashlink_run.proofs.Names.{lookup_entry, CacheState, CacheInserts, CacheGets, CacheUses, Passed}
-use Rattle.hashlink_run.proofs.Names.{Length, CacheCommand, Reply, Refused, CacheStep, CacheRun}
-use Rattle.hashlink_run.proofs.Names.{insert_reply, is_refused, Answered, after, Replies}
-use Rattle.std.proofs.Common.{cond, ◌⊎◌}
-use Rattle.std.specs.Option.{option_map_or}
+use Rattle.hashlink_run.proofs.Names.{Length, CacheCommand, Reply, Refused, CacheStep, CacheRun, insert_reply}
+use Rattle.hashlink_run.proofs.Names.{is_refused, Answered, after, Replies}
+use Rattle.std.{proofs.Common.{cond, ◌⊎◌}, specs.Option.option_map_or}
 use Rattle.hashlink_history.specs.CacheRuns as event
-use Rattle.hashlink_model.specs.Entries.{put}
-use Rattle.hashlink_model.proofs.CacheBounds.{within-inserted}
+use Rattle.hashlink_model.{specs.Entries.put, proofs.CacheBounds.within-inserted}
 use Rattle.hashlink_run.specs.declared.cache_commands.CacheCommand.TheVariants.{Insert, Use}
-use Rattle.hashlink_run.specs.CacheCalls.{put_passed}
-use Rattle.hashlink_run.specs.CacheRun.{command_put, InsertsFit}
+use Rattle.hashlink_run.specs.{CacheCalls.put_passed, CacheRun.{command_put, InsertsFit}}
 use Rattle.hashlink_run.proofs.Chained.{step_of}
 
 -- a use is an insert, or a `get` of a present key

@@ -5,15 +5,12 @@ use Rattle.hashlink_run.proofs.Names.{lookup_entry, CacheState, EvictsFront, Cac
 use Rattle.hashlink_run.proofs.Names.{CacheUses, MapState, kept-moves, kept-removes_key, kept-pops_front}
 use Rattle.hashlink_run.proofs.Names.{CacheCommand, Reply, Refused, CacheStep, CacheRun, insert_reply}
 use Rattle.hashlink_run.proofs.Names.{is_refused, Answered, after, Replies}
-use Rattle.hashlink_model.specs.Cache.{HasNodeToSpare}
-use Rattle.hashlink_model.specs.Steps.{RemovesKey, PopsFront}
+use Rattle.hashlink_model.specs.{Cache.HasNodeToSpare, Steps.{RemovesKey, PopsFront}}
 use Rattle.hashlink_model.proofs.CacheBounds.{to_spare-kept, to_spare-dropped, to_spare-inserts}
-use Rattle.hashlink_model.proofs.KeptNodes.{kept-never_fall}
-use Rattle.hashlink_model.proofs.NodeCounts.{moves_length}
+use Rattle.hashlink_model.proofs.{KeptNodes.kept-never_fall, NodeCounts.moves_length}
 use Rattle.hashlink_run.specs.declared.cache_commands.CacheCommand.TheVariants as cache
 use Rattle.hashlink_run.specs.CacheRun.{leaves_spare, DropsPair, TakesAllAfterADrop}
-use Rattle.hashlink_run.proofs.CachePuts.{step-puts, use_cases}
-use Rattle.hashlink_run.proofs.Chained.{Chain-from, step_at, step_of}
+use Rattle.hashlink_run.proofs.{CachePuts.{step-puts, use_cases}, Chained.{Chain-from, step_at, step_of}}
 use Rattle.hashlink_run.proofs.EntryNodes.{entry-leaves}
 
 -- ---- as long as a node is free, nothing is refused

@@ -1,24 +1,15 @@
 -- A use of a cache by an entry of its map, which evicts if the pair is new.
-use Rattle.hashlink_run.proofs.Names.{◌≡◌, Bool, [], ◌∷◌, length, None, Some, Result, Ok, Err}
-use Rattle.hashlink_run.proofs.Names.{refl, sym, ap, ◌∙◌, subst, inl, inr, lookup, lookup_entry, place_of}
-use Rattle.hashlink_run.proofs.Names.{CacheState, MapState, Seen}
-use Rattle.hashlink_run.proofs.Names.{CacheStep, EntrySteps, Reply}
-use Rattle.std.proofs.Common.{◌⊎◌, ◌+◌, ◌<◌, ◌≤◌, arith, get_or}
-use Rattle.std.proofs.lemmas.Map.{NonePasses}
-use Rattle.std.specs.Result.{result_map_both}
-use Rattle.hashlink_model.specs.Cache.{KeepsLast}
-use Rattle.hashlink_model.specs.Entry.{VacantInserts}
-use Rattle.hashlink_model.specs.MapState.{RefusesEntry}
-use Rattle.hashlink_model.specs.Steps.{Moves}
-use Rattle.hashlink_model.proofs.Occupied.{length-moved_at}
-use Rattle.hashlink_model.proofs.Splits.{Stands, splits, place_of-none}
-use Rattle.hashlink_model.proofs.Splits.{place_of-here, lookup-none, lookup-here}
-use Rattle.hashlink_model.proofs.Splits.{lookup_entry-none}
+use Rattle.hashlink_run.proofs.Names.{◌≡◌, Bool, [], ◌∷◌, length, None, Some, Result, Ok, Err, refl, sym, ap}
+use Rattle.hashlink_run.proofs.Names.{◌∙◌, subst, inl, inr, lookup, lookup_entry, place_of, CacheState}
+use Rattle.hashlink_run.proofs.{Names.{MapState, Seen, CacheStep, EntrySteps, Reply}, Moved.by_key}
 use Rattle.hashlink_run.specs.declared.cache_commands.CacheCommand.TheVariants.{Use}
-use Rattle.hashlink_run.specs.declared.commands.EntryStep.TheVariants.{OrInsert}
-use Rattle.hashlink_run.specs.CallReplies.{reply_or_refused}
+use Rattle.hashlink_run.specs.{declared.commands.EntryStep.TheVariants.OrInsert, CallReplies.reply_or_refused}
 use Rattle.hashlink_run.specs.EntrySteps.{MovesAndReadsAt}
-use Rattle.hashlink_run.proofs.Moved.{by_key}
+use Rattle.std.proofs.{Common.{◌⊎◌, ◌+◌, ◌<◌, ◌≤◌, arith, get_or}, lemmas.Map.NonePasses}
+use Rattle.std.specs.Result.{result_map_both}
+use Rattle.hashlink_model.proofs.Splits.{Stands, splits, place_of-none, place_of-here, lookup-none}
+use Rattle.hashlink_model.specs.{Cache.KeepsLast, Entry.VacantInserts, MapState.RefusesEntry, Steps.Moves}
+use Rattle.hashlink_model.proofs.{Occupied.length-moved_at, Splits.{lookup-here, lookup_entry-none}}
 
 module _ {K V B S : Type 0} (eq : K → K → Bool) (Says : K → V → B → Type 0) (old : CacheState K V S) (k : K)
     (v : V) (mid : MapState K V S) (new : CacheState K V S) (cap : new.cap ≡ old.cap) where

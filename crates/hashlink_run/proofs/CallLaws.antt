@@ -1,21 +1,14 @@
 -- What holds for every list of calls of caches that start empty.
 use Rattle.std.proofs.Common.{◌≡◌, ℕ, zero, suc, ◌+◌, ◌≤◌, Bool, cond, List, [], ◌∷◌, take, map, slice_get}
 use Rattle.std.proofs.Common.{Result, Ok, Err, OnOk, Option, None, Some, is_some, is_none, refl, sym, ap, ap₂}
-use Rattle.std.proofs.Common.{◌∙◌}
-use Rattle.std.specs.Cmp.{IsEquivalence}
-use Rattle.std.specs.List.{count_by}
-use Rattle.std.specs.Map.{lookup, keys_of}
-use Rattle.std.proofs.lemmas.List.Sums.{sum_by-cons}
-use Rattle.std.proofs.lemmas.Option.{same_Some}
-use Rattle.hashlink_model.specs.Cache.{CacheState, CacheUses, cache_use, missed_uses}
+use Rattle.std.{proofs.Common.◌∙◌, specs.Cmp.IsEquivalence, specs.List.count_by, specs.Map.{lookup, keys_of}}
+use Rattle.std.proofs.lemmas.{List.Sums.sum_by-cons, Option.same_Some}
+use Rattle.hashlink_model.specs.{Cache.{CacheState, CacheUses, cache_use, missed_uses}, Entries.IsEntries}
+use Rattle.hashlink_model.proofs.{CacheSteps.uses_entries, Distinct.IsEntries-nil}
 use Rattle.hashlink_history.specs.CacheRuns.{CacheEvent, used_keys, answer_to, after_event, after_events}
-use Rattle.hashlink_history.specs.CacheRuns.{answers}
-use Rattle.hashlink_model.specs.Entries.{IsEntries}
 use Rattle.hashlink_history.proofs.CacheRuns.{keys_along, finds_along, entries_along, finds_the_same_along}
+use Rattle.hashlink_history.{specs.CacheRuns.answers, proofs.Competitive.{competitive, missed_uses-history}}
 use Rattle.hashlink_history.proofs.CacheRuns.{holds_along, answers_along, IsEntries-after_events}
-use Rattle.hashlink_model.proofs.CacheSteps.{uses_entries}
-use Rattle.hashlink_model.proofs.Distinct.{IsEntries-nil}
-use Rattle.hashlink_history.proofs.Competitive.{competitive, missed_uses-history}
 use Rattle.hashlink_history.proofs.Reuse.{held_exactly, HoldsRecent-cache_use}
 use Rattle.hashlink_run.specs.CacheCalls.{RunsFromEmpty, use_of}
 use Rattle.hashlink_run.specs.CacheLaws.{Includes, FollowsHistory, MissesOfHistory, BearsComparison, UsedLast}

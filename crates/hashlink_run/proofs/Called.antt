@@ -6,20 +6,15 @@ use Rattle.hashlink_run.proofs.Names.{ap₂, ◌∙◌, subst, lookup, lookup_en
 use Rattle.hashlink_run.proofs.Names.{CacheInserts, CacheGets, Passed, Length, PassesInTurn, MapState}
 use Rattle.hashlink_run.proofs.Names.{KeepsNodes, within_the_peak, lookup_is, none_from_lookup, kept-moves}
 use Rattle.hashlink_run.proofs.Names.{kept-removes_key, empty_cache, Answered, Chain, state_after, replies_of}
-use Rattle.hashlink_run.proofs.Names.{EventStep}
-use Rattle.std.proofs.Common.{add-one, drop-cons, get_or}
-use Rattle.std.specs.Option.{option_map_or}
+use Rattle.hashlink_run.{proofs.Names.EventStep, specs.CacheCalls.{put_passed, events_passed, RunsFromEmpty}}
+use Rattle.hashlink_run.{specs.Chain.Chained, proofs.Chained.Chain-take, proofs.EntryNodes.kept_unchanged}
+use Rattle.std.{proofs.Common.{add-one, drop-cons, get_or}, specs.Option.option_map_or}
 use Rattle.hashlink_history.specs.CacheRuns.{CacheEvent, Insert, Use, Remove, Peek, answer_to, after_event}
 use Rattle.hashlink_history.specs.CacheRuns.{after_events, answers}
-use Rattle.hashlink_model.specs.Entries.{put, without}
-use Rattle.hashlink_model.specs.MapState.{Removes}
 use Rattle.hashlink_history.proofs.Peaks.{passes-cache_insert, passes-kept, passes_in_parts}
+use Rattle.hashlink_model.specs.{Entries.{put, without}, MapState.Removes}
 use Rattle.hashlink_model.proofs.CacheSteps.{inserts_answer, inserts_entries, uses_entries}
 use Rattle.hashlink_model.proofs.Splits.{remove_entry-none}
-use Rattle.hashlink_run.specs.Chain.{Chained}
-use Rattle.hashlink_run.specs.CacheCalls.{put_passed, events_passed, RunsFromEmpty}
-use Rattle.hashlink_run.proofs.Chained.{Chain-take}
-use Rattle.hashlink_run.proofs.EntryNodes.{kept_unchanged}
 
 -- a list that is read from its front, each element mapped by f
 pub rest_from : {X Y : Type 0} (f : X → Y) (xs : List X) (i : ℕ) (x : X) → i < length xs → x ≡ get_or xs i x

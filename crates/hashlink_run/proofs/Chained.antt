@@ -2,8 +2,7 @@
 use Rattle.hashlink_run.proofs.Names.{◌≡◌, ℕ, zero, suc, ◌≤◌, ◌<◌, Bool, true, List, [], ◌∷◌, ◌++◌, take}
 use Rattle.hashlink_run.proofs.Names.{drop, refl, slice_get, Some, sym, ap, ◌∙◌, subst, append-nil, arith}
 use Rattle.hashlink_run.proofs.Names.{same_Some, Answered, Chain, replies_of, state_after, after}
-use Rattle.std.specs.List.{AllPass}
-use Rattle.std.proofs.lemmas.List.Concat.{flat_map-append}
+use Rattle.std.{specs.List.AllPass, proofs.lemmas.List.Concat.flat_map-append}
 use Rattle.std.proofs.lemmas.List.Elements.{All-head, All-tail}
 
 module _ {R M : Type 0} where

@@ -2,13 +2,12 @@
 use Rattle.hashlink_run.proofs.Names.{◌≡◌, ℕ, ◌≤◌, ◌<◌, Bool, true, List, [], ◌∷◌, length, take, refl, sym}
 use Rattle.hashlink_run.proofs.Names.{arith, MapState, node_count, PassesInTurn, within_the_peak, Reply}
 use Rattle.hashlink_run.proofs.Names.{Answered, state_after, after, Step}
-use Rattle.std.proofs.Common.{le_refl}
-use Rattle.std.specs.List.{AllPass}
-use Rattle.hashlink_model.proofs.KeptNodes.{kept-never_fall, spare_where_shorter}
 use Rattle.hashlink_run.specs.declared.commands.Command.{Command}
 use Rattle.hashlink_run.specs.Run.{Run, Runs, keeps_nodes, passed_by, StaysWithinPeak, TakesKeysWhereShorter}
 use Rattle.hashlink_run.proofs.Chained.{Chain-take, Chain-keeps, Chain-between, step_at}
 use Rattle.hashlink_run.proofs.AnyCommand.{map_step-taken, step-nodes}
+use Rattle.std.{proofs.Common.le_refl, specs.List.AllPass}
+use Rattle.hashlink_model.proofs.KeptNodes.{kept-never_fall, spare_where_shorter}
 
 module _ {K V B S : Type 0} (eq : K → K → Bool) (Says : K → V → B → Type 0)
     (Keeps : K → V → Bool → Type 0) where

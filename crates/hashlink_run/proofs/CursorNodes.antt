@@ -3,12 +3,9 @@ use Rattle.hashlink_run.proofs.Names.{◌≡◌, ℕ, ◌≤◌, Bool, false, Li
 use Rattle.hashlink_run.proofs.Names.{Some, Result, Ok, Err, refl, ap, ◌∙◌, arith, CursorState, MapState}
 use Rattle.hashlink_run.proofs.Names.{KeepsNodes, kept-inserts, CursorStep, Reply, insert_reply, is_refused}
 use Rattle.hashlink_run.proofs.Names.{CursorStepped, CursorWalks, first_place}
-use Rattle.hashlink_model.specs.Cursor.{place_next}
-use Rattle.hashlink_model.specs.MapState.{Inserts}
-use Rattle.hashlink_model.proofs.NodeCounts.{node_count-puts}
+use Rattle.hashlink_model.{specs.Cursor.place_next, specs.MapState.Inserts, proofs.NodeCounts.node_count-puts}
 use Rattle.hashlink_run.specs.declared.commands.CursorStep.TheVariants as cursor
-use Rattle.hashlink_run.specs.CursorSteps.{CursorSteps}
-use Rattle.hashlink_run.proofs.EntryNodes.{kept_unchanged}
+use Rattle.hashlink_run.{specs.CursorSteps.CursorSteps, proofs.EntryNodes.kept_unchanged}
 
 -- every node is kept, and no entry left
 record OnlyGrows {K V S : Type 0} (old new : MapState K V S) : Type 0 where

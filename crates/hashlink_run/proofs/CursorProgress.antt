@@ -1,8 +1,7 @@
 -- A cursor that has done some of its steps.
 use Rattle.hashlink_run.proofs.Names.{ℕ, Bool, List, [], ◌∷◌, ◌++◌, ◌≡◌, refl, sym, ap₂, subst, append_assoc}
 use Rattle.hashlink_run.proofs.Names.{append-nil, length, arith, CursorState, MapState, CursorStep, Reply}
-use Rattle.hashlink_run.proofs.Names.{CursorStepped, CursorWalks, first_place}
-use Rattle.hashlink_run.specs.CursorSteps.{ReadOnWalk}
+use Rattle.hashlink_run.{proofs.Names.{CursorStepped, CursorWalks, first_place}, specs.CursorSteps.ReadOnWalk}
 
 at_first : {K V S : Type 0} (m : MapState K V S) (now : CursorState K V S) → now.map ≡ m → now.place ≡ 0
     → now ≡ first_place m

@@ -2,15 +2,11 @@
 use Rattle.hashlink_run.proofs.Names.{◌≡◌, ℕ, zero, suc, ◌+◌, ◌≤◌, Bool, false, List, [], ◌∷◌, length, refl}
 use Rattle.hashlink_run.proofs.Names.{Option, None, Some, Result, Ok, Err, ap, ◌∙◌, arith, MatchOption}
 use Rattle.hashlink_run.proofs.Names.{MatchResult, place_of, MapState, node_count, KeepsNodes, kept-inserts}
-use Rattle.hashlink_run.proofs.Names.{EntryStep, Reply, is_refused, OccupiedStep}
-use Rattle.hashlink_run.proofs.Names.{VacantStep, EntrySteps}
+use Rattle.hashlink_run.proofs.Names.{EntryStep, Reply, is_refused, OccupiedStep, VacantStep, EntrySteps}
 use Rattle.std.specs.Result.{result_map_both}
-use Rattle.hashlink_model.specs.Entries.{set_key_at}
-use Rattle.hashlink_model.specs.Entry.{VacantInserts}
-use Rattle.hashlink_model.specs.MapState.{Changes, Removes}
-use Rattle.hashlink_model.proofs.KeptNodes.{kept-changes}
-use Rattle.hashlink_model.proofs.NodeCounts.{node_count-removes}
 use Rattle.hashlink_model.proofs.Occupied.{length-moved_at, length-insert_value, length-insert_entry}
+use Rattle.hashlink_model.specs.{Entries.set_key_at, Entry.VacantInserts, MapState.{Changes, Removes}}
+use Rattle.hashlink_model.proofs.{KeptNodes.kept-changes, NodeCounts.node_count-removes}
 use Rattle.hashlink_model.proofs.Occupied.{length-replace_entry}
 use Rattle.hashlink_run.specs.declared.commands.EntryStep.TheVariants as step
 use Rattle.hashlink_run.specs.CallReplies.{reply_or_refused}

@@ -1,11 +1,8 @@
 -- A keep by one closure is also a keep by each relation that allows every result of that closure.
 use Rattle.std.proofs.Common.{◌≡◌, Bool, Contains, List, [], ◌∷◌, arith, refl, subst, sym, filter}
-use Rattle.std.specs.List.{FoldsTo}
-use Rattle.std.specs.Map.Calls.{CallableOnEachPair, SomeCallAtPair}
+use Rattle.std.specs.{List.FoldsTo, Map.Calls.{CallableOnEachPair, SomeCallAtPair}}
 use Rattle.std.proofs.lemmas.List.Elements.{Contains-append_right}
-use Rattle.hashlink_model.specs.MapState.{MapState}
-use Rattle.hashlink_model.specs.Retain.{KeepsInOrder, RetainsInOrder}
-use Rattle.hashlink_model.specs.Steps.{KeepsOnly}
+use Rattle.hashlink_model.specs.{MapState.MapState, Retain.{KeepsInOrder, RetainsInOrder}, Steps.KeepsOnly}
 use Rattle.hashlink_model.proofs.Filtered.{retained_by_predicate}
 use Rattle.hashlink_run.specs.Keeps.{AskedAt, KeepsWhere}
 

@@ -1,17 +1,13 @@
 -- A pair that moves by its entry is the pair of its key, or nothing is there.
-use Rattle.hashlink_run.proofs.Names.{◌≡◌, ℕ, Bool, List, length, slice_get, Option, None, Some}
-use Rattle.hashlink_run.proofs.Names.{refl, sym, ap, ◌∙◌, subst, inl, inr, MatchOption, lookup, lookup_entry}
-use Rattle.hashlink_run.proofs.Names.{place_of, MapState, Reply, Replies, Seen}
-use Rattle.std.proofs.Common.{◌⊎◌}
-use Rattle.std.proofs.lemmas.Map.{NonePasses}
-use Rattle.hashlink_model.specs.MapState.{Changes}
-use Rattle.hashlink_model.specs.Steps.{Moves}
-use Rattle.hashlink_model.proofs.ByPlace.{moved_at-place}
-use Rattle.hashlink_model.proofs.Places.{slice_get_here}
-use Rattle.hashlink_model.proofs.Splits.{Stands, splits, place_of-none}
-use Rattle.hashlink_model.proofs.Splits.{place_of-here, lookup-none, lookup-here}
-use Rattle.hashlink_model.proofs.Splits.{lookup_entry-none, lookup_entry-here}
+use Rattle.hashlink_run.proofs.Names.{◌≡◌, ℕ, Bool, List, length, slice_get, Option, None, Some, refl, sym}
+use Rattle.hashlink_run.proofs.Names.{ap, ◌∙◌, subst, inl, inr, MatchOption, lookup, lookup_entry, place_of}
+use Rattle.hashlink_run.proofs.Names.{MapState, Reply, Replies, Seen}
 use Rattle.hashlink_run.specs.EntrySteps.{FindsNothing, MovesAndReadsAt}
+use Rattle.std.proofs.{Common.◌⊎◌, lemmas.Map.NonePasses}
+use Rattle.hashlink_model.proofs.Splits.{Stands, splits, place_of-none, place_of-here, lookup-none}
+use Rattle.hashlink_model.{specs.MapState.Changes, specs.Steps.Moves, proofs.ByPlace.moved_at-place}
+use Rattle.hashlink_model.proofs.Places.{slice_get_here}
+use Rattle.hashlink_model.proofs.Splits.{lookup-here, lookup_entry-none, lookup_entry-here}
 
 module _ {K V B S : Type 0} (eq : K → K → Bool) (Says : K → V → B → Type 0) (old new : MapState K V S) (k : K)
     (b : ℕ) (replies : List (Reply K V B)) where

@@ -1,19 +1,12 @@
 -- A pair that moved to an end with its value unchanged: it is the pair at that end.
-use Rattle.hashlink_run.proofs.Names.{◌≡◌, ℕ, Bool, List, [], ◌∷◌, length, Option, None, Some}
-use Rattle.hashlink_run.proofs.Names.{refl, sym, ap, ◌∙◌, subst, MatchOption, lookup, lookup_entry}
-use Rattle.hashlink_run.proofs.Names.{option_map, lookup_is, none_from_lookup, first_of, MapState}
-use Rattle.hashlink_run.proofs.Names.{Replies, Seen}
-use Rattle.std.specs.Cmp.{IsEquivalence}
-use Rattle.std.proofs.lemmas.Map.Steps.{set_value_same}
-use Rattle.hashlink_model.specs.Entries.{IsEntries, moved, stored_key, without}
-use Rattle.hashlink_model.specs.MapState.{Changes}
-use Rattle.hashlink_model.specs.Steps.{Moves, MovesAndWrites}
-use Rattle.hashlink_model.specs.Walk.{last_of}
-use Rattle.hashlink_model.proofs.Afterwards.{lookup-moved, moved-there}
-use Rattle.hashlink_model.proofs.Finds.{lookup_key_is}
-use Rattle.hashlink_model.proofs.Places.{last_of-end}
-use Rattle.hashlink_model.proofs.Puts.{put_back, put_front}
-use Rattle.hashlink_model.proofs.Splits.{lookup_entry-none}
+use Rattle.hashlink_run.proofs.Names.{◌≡◌, ℕ, Bool, List, [], ◌∷◌, length, Option, None, Some, refl, sym, ap}
+use Rattle.hashlink_run.proofs.Names.{◌∙◌, subst, MatchOption, lookup, lookup_entry, option_map, lookup_is}
+use Rattle.hashlink_run.proofs.Names.{none_from_lookup, first_of, MapState, Replies, Seen}
+use Rattle.std.{specs.Cmp.IsEquivalence, proofs.lemmas.Map.Steps.set_value_same}
+use Rattle.hashlink_model.specs.{Entries.{IsEntries, moved, stored_key, without}, MapState.Changes}
+use Rattle.hashlink_model.{specs.Steps.{Moves, MovesAndWrites}, specs.Walk.last_of, proofs.Places.last_of-end}
+use Rattle.hashlink_model.proofs.{Afterwards.{lookup-moved, moved-there}, Finds.lookup_key_is}
+use Rattle.hashlink_model.proofs.{Puts.{put_back, put_front}, Splits.lookup_entry-none}
 
 module _ {K V : Type 0} (eq : K → K → Bool) (es : List (K × V)) (k : K) (v : V)
     (found : lookup (eq k) es ≡ Some v) where

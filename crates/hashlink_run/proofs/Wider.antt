@@ -7,8 +7,7 @@ use Rattle.hashlink_run.proofs.Names.{EntrySteps, Replies}
 use Rattle.hashlink_model.specs.Cursor.{entry_in, place_next, place_previous}
 use Rattle.hashlink_run.specs.declared.commands.CursorStep.TheVariants as cursor
 use Rattle.hashlink_run.specs.declared.commands.EntryStep.TheVariants as step
-use Rattle.hashlink_run.specs.CursorSteps.{CursorSteps}
-use Rattle.hashlink_run.specs.Reads.{SaysOf, Reads}
+use Rattle.hashlink_run.specs.{CursorSteps.CursorSteps, Reads.{SaysOf, Reads}}
 
 module _ {K V B : Type 0} (P Q : K → V → B → Type 0)
     (wider : (k : K) (v : V) (b : B) → P k v b → Q k v b) where

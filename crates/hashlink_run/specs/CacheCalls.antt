@@ -1,18 +1,14 @@
 -- Several calls of a cache, none of them refused, and what they leave.
 use Rattle.std.specs.Prelude.{◌≡◌, ℕ, ◌≤◌, Bool, List, [], ◌∷◌, ◌++◌, length, take, Option, Ok}
-use Rattle.std.specs.Map.{lookup, lookup_entry}
-use Rattle.std.specs.Option.{option_map_or}
+use Rattle.std.specs.{Map.{lookup, lookup_entry}, Option.option_map_or}
 use Rattle.hashlink_model.specs.Cache.{CacheState, OnMap, CacheInserts, CacheUses}
 use Rattle.hashlink_history.specs.CacheRuns.{CacheEvent, after_event, after_events, answers}
 use Rattle.hashlink_history.specs.CacheRuns as event
-use Rattle.hashlink_model.specs.Entries.{put}
+use Rattle.hashlink_model.specs.{Entries.put, MapState.{Grows, MayRefuse, node_count}, Steps.RemovesKey}
 use Rattle.hashlink_history.specs.Peak.{Passed, Length, peak}
-use Rattle.hashlink_model.specs.MapState.{Grows, MayRefuse, node_count}
-use Rattle.hashlink_model.specs.Steps.{RemovesKey}
 use Rattle.hashlink_lru.specs.Cached.{empty_cache}
-use Rattle.hashlink_run.specs.declared.cache_commands.PairCommand.{PairCommand}
+use Rattle.hashlink_run.specs.{declared.cache_commands.PairCommand.PairCommand, Chain.{Chained, after}}
 use Rattle.hashlink_run.specs.declared.cache_commands.PairCommand.TheVariants.{Insert, Use, Remove, Peek}
-use Rattle.hashlink_run.specs.Chain.{Chained, after}
 
 -- a command to two caches, as a call of the model
 abbrev pub event_of : {K V : Type 0} → PairCommand K V → CacheEvent K V

@@ -1,9 +1,7 @@
 -- What holds for every list of calls of caches that start empty.
 use Rattle.std.specs.Prelude.{◌≡◌, ℕ, ◌+◌, ◌-◌, ◌*◌, ◌≤◌, Bool, ◌&&◌, List, [], ◌∷◌, ◌++◌, take, nat_lt}
-use Rattle.std.specs.Prelude.{Option, Some, is_some, is_none, slice_get}
-use Rattle.std.specs.List.{AllZip, count_by}
-use Rattle.std.specs.Map.{lookup}
-use Rattle.std.specs.Set.{is_member}
+use Rattle.std.specs.{Prelude.{Option, Some, is_some, is_none, slice_get}, List.{AllZip, count_by}}
+use Rattle.std.specs.{Map.lookup, Set.is_member}
 use Rattle.hashlink_history.specs.CacheRuns.{CacheEvent, key_of, used_keys, NoUse, NoRemoval}
 use Rattle.hashlink_history.specs.History.{reuse_distance, HoldsRecent, cache_misses, Schedule, misses}
 use Rattle.hashlink_history.specs.Inclusion.{IsEndOf, SameKey, SameEntry, AlsoFinds, FindsTheSame}

@@ -3,18 +3,13 @@
 use Rattle.std.specs.Prelude.{◌≡◌, Bool, List, [], ◌∷◌, Option, Some, Result, MatchResult}
 use Rattle.std.specs.Map.{lookup, lookup_entry}
 use Rattle.hashlink_model.specs.Cache.{CacheState, OnMap, EvictsFront, CacheInserts, CacheGets, CacheUses}
-use Rattle.hashlink_model.specs.Cache.{SetsCapacity}
-use Rattle.hashlink_model.specs.MapState.{MapState}
-use Rattle.hashlink_model.specs.Steps.{RemovesKey, PopsFront, Clears}
+use Rattle.hashlink_model.specs.{Cache.SetsCapacity, MapState.MapState, Steps.{RemovesKey, PopsFront, Clears}}
 use Rattle.hashlink_model.specs.Walk.{first_of}
 use Rattle.hashlink_run.specs.declared.cache_commands.CacheCommand.{CacheCommand}
 use Rattle.hashlink_run.specs.declared.cache_commands.CacheCommand.TheVariants as cache
-use Rattle.hashlink_run.specs.declared.replies.Reply.{Reply}
-use Rattle.hashlink_run.specs.declared.replies.Reply.TheVariants.{Done, Value, Pair, Refused}
-use Rattle.hashlink_run.specs.CallReplies.{insert_reply}
-use Rattle.hashlink_run.specs.Chain.{Answered, Chain, Chained}
+use Rattle.hashlink_run.specs.declared.replies.{Reply.Reply, Reply.TheVariants.{Done, Value, Pair, Refused}}
+use Rattle.hashlink_run.specs.{CallReplies.insert_reply, Chain.{Answered, Chain, Chained}, Reads.Replies}
 use Rattle.hashlink_run.specs.EntrySteps.{EntrySteps, ReadAtEntry}
-use Rattle.hashlink_run.specs.Reads.{Replies}
 
 -- the command, run on old, reads the pair
 abbrev pub CommandReads : {K V S : Type 0} → (K → K → Bool) → CacheState K V S → CacheCommand K V → K × V

@@ -1,8 +1,7 @@
 -- The replies to calls, by their results.
 use Rattle.std.specs.Prelude.{Bool, true, false, List, ◌∷◌, Option, Result, Ok, Err}
 use Rattle.std.specs.declared.alloc.AllocError.{AllocError}
-use Rattle.hashlink_run.specs.declared.replies.Reply.{Reply}
-use Rattle.hashlink_run.specs.declared.replies.Reply.TheVariants.{Done, Denied, Value, Refused}
+use Rattle.hashlink_run.specs.declared.replies.{Reply.Reply, Reply.TheVariants.{Done, Denied, Value, Refused}}
 
 module _ {K V B : Type 0} where
   -- the reply to an insert: the old value, or the refused pair

@@ -1,6 +1,5 @@
 -- Chains of steps: each command has its replies, and leads to a state.
-use Rattle.std.specs.Prelude.{◌≡◌, ◌⊎◌, ℕ, List, [], ◌∷◌, take}
-use Rattle.std.specs.List.{flat_map}
+use Rattle.std.specs.{Prelude.{◌≡◌, ◌⊎◌, ℕ, List, [], ◌∷◌, take}, List.flat_map}
 
 -- the replies to a command, and the state that it leads to
 pub record Answered (R M : Type 0) : Type 0 where

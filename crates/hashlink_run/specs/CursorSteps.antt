@@ -1,13 +1,10 @@
 -- The replies of a cursor to its steps, and the state that it reaches.
 use Rattle.std.specs.Prelude.{◌≡◌, ◌⊎◌, ℕ, Bool, List, [], ◌∷◌, ◌++◌, Option, Some, Result}
 use Rattle.hashlink_model.specs.Cursor.{CursorState, at_place, entry_in, place_next, place_previous}
-use Rattle.hashlink_model.specs.Cursor.{InsertsBefore, InsertsAfter}
-use Rattle.hashlink_model.specs.MapState.{MapState}
+use Rattle.hashlink_model.specs.{Cursor.{InsertsBefore, InsertsAfter}, MapState.MapState}
 use Rattle.hashlink_run.specs.declared.commands.CursorStep.{CursorStep}
 use Rattle.hashlink_run.specs.declared.commands.CursorStep.TheVariants as cursor
-use Rattle.hashlink_run.specs.declared.replies.Reply.{Reply}
-use Rattle.hashlink_run.specs.CallReplies.{insert_reply}
-use Rattle.hashlink_run.specs.Reads.{Replies}
+use Rattle.hashlink_run.specs.{declared.replies.Reply.Reply, CallReplies.insert_reply, Reads.Replies}
 
 -- a cursor on the first entry of a map, or on its guard
 abbrev pub first_place : {K V S : Type 0} → MapState K V S → CursorState K V S

@@ -1,17 +1,12 @@
 -- The replies of a map to a step on an entry, with the given key k, and the state that it reaches.
 use Rattle.std.specs.Prelude.{◌≡◌, ℕ, Bool, List, [], ◌∷◌, length, slice_get, None, Some, MatchOption, Result}
-use Rattle.std.specs.Map.{lookup_entry}
-use Rattle.std.specs.Result.{result_map_both}
-use Rattle.hashlink_model.specs.Entries.{place_of}
+use Rattle.std.specs.{Map.lookup_entry, Result.result_map_both}
 use Rattle.hashlink_model.specs.Entry.{InsertsValue, InsertsEntry, ReplacesEntry, ReplacesKey, TakesEntry}
-use Rattle.hashlink_model.specs.Entry.{VacantInserts}
-use Rattle.hashlink_model.specs.MapState.{MapState, MovesAt}
+use Rattle.hashlink_model.specs.{Entries.place_of, Entry.VacantInserts, MapState.{MapState, MovesAt}}
 use Rattle.hashlink_run.specs.declared.commands.EntryStep.{EntryStep}
 use Rattle.hashlink_run.specs.declared.commands.EntryStep.TheVariants as step
-use Rattle.hashlink_run.specs.declared.replies.Reply.{Reply}
-use Rattle.hashlink_run.specs.declared.replies.Reply.TheVariants.{Value, Pair, Key, Seen}
-use Rattle.hashlink_run.specs.CallReplies.{reply_or_refused}
-use Rattle.hashlink_run.specs.Reads.{Replies, Reads}
+use Rattle.hashlink_run.specs.declared.replies.{Reply.Reply, Reply.TheVariants.{Value, Pair, Key, Seen}}
+use Rattle.hashlink_run.specs.{CallReplies.reply_or_refused, Reads.{Replies, Reads}}
 
 module _ {K V B S : Type 0} (Says : K → V → B → Type 0) where
   -- the entry at index j moves to index b, and is read

@@ -1,8 +1,7 @@
 -- A keep by a closure that writes nothing: `Keeps k v b` states that it may return b for the key k and the
 -- value v.
 use Rattle.std.specs.Prelude.{◌≡◌, ℕ, ◌%◌, Bool, List, Contains, nat_eq}
-use Rattle.hashlink_model.specs.MapState.{MapState}
-use Rattle.hashlink_model.specs.Retain.{RetainsInOrder}
+use Rattle.hashlink_model.specs.{MapState.MapState, Retain.RetainsInOrder}
 
 -- the pair is one of the entries. It is a record for the same reason as `AskedBy`
 pub record IsEntryOf {K V : Type 0} (es : List (K × V)) (pair : K × V) : Type 0 where

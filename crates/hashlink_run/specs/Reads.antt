@@ -1,11 +1,8 @@
 -- The reply to a command that reads a pair: `Says k v b` states that the closure may return b for the key k
 -- and the value v.
-use Rattle.std.specs.Prelude.{◌≡◌, List, [], ◌∷◌, Option, None, Some}
-use Rattle.std.specs.Fn.{Shared, FnReturns}
-use Rattle.std.specs.Borrow.{Bor}
+use Rattle.std.specs.{Prelude.{◌≡◌, List, [], ◌∷◌, Option, None, Some}, Fn.{Shared, FnReturns}, Borrow.Bor}
 use Rattle.hashlink_model.specs.MapState.{MapState}
-use Rattle.hashlink_run.specs.declared.replies.Reply.{Reply}
-use Rattle.hashlink_run.specs.declared.replies.Reply.TheVariants.{Seen}
+use Rattle.hashlink_run.specs.declared.replies.{Reply.Reply, Reply.TheVariants.Seen}
 
 module _ {F K V B : Type 0} (g : Shared F (Bor K × (Bor V × Unit {0})) B) (f : F) where
   -- f may be called at references to k and v

@@ -1,15 +1,11 @@
 -- Lists of commands: a run is a chain of steps. What holds along it.
 use Rattle.std.specs.Prelude.{◌≡◌, ◌⊎◌, ℕ, ◌+◌, ◌<◌, ◌≤◌, Bool, true, false, List, [], ◌∷◌, length, take}
-use Rattle.std.specs.Prelude.{drop, slice_get, Some}
-use Rattle.std.specs.List.{AllPass}
+use Rattle.std.specs.{Prelude.{drop, slice_get, Some}, List.AllPass}
 use Rattle.hashlink_history.specs.Peak.{Passed, Length, Shrunk, peak}
 use Rattle.hashlink_model.specs.MapState.{MapState, node_count, MayRefuse}
-use Rattle.hashlink_run.specs.declared.commands.Command.{Command}
-use Rattle.hashlink_run.specs.declared.commands.Command.TheVariants.{Clear, Shrink}
-use Rattle.hashlink_run.specs.declared.replies.Reply.{Reply}
-use Rattle.hashlink_run.specs.CallReplies.{is_refused}
-use Rattle.hashlink_run.specs.Chain.{Answered, Chain, Chained, ComesTo, after}
-use Rattle.hashlink_run.specs.Step.{AskedBy, ReadBy, Step}
+use Rattle.hashlink_run.specs.declared.commands.{Command.Command, Command.TheVariants.{Clear, Shrink}}
+use Rattle.hashlink_run.specs.{declared.replies.Reply.Reply, CallReplies.is_refused}
+use Rattle.hashlink_run.specs.{Chain.{Answered, Chain, Chained, ComesTo, after}, Step.{AskedBy, ReadBy, Step}}
 pub use Rattle.hashlink_run.specs.Step.{reply_count}
 
 module _ {K V B S : Type 0} (eq : K → K → Bool) (Says : K → V → B → Type 0)

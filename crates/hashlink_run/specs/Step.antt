@@ -1,19 +1,14 @@
 -- The replies of a map to a command, and the state that it reaches. If a command reads a pair, the reply
 -- contains a value that `Says` allows for it. A keep goes by values that `Keeps` allows.
 use Rattle.std.specs.Prelude.{◌≡◌, ℕ, Bool, List, [], ◌∷◌, length, Option, Some, Result, Contains}
-use Rattle.std.specs.Map.{lookup, lookup_entry}
-use Rattle.std.specs.declared.alloc.AllocError.{AllocError}
-use Rattle.hashlink_model.specs.MapState.{MapState, Inserts}
+use Rattle.std.specs.{Map.{lookup, lookup_entry}, declared.alloc.AllocError.AllocError}
+use Rattle.hashlink_model.specs.{MapState.{MapState, Inserts}, Walk.{first_of, last_of}}
 use Rattle.hashlink_model.specs.Steps.{Replaces, RemovesKey, PopsFront, PopsBack, Moves, Clears, Shrinks}
-use Rattle.hashlink_model.specs.Walk.{first_of, last_of}
 use Rattle.hashlink_run.specs.declared.commands.Command.{Command}
 use Rattle.hashlink_run.specs.declared.commands.Command.TheVariants as command
-use Rattle.hashlink_run.specs.declared.replies.Reply.{Reply}
-use Rattle.hashlink_run.specs.declared.replies.Reply.TheVariants.{Done, Value, Pair, Length}
-use Rattle.hashlink_run.specs.CallReplies.{insert_reply, shrink_reply}
-use Rattle.hashlink_run.specs.CursorSteps.{CursorSteps, ReadOnWalk, first_place}
-use Rattle.hashlink_run.specs.Keeps.{KeepsWhere}
-use Rattle.hashlink_run.specs.Reads.{Replies, Reads}
+use Rattle.hashlink_run.specs.declared.replies.{Reply.Reply, Reply.TheVariants.{Done, Value, Pair, Length}}
+use Rattle.hashlink_run.specs.{CallReplies.{insert_reply, shrink_reply}, Keeps.KeepsWhere}
+use Rattle.hashlink_run.specs.{CursorSteps.{CursorSteps, ReadOnWalk, first_place}, Reads.{Replies, Reads}}
 use Rattle.hashlink_run.specs.EntrySteps.{EntrySteps, ReadAtEntry}
 
 module _ {K V B S : Type 0} (eq : K → K → Bool) (Says : K → V → B → Type 0)

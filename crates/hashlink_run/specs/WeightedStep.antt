@@ -1,18 +1,15 @@
 -- The replies of a cache with a budget to a command, and the state that it reaches. If a command reads a
 -- value, the reply contains what `Says` allows for the command's key and that value.
-use Rattle.std.specs.Prelude.{◌≡◌, Bool, List, [], ◌∷◌, Option, Some, Result, Ok, Err}
-use Rattle.std.specs.Map.{lookup}
+use Rattle.std.specs.{Prelude.{◌≡◌, Bool, List, [], ◌∷◌, Option, Some, Result, Ok, Err}, Map.lookup}
 use Rattle.std.specs.Option.{option_map}
 use Rattle.hashlink_model.specs.Weights.{WeightedState}
 use Rattle.hashlink_weighted.specs.Answers.{InsertsWithin, without_weight}
 use Rattle.hashlink_weighted.specs.Weighed.{WeightedGets, WeightedRemoves}
 use Rattle.hashlink_weighted.specs.declared.error.WeightError.{WeightError}
 use Rattle.hashlink_weighted.specs.declared.error.WeightError.TheVariants as error
-use Rattle.hashlink_run.specs.declared.cache_commands.WeightedCommand.{WeightedCommand}
+use Rattle.hashlink_run.specs.declared.{cache_commands.WeightedCommand.WeightedCommand, replies.Reply.Reply}
 use Rattle.hashlink_run.specs.declared.cache_commands.WeightedCommand.TheVariants.{Insert, Get, Peek, Remove}
-use Rattle.hashlink_run.specs.declared.replies.Reply.{Reply}
-use Rattle.hashlink_run.specs.declared.replies.Reply.TheVariants.{Value, Refused, TooHeavy}
-use Rattle.hashlink_run.specs.Reads.{Replies}
+use Rattle.hashlink_run.specs.{declared.replies.Reply.TheVariants.{Value, Refused, TooHeavy}, Reads.Replies}
 
 -- the reply to an insert: the old value, or the refused pair
 abbrev pub weighted_reply : {K V B : Type 0} → Result (Option V) (WeightError K V) → Reply K V B

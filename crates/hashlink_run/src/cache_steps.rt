@@ -1,10 +1,8 @@
 //! One command to a cache.
-ghost use Rattle.std.specs.Prelude.{◌≡◌, [], ◌∷◌, Some};
-ghost use Rattle.std.specs.Map.{lookup_entry};
+ghost use Rattle.std.specs.{Prelude.{◌≡◌, [], ◌∷◌, Some}, Map.lookup_entry};
 ghost use Rattle.hashlink_run.specs.declared.cache_commands.CacheCommand.TheVariants.{Use};
+ghost use Rattle.hashlink_run.specs.{CacheStep.{CacheStep, ReadFromCache}, Reads.{CallableOn, ClosureSays}};
 ghost use Rattle.hashlink_lru.specs.Cached.{entries_of, state_of};
-ghost use Rattle.hashlink_run.specs.CacheStep.{CacheStep, ReadFromCache};
-ghost use Rattle.hashlink_run.specs.Reads.{CallableOn, ClosureSays};
 
 use crate::{CacheCommand, EntryStep, Reply, insert_reply, reply_of_entry, said_of};
 use hashlink_lru::LruCache;

@@ -3,10 +3,9 @@ ghost use Rattle.std.specs.Prelude.{◌≡◌, ◌≤◌, [], ◌∷◌, ◌++�
 ghost use Rattle.std.specs.Prelude.{MatchResult};
 ghost use Rattle.hashlink_core.specs.Hashing.{default_builder};
 ghost use Rattle.hashlink_lru.specs.Cached.{entries_of, state_of};
-ghost use Rattle.hashlink_model.specs.Cache.{CacheUses};
-ghost use Rattle.hashlink_model.specs.Entries.{IsEntries};
-ghost use Rattle.hashlink_run.specs.CacheCalls.{EventRefused, EventStep, RunsFromEmpty, event_of, use_of};
+ghost use Rattle.hashlink_model.specs.{Cache.CacheUses, Entries.IsEntries};
 ghost use Rattle.hashlink_run.specs.CacheLaws.{BearsComparison, FollowsHistory, Includes, MissesOfHistory};
+ghost use Rattle.hashlink_run.specs.CacheCalls.{EventRefused, EventStep, RunsFromEmpty, event_of, use_of};
 ghost use Rattle.hashlink_run.specs.CacheLaws.{UsedLast};
 
 use crate::PairCommand;

@@ -1,16 +1,11 @@
 //! One command to a map, and how a map runs it.
-ghost use Rattle.std.specs.Prelude.{◌≡◌, ◌+◌, ◌≤◌, ◌++◌, [], ◌∷◌, List, OnOk, OnErr, IsOk, Some};
-ghost use Rattle.std.specs.Prelude.{length, vec_len, vec_capacity};
-ghost use Rattle.std.specs.Map.{lookup, lookup_entry};
-ghost use Rattle.std.specs.Map.Calls.{CallableOnEachPair, CalledAtPair, TakesPair};
-ghost use Rattle.std.specs.Map.Iter.{deref_pair};
-ghost use Rattle.std.specs.Option.{option_map};
+ghost use Rattle.std.specs.Prelude.{◌≡◌, ◌+◌, ◌≤◌, ◌++◌, [], ◌∷◌, List, OnOk, OnErr, IsOk, Some, length};
+ghost use Rattle.std.specs.{Prelude.{vec_len, vec_capacity}, Map.{lookup, lookup_entry}, Map.Iter.deref_pair};
+ghost use Rattle.std.specs.{Map.Calls.{CallableOnEachPair, CalledAtPair, TakesPair}, Option.option_map};
 ghost use Rattle.hashlink_core.specs.Keyed.{entries_of, state_of};
-ghost use Rattle.hashlink_model.specs.Retain.{RetainsInOrder};
-ghost use Rattle.hashlink_model.specs.Steps.{Moves};
-ghost use Rattle.hashlink_run.specs.Keeps.{IsEntryOf, KeepsWhere};
+ghost use Rattle.hashlink_model.specs.{Retain.RetainsInOrder, Steps.Moves};
+ghost use Rattle.hashlink_run.specs.{Keeps.{IsEntryOf, KeepsWhere}, CallReplies.{insert_reply, shrink_reply}};
 ghost use Rattle.hashlink_run.specs.Reads.{CallableAt, CallableOn, ClosureSays, SaysOf};
-ghost use Rattle.hashlink_run.specs.CallReplies.{insert_reply, shrink_reply};
 ghost use Rattle.hashlink_run.specs.Step.{AskedBy, ReadBy, Step, reply_count};
 
 use crate::Reply;

@@ -3,8 +3,7 @@ ghost use Rattle.std.specs.Prelude.{◌≡◌, ◌+◌, ◌≤◌, ◌++◌, [],
 ghost use Rattle.hashlink_core.specs.Keyed.{state_of};
 ghost use Rattle.hashlink_map.specs.Cursor.{cursor_map, cursor_state};
 ghost use Rattle.hashlink_run.specs.CursorSteps.{CursorStepped, CursorSteps, ReadByStep, ReadOnWalk};
-ghost use Rattle.hashlink_run.specs.CursorSteps.{first_place};
-ghost use Rattle.hashlink_run.specs.Reads.{CallableOn, ClosureSays};
+ghost use Rattle.hashlink_run.specs.{CursorSteps.first_place, Reads.{CallableOn, ClosureSays}};
 
 use crate::commands::{insert_reply, said_of};
 use crate::{CursorStep, Reply};

@@ -1,21 +1,14 @@
 //! What holds for every run that the definitions allow, and what a keep leaves. Each function has an empty
 //! body: its contract is the theorem.
 ghost use Rattle.std.specs.Prelude.{◌≡◌, ◌≤◌, ℕ, Bool, List, [], filter};
-ghost use Rattle.hashlink_model.specs.Cache.{CacheState};
+ghost use Rattle.hashlink_model.specs.{Cache.CacheState, MapState.MapState, Steps.KeepsOnly};
 ghost use Rattle.hashlink_history.specs.CacheRuns.{CacheEvent, after_events, answers};
-ghost use Rattle.hashlink_model.specs.MapState.{MapState};
-ghost use Rattle.hashlink_model.specs.Steps.{KeepsOnly};
-ghost use Rattle.hashlink_run.specs.declared.cache_commands.CacheCommand.{CacheCommand};
-ghost use Rattle.hashlink_run.specs.declared.commands.Command.{Command};
-ghost use Rattle.hashlink_run.specs.declared.commands.Command.TheVariants.{Keep};
-ghost use Rattle.hashlink_run.specs.declared.replies.Reply.{Reply};
-ghost use Rattle.hashlink_run.specs.CacheLaws.{Includes, FollowsHistory};
+ghost use Rattle.hashlink_run.specs.declared.{cache_commands.CacheCommand.CacheCommand, replies.Reply.Reply};
+ghost use Rattle.hashlink_run.specs.declared.commands.{Command.Command, Command.TheVariants.Keep};
+ghost use Rattle.hashlink_run.specs.{CacheLaws.{Includes, FollowsHistory}, CacheStep.CacheRun, Step.Step};
 ghost use Rattle.hashlink_run.specs.CacheRun.{CacheWithinPeak, InsertsFit, KeepsBounds, TakesAllAfterADrop};
-ghost use Rattle.hashlink_run.specs.CacheStep.{CacheRun};
-ghost use Rattle.hashlink_run.specs.Chain.{Answered};
-ghost use Rattle.hashlink_run.specs.Reads.{ClosureSays};
+ghost use Rattle.hashlink_run.specs.{Chain.Answered, Reads.ClosureSays};
 ghost use Rattle.hashlink_run.specs.Run.{Run, StaysWithinPeak, TakesKeysWhereShorter};
-ghost use Rattle.hashlink_run.specs.Step.{Step};
 
 /// For any calls of two empty caches, and so after each call in a list of them: the smaller cache holds an
 /// end of the larger one's keys, and each holds and found what the history of uses implies.

@@ -1,6 +1,5 @@
 //! One command to a cache with a budget.
-ghost use Rattle.std.specs.Prelude.{◌≡◌, [], ◌∷◌, Some, option_copied};
-ghost use Rattle.std.specs.Option.{option_map};
+ghost use Rattle.std.specs.{Prelude.{◌≡◌, [], ◌∷◌, Some, option_copied}, Option.option_map};
 ghost use Rattle.hashlink_run.specs.Reads.{CallableOn, ClosureSays, SaysOf};
 ghost use Rattle.hashlink_run.specs.WeightedStep.{ReadFromWeighted, WeightedStep, weighted_reply};
 

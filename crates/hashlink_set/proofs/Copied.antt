@@ -1,8 +1,7 @@
 -- What std's `copied` gave and read, in terms of the references that it copied.
 use Rattle.hashlink_set.proofs.Names.{◌≡◌, List, map, Option, None, Some, sym, Bor, deref, option_copied}
-use Rattle.std.proofs.lemmas.Option.{none-some, same_Some}
+use Rattle.std.{proofs.lemmas.Option.{none-some, same_Some}, specs.declared.iter.Copied.Copied}
 use Rattle.std.specs.Iterator.Adapters.{copied_source, copied_steps}
-use Rattle.std.specs.declared.iter.Copied.{Copied}
 use Rattle.hashlink_map.specs.Reading.{GivesAll, GivesSome, ReadsAll, ReadsSome}
 use Rattle.hashlink_map.proofs.Copying.{copies_all, copies_some}
 

@@ -1,8 +1,6 @@
 -- The elements after an insert and a replace, by their results.
 use Rattle.std.proofs.Common.{◌≡◌, Bool, not, length, Option, Result, Ok, Err, refl, sym, ◌∙◌}
-use Rattle.std.specs.Prelude.{IfOk, IsOk, IsTrue, OnOk}
-use Rattle.std.specs.List.{find}
-use Rattle.std.specs.Set.{is_member}
+use Rattle.std.specs.{Prelude.{IfOk, IsOk, IsTrue, OnOk}, List.find, Set.is_member}
 use Rattle.hashlink_model.specs.Sets.{SetState, elements_of, put_element, replaced, SetInserts, SetReplaces}
 use Rattle.hashlink_model.proofs.SetElements.{inserts_refused, set_inserts, set_replaces}
 

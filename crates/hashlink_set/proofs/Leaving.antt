@@ -1,8 +1,7 @@
 -- The elements that a removal leaves.
 use Rattle.hashlink_set.proofs.Names.{◌≡◌, Bool, Option, ap, ◌∙◌, keys_of, remove_key, SetState, elements_of}
-use Rattle.hashlink_model.specs.Steps.{RemovesMatch}
+use Rattle.hashlink_model.{specs.Steps.RemovesMatch, proofs.SetElements.keys-remove_entry}
 use Rattle.hashlink_map.proofs.Outcomes.{removes_entries}
-use Rattle.hashlink_model.proofs.SetElements.{keys-remove_entry}
 
 module _ {T S : Type 0} (old new : SetState T S) (test : T → Bool) where
   -- goal: the elements after a removal, even if none was found

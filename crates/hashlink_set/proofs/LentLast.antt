@@ -4,18 +4,14 @@ use Rattle.hashlink_set.proofs.Names.{subst, ◌∙◌, SProp, ent, sep, emp, fa
 use Rattle.hashlink_set.proofs.Names.{◌∵◌, !, qed, move, join, split, use0, fpick, Lfts, RattleType, IfOk}
 use Rattle.hashlink_set.proofs.Names.{IfErr, OnOk, IsSome, option_copied, Bor, find, UnwrapsOrElse, SetState}
 use Rattle.hashlink_set.proofs.Names.{elements_of, stored_element, GetsOrInserts, last_of, GetsOrMakes}
-use Rattle.hashlink_set.proofs.Names.{as_seen, PutsElement, MakesElement}
+use Rattle.hashlink_set.proofs.{Names.{as_seen, PutsElement, MakesElement}, Stored.inserted_last}
 use seplogic.Ra.Ura.{Ura}
-use types.Logic.{Logic}
-use types.Kit.{fpack, done}
+use types.{Logic.Logic, Kit.{fpack, done}}
 use base.Fml.{ftrue, flft}
 use contract.Lifetimes.{Shares, toks}
 use mathlib.Core.Option.{none}
 use denote.Follow.{follows_by, such_by}
-use Rattle.std.specs.Prelude.{⊤}
-use Rattle.std.specs.Borrow.{Fml, GName, follows_so, follows_if}
-use Rattle.std.specs.Result.{result_err}
-use Rattle.hashlink_set.proofs.Stored.{inserted_last}
+use Rattle.std.specs.{Prelude.⊤, Borrow.{Fml, GName, follows_so, follows_if}, Result.result_err}
 
 module _ {M : Type 1} (𝓤 : Ura M) (A B C : Type 0) where
   -- what a call requires: three facts on lifetimes, and R

@@ -2,12 +2,10 @@
 use Rattle.hashlink_set.proofs.Names.{◌≡◌, ℕ, ◌^◌, ◌≤◌, Bool, true, false, cond, List, [], ◌∷◌, filter, not}
 use Rattle.hashlink_set.proofs.Names.{Option, None, Some, refl, sym, ap, ◌∙◌, option_copied, IfSome, at_most}
 use Rattle.hashlink_set.proofs.Names.{UpTo, is_member, Bor, TakesFirst, deref, first_passing, at_most_both}
-use Rattle.hashlink_set.proofs.Names.{elements_in, sifts}
-use Rattle.std.proofs.Common.{◌+◌, nat_lt}
-use Rattle.std.specs.Bool.{beq}
-use Rattle.hashlink_model.proofs.LazyWalks.{first_passing-takes}
-use Rattle.hashlink_set.specs.Walks.{LooksOn, SiftedSteps}
+use Rattle.hashlink_set.{proofs.Names.{elements_in, sifts}, specs.Walks.{LooksOn, SiftedSteps}}
 use Rattle.hashlink_set.specs.declared.sifted.Sifted.{Sifted}
+use Rattle.std.{proofs.Common.{◌+◌, nat_lt}, specs.Bool.beq}
+use Rattle.hashlink_model.proofs.LazyWalks.{first_passing-takes}
 
 module _ {T : Type 0} where
   -- a step on a list of references

@@ -1,10 +1,8 @@
 -- What the map's lookups show for a set's elements.
 use Rattle.std.proofs.Common.{◌≡◌, Bool, List, is_some, option_map, sym, ap, ◌∙◌}
-use Rattle.std.specs.List.{find, list_any}
-use Rattle.std.specs.Map.{keys_of, lookup_entry}
+use Rattle.std.specs.{List.{find, list_any}, Map.{keys_of, lookup_entry}}
 use Rattle.std.proofs.lemmas.Map.Made.{is_some-lookup}
-use Rattle.hashlink_model.proofs.Finds.{lookup_is, lookup_key_is}
-use Rattle.hashlink_model.proofs.SetElements.{find-keys}
+use Rattle.hashlink_model.proofs.{Finds.{lookup_is, lookup_key_is}, SetElements.find-keys}
 use Rattle.hashlink_core.proofs.AtKeyNode.{is_some-map}
 
 module _ {T : Type 0} (es : List (T × Unit {0})) where

@@ -1,10 +1,8 @@
 -- A move of an element, as the map's move of a key with the value `()`.
 use Rattle.std.proofs.Common.{◌≡◌, ℕ, Bool, List, [], ◌∷◌, Some, refl, sym, ap, subst, ◌∙◌, arith}
 use Rattle.std.specs.Map.{lookup, set_value}
-use Rattle.hashlink_model.specs.Entries.{moved_match}
-use Rattle.hashlink_model.specs.MapState.{Changes}
+use Rattle.hashlink_model.specs.{Entries.moved_match, MapState.Changes, Sets.SetState}
 use Rattle.hashlink_model.specs.Steps.{MovesMatch, MovesMatchAndWrites}
-use Rattle.hashlink_model.specs.Sets.{SetState}
 
 -- writing the value `()` changes nothing
 set_value-nothing : {T : Type 0} (test : T → Bool) (es : List (T × Unit {0})) → set_value test es tt ≡ es

@@ -2,19 +2,12 @@
 use Rattle.hashlink_set.proofs.Names.{◌≡◌, Bool, true, cond, List, [], ◌∷◌, ◌++◌, Option, None, Some, map, ap}
 use Rattle.hashlink_set.proofs.Names.{Result, Ok, Err, subst, sym, ◌∙◌, IfOk, Bor, IsEquivalence, AllZip}
 use Rattle.hashlink_set.proofs.Names.{keys_of, TakesFirst, deref, elements_eq, AcceptsAll, SetState}
-use Rattle.hashlink_set.proofs.Names.{elements_of, SetInserts}
-use Rattle.hashlink_model.specs.Many.{MadeFrom, InsertsPair}
-use Rattle.std.proofs.Common.{append-nil}
-use Rattle.std.specs.Prelude.{OnErr, MatchResult}
-use Rattle.std.proofs.lemmas.List.Elements.{same_from_all_zip}
-use Rattle.std.specs.Iterator.{Yields, Drains}
-use Rattle.std.specs.List.{IsDistinct}
-use Rattle.hashlink_model.specs.Entries.{extended}
-use Rattle.hashlink_model.specs.MapState.{empty_map}
-use Rattle.hashlink_model.specs.Sets.{pairs_of}
-use Rattle.hashlink_model.proofs.InTurn.{accepts_entries}
+use Rattle.hashlink_set.{proofs.Names.{elements_of, SetInserts}, specs.Cloned.IsOfClones}
+use Rattle.hashlink_model.specs.{Many.{MadeFrom, InsertsPair}, Entries.extended, MapState.empty_map}
+use Rattle.hashlink_model.{specs.Sets.pairs_of, proofs.InTurn.accepts_entries}
 use Rattle.hashlink_model.proofs.SetElements.{own_elements, clone_of_a_set}
-use Rattle.hashlink_set.specs.Cloned.{IsOfClones}
+use Rattle.std.{proofs.Common.append-nil, specs.Prelude.{OnErr, MatchResult}, specs.Iterator.{Yields, Drains}}
+use Rattle.std.{proofs.lemmas.List.Elements.same_from_all_zip, specs.List.IsDistinct}
 
 zip_weaken : {T : Type 0} (C D : T → T → Type 0) → ((x y : T) → C x y → D x y)
     → (xs ys : List T) → AllZip C xs ys

@@ -1,15 +1,11 @@
 -- The calls of a closure at pairs, compared with those of the closure that it calls at each element.
-use Rattle.hashlink_set.proofs.Names.{◌≡◌, Bool, true, false, cond, List, [], ◌∷◌, Option, None, Some}
-use Rattle.hashlink_set.proofs.Names.{◌∙◌, ap, subst, sym, refl, is_some, is_some-lookup, option_map}
-use Rattle.hashlink_set.proofs.Names.{keys_of, is_member, RetainsInOrder, SetState}
-use Rattle.std.specs.List.{FoldsTo}
-use Rattle.std.specs.Map.{lookup, lookup_entry}
-use Rattle.std.specs.Map.Calls.{CallableOnEachPair, SomeCallAtPair}
-use Rattle.std.specs.Prelude.{MatchOption}
-use Rattle.hashlink_model.specs.Lookups.{AsAnswered, UpdatesKept}
-use Rattle.hashlink_model.specs.Retain.{KeepsInOrder}
-use Rattle.hashlink_set.proofs.Lookups.{element-found}
+use Rattle.hashlink_set.proofs.Names.{◌≡◌, Bool, true, false, cond, List, [], ◌∷◌, Option, None, Some, ◌∙◌}
+use Rattle.hashlink_set.proofs.Names.{ap, subst, sym, refl, is_some, is_some-lookup, option_map, keys_of}
+use Rattle.hashlink_set.proofs.{Names.{is_member, RetainsInOrder, SetState}, Lookups.element-found}
 use Rattle.hashlink_set.specs.Called.{HasAnswered, SetUpdatesKept}
+use Rattle.std.specs.{List.FoldsTo, Map.{lookup, lookup_entry}, Prelude.MatchOption}
+use Rattle.std.specs.Map.Calls.{CallableOnEachPair, SomeCallAtPair}
+use Rattle.hashlink_model.specs.{Lookups.{AsAnswered, UpdatesKept}, Retain.KeepsInOrder}
 
 module _ {C F T : Type 0} (see : C → F) (P : C → T → Unit {0} → Bool → Unit {0} → C → Type 0)
     (Q : F → T → Unit {0} → Bool → Unit {0} → F → Type 0)

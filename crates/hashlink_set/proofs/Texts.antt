@@ -1,14 +1,8 @@
 -- Sets of texts: a call for one text changes nothing for the other texts.
-use Rattle.std.proofs.Common.{◌≡◌, ◌≢◌, ℕ, Bool, true, false, List, sym, ◌∙◌, ⊎_elim}
-use Rattle.std.specs.Cmp.Lexicographic.{bytes_decides}
-use Rattle.std.specs.List.{list_any}
-use Rattle.std.specs.Map.{AreApart, IsKeyTest}
-use Rattle.std.specs.Set.{KeepsOthers}
-use Rattle.std.specs.Str.{bytes_eq}
-use Rattle.std.specs.String.{string_bytes, string_eq}
-use Rattle.std.specs.declared.string.String.{String}
-use Rattle.std.proofs.lemmas.Bool.{cases_Bool}
-use Rattle.std.proofs.lemmas.Cmp.{nat_list_eq_equiv}
+use Rattle.std.{proofs.Common.{◌≡◌, ◌≢◌, ℕ, Bool, true, false, List, sym, ◌∙◌, ⊎_elim}, specs.List.list_any}
+use Rattle.std.specs.{Cmp.Lexicographic.bytes_decides, Map.{AreApart, IsKeyTest}, Set.KeepsOthers}
+use Rattle.std.specs.{Str.bytes_eq, String.{string_bytes, string_eq}, declared.string.String.String}
+use Rattle.std.proofs.lemmas.{Bool.cases_Bool, Cmp.nat_list_eq_equiv}
 
 of_another : {T : Type 0} (eq : T → T → Bool) (test : T → Bool) (old new : List T)
     → KeepsOthers eq test old new

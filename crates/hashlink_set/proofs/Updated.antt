@@ -2,16 +2,13 @@
 use Rattle.hashlink_set.proofs.Names.{◌≡◌, ℕ, Bool, true, false, cond, List, length, Option, None, Some}
 use Rattle.hashlink_set.proofs.Names.{Result, Ok, Err, OnOk, is_some, refl, sym, ap, subst, ◌∙◌}
 use Rattle.hashlink_set.proofs.Names.{IsEquivalence, is_member, keys_of, set_replaces, SetReplaces, SetState}
-use Rattle.hashlink_set.proofs.Names.{elements_of}
+use Rattle.hashlink_set.proofs.{Names.elements_of, Stored.is_some-find}
 use Rattle.std.specs.Map.{KeepsOthers}
 use Rattle.hashlink_map.proofs.EntryUpdates.{keeps-key}
-use Rattle.hashlink_model.specs.Entries.{IsEntries, IsKeyTest, moved_match}
+use Rattle.hashlink_model.specs.{Entries.{IsEntries, IsKeyTest, moved_match}, Steps.MovesMatch}
 use Rattle.hashlink_model.specs.Lookups.{KeepsLookups, SetKeepsLookups, SetUpdates, Updates}
-use Rattle.hashlink_model.specs.Steps.{MovesMatch}
-use Rattle.hashlink_model.proofs.Members.{is_member-equal}
-use Rattle.hashlink_model.proofs.SetUpdates.{set_keeps, set_updates}
+use Rattle.hashlink_model.proofs.{Members.is_member-equal, SetUpdates.{set_keeps, set_updates}}
 use Rattle.hashlink_model.proofs.Updates.{keeps-moved, updates-put}
-use Rattle.hashlink_set.proofs.Stored.{is_some-find}
 
 module _ {T S : Type 0} (eq : T → T → Bool) (laws : IsEquivalence eq) (test : T → Bool)
     (tells : IsKeyTest eq test) (old new : SetState T S) where

@@ -1,6 +1,5 @@
 -- A set's results as those of its map.
-use Rattle.std.specs.Prelude.{Bool, cond, Option, None, Some}
-use Rattle.std.specs.Option.{option_map}
+use Rattle.std.specs.{Prelude.{Bool, cond, Option, None, Some}, Option.option_map}
 
 -- a returned element, as an entry
 abbrev pub as_entry : {T : Type 0} → Option T → Option (T × Unit {0})

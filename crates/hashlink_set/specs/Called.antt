@@ -1,10 +1,6 @@
 -- The calls of a closure at elements.
-use Rattle.std.specs.Prelude.{◌≡◌, Bool, false, List, MatchOption}
-use Rattle.std.specs.Borrow.{Bor}
-use Rattle.std.specs.Fn.{Mut, CalledAt, TakesAt}
-use Rattle.std.specs.List.{find, list_any}
-use Rattle.std.specs.Map.Calls.{CallableOnEachPair}
-use Rattle.std.specs.Set.{is_member}
+use Rattle.std.specs.{Prelude.{◌≡◌, Bool, false, List, MatchOption}, Borrow.Bor, Fn.{Mut, CalledAt, TakesAt}}
+use Rattle.std.specs.{List.{find, list_any}, Map.Calls.CallableOnEachPair, Set.is_member}
 use Rattle.hashlink_model.specs.Sets.{SetState, at_element}
 
 -- f may be called at each element, in the state that its calls at the elements before left

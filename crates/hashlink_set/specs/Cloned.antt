@@ -1,10 +1,6 @@
 -- The state of a set that was made of clones.
-use Rattle.std.specs.Prelude.{◌≡◌, Bool, true, List, [], Result, MatchResult}
-use Rattle.std.specs.Borrow.{Bor}
-use Rattle.std.specs.List.{AllZip}
-use Rattle.hashlink_model.specs.Compare.{elements_eq}
-use Rattle.hashlink_model.specs.Many.{MadeFrom}
-use Rattle.hashlink_model.specs.Sets.{SetState, elements_of, SetInserts}
+use Rattle.std.specs.{Prelude.{◌≡◌, Bool, true, List, [], Result, MatchResult}, Borrow.Bor, List.AllZip}
+use Rattle.hashlink_model.specs.{Compare.elements_eq, Many.MadeFrom, Sets.{SetState, elements_of, SetInserts}}
 
 -- a clone of each element of ts was inserted in order into an empty set, with a hasher for which H holds. So
 -- the set has the elements ts if clones are identical to their sources, and it is equal to ts if they are

@@ -1,9 +1,7 @@
 -- Comparisons of sets, and what sets feed a hasher: only their elements count.
-use Rattle.std.specs.Prelude.{◌≡◌, Bool, true, List}
+use Rattle.std.specs.{Prelude.{◌≡◌, Bool, true, List}, Cmp.Lexicographic.{lists_per, lists_equiv}}
 use Rattle.std.specs.Cmp.{IsEquivalence, IsPartialEquivalence, on_equiv, on_per}
-use Rattle.std.specs.Cmp.Lexicographic.{lists_per, lists_equiv}
-use Rattle.hashlink_model.specs.Compare.{elements_eq, elements_hash_input}
-use Rattle.hashlink_model.specs.Sets.{SetState, elements_of}
+use Rattle.hashlink_model.specs.{Compare.{elements_eq, elements_hash_input}, Sets.{SetState, elements_of}}
 use Rattle.hashlink_model.proofs.Comparisons as compared
 
 module _ {T S : Type 0} where

@@ -1,14 +1,10 @@
 -- What a contract sees of a drain.
-use Rattle.std.specs.Prelude.{◌≡◌, List, Option}
-use Rattle.std.specs.Borrow.{MutBor}
-use Rattle.std.specs.Map.Iter.{TakesFirst, TakesLast}
-use Rattle.hashlink_model.specs.Sets.{SetState, elements_of}
-use Rattle.hashlink_model.specs.Steps.{PopsFront, PopsBack}
+use Rattle.std.specs.{Prelude.{◌≡◌, List, Option}, Borrow.MutBor, Map.Iter.{TakesFirst, TakesLast}}
+use Rattle.hashlink_model.specs.{Sets.{SetState, elements_of}, Steps.{PopsFront, PopsBack}}
 use Rattle.hashlink_core.specs.Drained.{state_with}
 use Rattle.hashlink_map.specs.Bounds.{EqGhosts, HashGhosts, HasherGhosts, BuilderGhosts}
 use Rattle.hashlink_map.specs.declared.as_drained.AsDrained.{Ghosts as DrainedGhosts}
-use Rattle.hashlink_set.specs.Answers.{as_entry}
-use Rattle.hashlink_set.specs.declared.drain.Drain.{Drain}
+use Rattle.hashlink_set.specs.{Answers.as_entry, declared.drain.Drain.Drain}
 
 module _ {T S H : Type 0} {g : EqGhosts T} {h : HashGhosts T} {b : BuilderGhosts S H} {w : HasherGhosts H}
     {D : Type 0} {d : DrainedGhosts D T (Unit {0})} where

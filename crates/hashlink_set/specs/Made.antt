@@ -1,12 +1,8 @@
 -- An element that a closure makes if no equal one is present.
 use Rattle.std.specs.Prelude.{◌≡◌, Bool, false, length, None, Some, MatchOption, Result, MatchResult}
-use Rattle.std.specs.Borrow.{Bor}
-use Rattle.std.specs.Fn.{Once, FnOnceTakesAt, FnOnceReturnsAt}
-use Rattle.std.specs.List.{find}
-use Rattle.std.specs.Option.{UnwrapsOrElse}
+use Rattle.std.specs.{Borrow.Bor, Fn.{Once, FnOnceTakesAt, FnOnceReturnsAt}, List.find, Option.UnwrapsOrElse}
 use Rattle.std.specs.Set.{is_member}
-use Rattle.hashlink_model.specs.MapState.{AddsEntry, RefusesEntry}
-use Rattle.hashlink_model.specs.Sets.{SetState, elements_of}
+use Rattle.hashlink_model.specs.{MapState.{AddsEntry, RefusesEntry}, Sets.{SetState, elements_of}}
 use Rattle.hashlink_model.specs.Steps.{Moves}
 
 module _ {T S : Type 0} (eq : T → T → Bool) where

@@ -5,11 +5,9 @@ use Rattle.std.specs.Borrow.{Fml, RattleType, Bor, MutBor, follows_so}
 use Rattle.std.specs.declared.hash.Hasher as hasher
 use Rattle.std.specs.declared.hash.BuildHasher as builder
 use mathlib.Core.Option.{none}
-use Rattle.hashlink_model.specs.Sets.{SetState, elements_of, SetInserts, GetsOrInserts}
-use Rattle.hashlink_model.specs.Walk.{last_of}
+use Rattle.hashlink_model.specs.{Sets.{SetState, elements_of, SetInserts, GetsOrInserts}, Walk.last_of}
 use Rattle.hashlink_core.specs.KeyedLends.{HashMembers}
-use Rattle.hashlink_set.specs.Made.{GetsOrMakes}
-use Rattle.hashlink_set.specs.contracts.set.LinkedHashSet.{the_row}
+use Rattle.hashlink_set.specs.{Made.GetsOrMakes, contracts.set.LinkedHashSet.the_row}
 
 -- the result, with the lent element itself in place of the reference
 abbrev pub as_seen : {T E : Type 0} → Result (Bor T) E → Result T E

@@ -1,12 +1,9 @@
 -- What a contract sees of the lazy iterators over two sets: what each has not looked at, and what it has yet
 -- to return.
 use Rattle.std.specs.Prelude.{◌≡◌, ℕ, Bool, true, false, not, List, filter, Option, Some, None, option_copied}
-use Rattle.std.specs.Borrow.{Bor}
-use Rattle.std.specs.Map.Iter.{TakesFirst, deref}
-use Rattle.std.specs.Set.{is_member}
+use Rattle.std.specs.{Borrow.Bor, Map.Iter.{TakesFirst, deref}, Set.is_member}
 use Rattle.hashlink_model.specs.Algebra.{PairWalk, first_passing, pair_step, left_to_give}
-use Rattle.hashlink_set.specs.Elements.{elements_in}
-use Rattle.hashlink_set.specs.declared.sifted.Sifted.{Sifted}
+use Rattle.hashlink_set.specs.{Elements.elements_in, declared.sifted.Sifted.Sifted}
 use Rattle.hashlink_set.specs.declared.symmetric_difference.SymmetricDifference.{SymmetricDifference}
 use Rattle.hashlink_set.specs.declared.union.Union.{Union}
 

@@ -1,10 +1,8 @@
 //! Set algebra, by lazy iterators and by tests. No method here allocates. A step of an iterator hashes each
 //! element that it looks up in the other set, once.
-ghost use Rattle.std.specs.Prelude.{◌≡◌};
-ghost use Rattle.std.specs.List.{IsDistinct};
+ghost use Rattle.std.specs.{Prelude.◌≡◌, List.IsDistinct};
 ghost use Rattle.hashlink_model.specs.Algebra.{difference_of, intersection_of, union_of};
-ghost use Rattle.hashlink_model.specs.Algebra.{symmetric_difference_of};
-ghost use Rattle.hashlink_model.specs.Algebra.{is_subset, is_disjoint};
+ghost use Rattle.hashlink_model.specs.Algebra.{symmetric_difference_of, is_subset, is_disjoint};
 ghost use Rattle.hashlink_model.specs.Sets.{elements_of};
 ghost use Rattle.hashlink_core.specs.Keyed.{state_of};
 
@@ -13,8 +11,7 @@ use crate::{Difference, Intersection, SymmetricDifference, Union};
 use std::hash::{BuildHasher, Hash};
 
 impl<T: Eq + Hash, S: BuildHasher> LinkedHashSet<T, S> {
-    ghost use Rattle.hashlink_set.specs.Walks.{difference_rest, intersection_rest, union_rest};
-    ghost use Rattle.hashlink_set.specs.Walks.{union_walk};
+    ghost use Rattle.hashlink_set.specs.Walks.{difference_rest, intersection_rest, union_rest, union_walk};
     ghost use Rattle.hashlink_set.specs.Walks.{symmetric_difference_rest, symmetric_difference_walk};
 
     /// Returns an iterator over the elements that `other` lacks, in their order. It does not allocate. A step

@@ -1,16 +1,12 @@
 //! Sets that are built whole: from the items of an iterator, as a clone, and from clones of the elements that
 //! an iterator over two sets yields.
-ghost use Rattle.std.specs.Prelude.{◌≡◌, List, [], Bool, Some, Ok, IfOk, OnOk, OnErr, map, ⊤};
-ghost use Rattle.std.specs.Borrow.{Bor};
-ghost use Rattle.std.specs.Iterator.{Drains, DrainsIf, IsFinite, IsFiniteIterable};
-ghost use Rattle.std.specs.List.{AllZip};
+ghost use Rattle.std.specs.{Prelude.{◌≡◌, List, [], Bool, Some, Ok, IfOk, OnOk, OnErr, map, ⊤}, Borrow.Bor};
+ghost use Rattle.std.specs.{Iterator.{Drains, DrainsIf, IsFinite, IsFiniteIterable}, List.AllZip};
 ghost use Rattle.std.specs.Map.Iter.{deref};
 ghost use Rattle.hashlink_model.specs.Algebra.{union_of, intersection_of, difference_of};
-ghost use Rattle.hashlink_model.specs.Algebra.{symmetric_difference_of};
-ghost use Rattle.hashlink_model.specs.Many.{MadeFrom};
+ghost use Rattle.hashlink_model.specs.{Algebra.symmetric_difference_of, Many.MadeFrom};
 ghost use Rattle.hashlink_model.specs.Sets.{elements_of, SetInserts};
-ghost use Rattle.hashlink_map.specs.Cloning.{IsMadeOf, StopsMaking};
-ghost use Rattle.hashlink_map.specs.Reading.{ReadsAll, ReadsSome};
+ghost use Rattle.hashlink_map.specs.{Cloning.{IsMadeOf, StopsMaking}, Reading.{ReadsAll, ReadsSome}};
 ghost use Rattle.hashlink_set.specs.Cloned.{GivesClonesOf, IsOfClones};
 
 use crate::set::LinkedHashSet;

@@ -1,6 +1,5 @@
 //! The draining iterator of a set.
-ghost use Rattle.std.specs.Prelude.{◌≡◌, Some, IfSome, length};
-ghost use Rattle.std.specs.Iterator.{at_most, UpTo};
+ghost use Rattle.std.specs.{Prelude.{◌≡◌, Some, IfSome, length}, Iterator.{at_most, UpTo}};
 ghost use Rattle.std.specs.Iterator.SizeHint.{IsWithinCount};
 ghost use Rattle.hashlink_core.specs.Drained.{FitsBack, FitsBack-prop};
 ghost use Rattle.hashlink_model.specs.Steps.{Drains};

@@ -1,9 +1,7 @@
 //! Inserts of many elements, each in turn by `insert`.
-ghost use Rattle.std.specs.Prelude.{[], OnOk, OnErr, IfErr, map};
+ghost use Rattle.std.specs.{Prelude.{[], OnOk, OnErr, IfErr, map}, Map.Iter.deref};
 ghost use Rattle.std.specs.Iterator.{ExtendsWithItems, IsFinite, IsFiniteIterable};
-ghost use Rattle.std.specs.Map.Iter.{deref};
-ghost use Rattle.hashlink_model.specs.Many.{AcceptsAll, StopsAt, StopsAtLast};
-ghost use Rattle.hashlink_model.specs.MapState.{Grows};
+ghost use Rattle.hashlink_model.specs.{Many.{AcceptsAll, StopsAt, StopsAtLast}, MapState.Grows};
 ghost use Rattle.hashlink_model.specs.Sets.{SetInserts};
 ghost use Rattle.hashlink_map.specs.Extending.{TakesItems};
 ghost use Rattle.hashlink_map.specs.Reading.{GivesAll, GivesSome, ReadsAll, ReadsSome};

@@ -1,10 +1,7 @@
 //! The owning iterator of a set.
-ghost use Rattle.std.specs.Prelude.{◌≡◌, ◌^◌, ◌<◌, Some, IfSome, length};
-ghost use Rattle.std.specs.Iterator.{at_most, UpTo};
-ghost use Rattle.std.specs.Iterator.SizeHint.{IsWithinCount};
-ghost use Rattle.std.specs.List.{IsDistinct};
-ghost use Rattle.std.specs.Map.Iter.{TakesFirst, TakesLast, ShowsInOrder, deref};
-ghost use Rattle.std.specs.Map.Iter.{GivesInOrder, GivesInReverse};
+ghost use Rattle.std.specs.Map.Iter.{TakesFirst, TakesLast, ShowsInOrder, deref, GivesInOrder};
+ghost use Rattle.std.specs.{Prelude.{◌≡◌, ◌^◌, ◌<◌, Some, IfSome, length}, Iterator.{at_most, UpTo}};
+ghost use Rattle.std.specs.{Iterator.SizeHint.IsWithinCount, List.IsDistinct, Map.Iter.GivesInReverse};
 ghost use Rattle.hashlink_model.specs.Sets.{elements_of};
 
 use crate::Iter;
@@ -23,8 +20,7 @@ pub struct IntoIter<T> {
 }
 
 impl<T> Model for IntoIter<T> {
-    ghost use Rattle.std.specs.Prelude.{List};
-    ghost use Rattle.std.specs.Map.{keys_of};
+    ghost use Rattle.std.specs.{Prelude.List, Map.keys_of};
 
     ghost Value = { List T };
 

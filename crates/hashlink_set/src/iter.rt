@@ -1,8 +1,6 @@
 //! The iterator over the elements of a set.
-ghost use Rattle.std.specs.Prelude.{◌≡◌, ◌^◌, ◌<◌, Some, IfSome, length, ⊤};
-ghost use Rattle.std.specs.Iterator.{at_most, UpTo};
-ghost use Rattle.std.specs.Iterator.SizeHint.{IsWithinCount};
-ghost use Rattle.std.specs.List.{IsDistinct};
+ghost use Rattle.std.specs.{Prelude.{◌≡◌, ◌^◌, ◌<◌, Some, IfSome, length, ⊤}, Iterator.{at_most, UpTo}};
+ghost use Rattle.std.specs.{Iterator.SizeHint.IsWithinCount, List.IsDistinct};
 ghost use Rattle.std.specs.Map.Iter.{TakesFirst, TakesLast, ShowsInOrder, ShowsInReverse, deref};
 ghost use Rattle.hashlink_set.specs.Elements.{elements_in};
 

@@ -1,6 +1,5 @@
 //! Whether an element is in a set, by the set's map.
-ghost use Rattle.std.specs.Prelude.{◌≡◌};
-ghost use Rattle.std.specs.Set.{is_member};
+ghost use Rattle.std.specs.{Prelude.◌≡◌, Set.is_member};
 ghost use Rattle.hashlink_set.specs.Elements.{elements_in};
 
 use hashlink_map::LinkedHashMap;

@@ -1,10 +1,7 @@
 //! The set. A contract sees the state of a map with values of type `()`: the elements from front to back, and
 //! the numbers of free nodes, of room and of stored links.
-ghost use Rattle.std.specs.Prelude.{◌≡◌, ◌^◌, ◌<◌, ◌↔◌, length, IfOk, IsOk, IsTrue, Err};
-ghost use Rattle.std.specs.List.{IsDistinct};
-ghost use Rattle.hashlink_model.specs.MapState.{empty_map, HasRoom};
-ghost use Rattle.hashlink_model.specs.Steps.{IsMadeWith};
-ghost use Rattle.hashlink_model.specs.Sets.{elements_of};
+ghost use Rattle.std.specs.{Prelude.{◌≡◌, ◌^◌, ◌<◌, ◌↔◌, length, IfOk, IsOk, IsTrue, Err}, List.IsDistinct};
+ghost use Rattle.hashlink_model.specs.{MapState.{empty_map, HasRoom}, Steps.IsMadeWith, Sets.elements_of};
 
 mod inserts;
 mod memory;

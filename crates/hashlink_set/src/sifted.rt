@@ -1,8 +1,6 @@
 //! The iterators over the elements of a set that another set has, and over the elements that it lacks.
-ghost use Rattle.std.specs.Prelude.{◌≡◌, IfSome, length, ⊤};
-ghost use Rattle.std.specs.Iterator.{at_most, UpTo};
+ghost use Rattle.std.specs.{Prelude.{◌≡◌, IfSome, length, ⊤}, Iterator.{at_most, UpTo}, List.IsDistinct};
 ghost use Rattle.std.specs.Iterator.SizeHint.{IsWithinCount};
-ghost use Rattle.std.specs.List.{IsDistinct};
 ghost use Rattle.hashlink_model.specs.Algebra.{part_hint, difference_of, intersection_of};
 ghost use Rattle.hashlink_set.specs.Elements.{elements_in};
 

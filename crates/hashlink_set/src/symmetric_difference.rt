@@ -1,8 +1,6 @@
 //! The iterator over the elements that are in exactly one of two sets.
-ghost use Rattle.std.specs.Prelude.{◌≡◌, IfSome, length, ⊤};
-ghost use Rattle.std.specs.Iterator.{at_most, UpTo};
+ghost use Rattle.std.specs.{Prelude.{◌≡◌, IfSome, length, ⊤}, Iterator.{at_most, UpTo}, List.IsDistinct};
 ghost use Rattle.std.specs.Iterator.SizeHint.{IsWithinCount};
-ghost use Rattle.std.specs.List.{IsDistinct};
 ghost use Rattle.hashlink_model.specs.Algebra.{symmetric_difference_hint, symmetric_difference_of};
 ghost use Rattle.hashlink_set.specs.Elements.{elements_in};
 

@@ -1,12 +1,11 @@
 -- At which buckets chains begin, from the bytes that are stored to what contracts see.
-use Rattle.hashlink_table.proofs.Names.{◌≡◌, ◌≢◌, ℕ, zero, suc, ◌+◌, ◌*◌, ◌<◌, inl, inr, Bool, true, false, cond}
-use Rattle.hashlink_table.proofs.Names.{◌++◌, eqb, not, List, [], ◌∷◌, length, map, get_or, set, replicate}
-use Rattle.hashlink_table.proofs.Names.{refl, sym, ap, ◌∙◌, arith, chunk, cases_eq, eq-eqb, ne_eqb}
-use Rattle.hashlink_table.proofs.Names.{get_or-map, length-map, map-append, map-set, set-get_or}
-use Rattle.hashlink_table.proofs.Names.{mask_l, Cell, END, Rest, next_at, bare_cell, cells_in, AreSlots}
-use Rattle.hashlink_table.proofs.Names.{begins, flag_of, doubled, low_half, high_half}
+use Rattle.hashlink_table.proofs.Names.{◌≡◌, ◌≢◌, ℕ, zero, suc, ◌+◌, ◌*◌, ◌<◌, inl, inr, Bool, true, false}
+use Rattle.hashlink_table.proofs.Names.{cond, ◌++◌, eqb, not, List, [], ◌∷◌, length, map, get_or, set}
+use Rattle.hashlink_table.proofs.Names.{replicate, refl, sym, ap, ◌∙◌, arith, chunk, cases_eq, eq-eqb, ne_eqb}
+use Rattle.hashlink_table.proofs.Names.{get_or-map, length-map, map-append, map-set, set-get_or, mask_l, Cell}
+use Rattle.hashlink_table.proofs.Names.{END, Rest, next_at, bare_cell, cells_in, AreSlots, begins, flag_of}
+use Rattle.hashlink_table.proofs.{Names.{doubled, low_half, high_half}, Storing.{AreCells, map-chunk}}
 use Rattle.std.proofs.lemmas.List.{replicate-append-replicate}
-use Rattle.hashlink_table.proofs.Storing.{AreCells, map-chunk}
 
 -- the bytes of n cells at which no chain begins
 pub flags-bare : (N : Type 0) (n : ℕ) → replicate n 0 ≡ map flag_of (replicate n (bare_cell {N = N}))

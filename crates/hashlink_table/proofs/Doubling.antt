@@ -10,14 +10,10 @@ use Rattle.hashlink_table.proofs.Names.{IsTagged, Row, ◌/◌, ◌⊎◌, [], �
 use Rattle.hashlink_table.proofs.Names.{ltb-true, ltb-false, IsPermutation-refl, IsPermutation-sym}
 use Rattle.hashlink_table.proofs.Names.{IsPermutation-trans, IsPermutation-cons, IsPermutation-middle}
 use Rattle.hashlink_table.proofs.Names.{mod_below, same_Some, next_at, nodes_in, with_node, AreGrouped}
-use Rattle.hashlink_table.proofs.Names.{IsArranged, IsInPlace}
-use Rattle.std.proofs.Math.ListN.{get_or-map}
-use Rattle.std.proofs.lemmas.List.{same_lists}
 use Rattle.hashlink_table.proofs.Storing.{AreCells, cell_at, node_at, node_stays, rest_at, row, stored}
-use Rattle.hashlink_table.proofs.Storing.{tag_at, written}
-use Rattle.hashlink_table.proofs.Moving.{within_kept}
-use Rattle.hashlink_table.proofs.Nodes.{nodes_in-append}
-use Rattle.hashlink_table.proofs.Sound.{filled-none, linked-none}
+use Rattle.hashlink_table.proofs.{Names.{IsArranged, IsInPlace}, Storing.{tag_at, written}}
+use Rattle.hashlink_table.proofs.{Moving.within_kept, Nodes.nodes_in-append, Sound.{filled-none, linked-none}}
+use Rattle.std.proofs.{Math.ListN.get_or-map, lemmas.List.same_lists}
 
 -- twice a power of two is a power of two
 pub twice_power : (n : ℕ) → IsPowerOfTwo n → IsPowerOfTwo (2 * n)

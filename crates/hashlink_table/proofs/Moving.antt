@@ -7,12 +7,10 @@ use Rattle.hashlink_table.proofs.Names.{IsPermutation-middle, IsPermutation-appe
 use Rattle.hashlink_table.proofs.Names.{IsPermutation-append_right, map-set_same, Hashed, Cell, END, kept_at}
 use Rattle.hashlink_table.proofs.Names.{next_at, chain_at, links_of, nodes_in, with_node, stored_in}
 use Rattle.hashlink_table.proofs.Names.{AreGrouped, AreTaken, IsArranged, IsLinked, SameNodes, bare_cell}
-use Rattle.hashlink_table.proofs.Names.{with_next}
-use Rattle.std.proofs.Math.ListN.{get_or-map}
 use Rattle.hashlink_table.proofs.Linking.{kept_at-set, kept_at-set_other, next_at-set_other, within_by_kept}
-use Rattle.hashlink_table.proofs.Linking.{kept-same}
-use Rattle.hashlink_table.proofs.Nodes.{nodes_in-set, nodes_in-same}
+use Rattle.hashlink_table.proofs.{Names.with_next, Linking.kept-same, Nodes.{nodes_in-set, nodes_in-same}}
 use Rattle.hashlink_table.proofs.Walks.{walk_of}
+use Rattle.std.proofs.Math.ListN.{get_or-map}
 
 module _ {N : Type 0} where
   -- a cell with a node is in the list

@@ -3,56 +3,40 @@ pub use Rattle.hashlink_table.specs.Chains.{AreGrouped, AreSizes, AreTaken, IsAr
 pub use Rattle.hashlink_table.specs.Chains.{Ranks, IsFilled, IsInPlace, IsLinked, IsLinkedBut, IsPlaced}
 pub use Rattle.hashlink_table.specs.Chains.{IsSound, IsThreaded, SameNodes, chain_at, chain_of, contents}
 pub use Rattle.hashlink_table.specs.Chains.{kept_at, kept_by, links_of, next_at, nodes_in, stored_in}
-pub use Rattle.hashlink_table.specs.Chains.{with_node}
+pub use Rattle.hashlink_table.specs.Slots.{AreSlots, IsStored, IsTagged, Row, begins, cells_in, doubled}
+pub use Rattle.hashlink_table.specs.Slots.{flag_of, high_half, high_kept, kept_may_be, lanes_of, low_half}
+pub use Rattle.hashlink_table.specs.{Chains.with_node, Stored.{bare_cell, tag_of}}
 pub use Rattle.hashlink_table.specs.Contents.{AreBuckets, CanAsk, Contents, agreeing, len_of}
-pub use Rattle.hashlink_table.specs.Slots.{AreSlots, IsStored, IsTagged, Row, begins, cells_in, doubled, flag_of}
-pub use Rattle.hashlink_table.specs.Slots.{high_half, high_kept, kept_may_be, lanes_of, low_half, low_kept, may_be}
-pub use Rattle.hashlink_table.specs.Slots.{parted, slot, with_kept, with_next, without_kept}
-pub use Rattle.hashlink_table.specs.Stored.{bare_cell, tag_of}
-pub use Rattle.hashlink_table.specs.declared.hashed.Hashed.{Hashed}
-pub use Rattle.hashlink_table.specs.declared.store.cell.Cell.{Cell}
-pub use Rattle.hashlink_table.specs.declared.store.cell.TheConstants.{END}
-pub use Rattle.hashlink_table.specs.declared.store.slots.Rest.{Rest}
-pub use Rattle.hashlink_table.specs.declared.store.spot.Spot.{Spot}
+pub use Rattle.hashlink_table.specs.Slots.{low_kept, may_be, parted, slot, with_kept, with_next, without_kept}
+pub use Rattle.hashlink_table.specs.declared.{hashed.Hashed.Hashed, store.cell.Cell.Cell}
+pub use Rattle.hashlink_table.specs.declared.store.{cell.TheConstants.END, slots.Rest.Rest, spot.Spot.Spot}
 pub use Rattle.hashlink_table.specs.declared.store.spot.Spot.TheVariants.{Overflow, Slot}
 pub use Rattle.std.proofs.Common.{Bool, Global, IsSome, List, None, Option, Some, Vec, [], ap, append_assoc}
 pub use Rattle.std.proofs.Common.{arith, bit_and, cond, count_by, drop, eqb, false, get_or, inl, inr, is_some}
 pub use Rattle.std.proofs.Common.{length, ltb, map, max, not, refl, replicate, rules, set, slice_index_or}
 pub use Rattle.std.proofs.Common.{subst, suc, sym, take, true, vec_capacity, vec_len, w8, zero, ℕ, ◌%◌, ◌*◌}
-pub use Rattle.std.proofs.Common.{◌++◌, ◌+◌, ◌-◌, ◌/◌, ◌<◌, ◌^◌, ◌∙◌, ◌∷◌, ◌≡◌, ◌≢◌, ◌≤◌, ◌⊎◌}
-pub use Rattle.std.proofs.Math.Arith.{mod-mul}
-pub use Rattle.std.proofs.Math.Nat.{mod-mod_of_dvd, pow-succ'}
-pub use Rattle.std.proofs.Math.Seq.{map-set_same}
 pub use Rattle.std.proofs.lemmas.Bool.{cases_eq, cases_lt, eq-eqb, eqb-true, false≢true, le-ltb, lt-ltb}
-pub use Rattle.std.proofs.lemmas.Bool.{ltb-false, ltb-true, ne_eqb, not-false, true≢false}
-pub use Rattle.std.proofs.lemmas.Grind.{common_steps}
 pub use Rattle.std.proofs.lemmas.List.{append-nil, drop-drop, drop-map, get_or-append_right, get_or-drop}
 pub use Rattle.std.proofs.lemmas.List.{get_or-map, get_or-set_other, get_or-set_same, get_or_append_left}
 pub use Rattle.std.proofs.lemmas.List.{get_or_at, get_or_default, get_or_past, get_or_push, get_or_read}
 pub use Rattle.std.proofs.lemmas.List.{length-append, length-drop, length-map, length-replicate, length-set}
 pub use Rattle.std.proofs.lemmas.List.{length-take, length_push, map-append, map-id, map-set, map_push}
 pub use Rattle.std.proofs.lemmas.List.{nil_from_length, set-append_left, set-get_or, set_at, take-append-drop}
-pub use Rattle.std.proofs.lemmas.List.{take-map, take_all, take_more, with_items_is}
 pub use Rattle.std.proofs.lemmas.List.Elements.{All-append, All-get_or, All-head, All-map, All-nil, All-set}
 pub use Rattle.std.proofs.lemmas.List.Elements.{All-tail, Contains-append_cases, Contains-append_left}
-pub use Rattle.std.proofs.lemmas.List.Elements.{Contains-append_right}
 pub use Rattle.std.proofs.lemmas.List.Sorted.{IsPermutation-append_left, IsPermutation-append_right}
 pub use Rattle.std.proofs.lemmas.List.Sorted.{IsPermutation-cons, IsPermutation-middle, IsPermutation-refl}
 pub use Rattle.std.proofs.lemmas.List.Sorted.{IsPermutation-sym, IsPermutation-to_front, IsPermutation-trans}
-pub use Rattle.std.proofs.lemmas.List.Sorted.{length_permutation}
-pub use Rattle.std.proofs.lemmas.List.Sums.{count_by-le-length, sum_by-append, sum_by-cons, sum_by-set}
-pub use Rattle.std.proofs.lemmas.Nat.{and_mask, mod_below, pow-add, pow_pos}
-pub use Rattle.std.proofs.lemmas.Nat.Gcd.{dvd_of_mod-eq-zero}
-pub use Rattle.std.proofs.lemmas.Option.{same_Some}
 pub use Rattle.std.proofs.lemmas.Simd.{bitmask_splat, chunk-drop, get_or-chunk, length-chunk, map-map}
+pub use Rattle.std.proofs.Common.{◌++◌, ◌+◌, ◌-◌, ◌/◌, ◌<◌, ◌^◌, ◌∙◌, ◌∷◌, ◌≡◌, ◌≢◌, ◌≤◌, ◌⊎◌}
+pub use Rattle.std.proofs.Math.{Arith.mod-mul, Nat.{mod-mod_of_dvd, pow-succ'}, Seq.map-set_same}
+pub use Rattle.std.proofs.lemmas.{Bool.{ltb-false, ltb-true, ne_eqb, not-false, true≢false}, Option.same_Some}
+pub use Rattle.std.proofs.lemmas.{Grind.common_steps, List.{take-map, take_all, take_more, with_items_is}}
+pub use Rattle.std.proofs.lemmas.List.{Elements.Contains-append_right, Sorted.length_permutation}
+pub use Rattle.std.proofs.lemmas.List.Sums.{count_by-le-length, sum_by-append, sum_by-cons, sum_by-set}
+pub use Rattle.std.proofs.lemmas.{Nat.{and_mask, mod_below, pow-add, pow_pos}, Nat.Gcd.dvd_of_mod-eq-zero}
 pub use Rattle.std.proofs.lemmas.Simd.{none_from_empty_mask, splat_is_map, trailing_mask_l}
-pub use Rattle.std.specs.Int.{IsPowerOfTwo}
-pub use Rattle.std.specs.List.{All, prefix_len}
+pub use Rattle.std.specs.{Int.IsPowerOfTwo, List.{All, prefix_len}, Simd.Lanes.chunk, Vec.with_items}
 pub use Rattle.std.specs.Prelude.{Contains, IfSome, IsPermutation, is_none}
-pub use Rattle.std.specs.Simd.Lanes.{chunk}
-pub use Rattle.std.specs.Vec.{with_items}
-pub use lib.Bits.{and_high}
-pub use lib.Count.{count_trailing_zeros}
-pub use lib.Lanes.{mask_l}
-pub use lib.Pow.{mod-pow-add, shr-shr}
+pub use lib.{Bits.and_high, Count.count_trailing_zeros, Lanes.mask_l, Pow.{mod-pow-add, shr-shr}}
 pub use native.Mathlib.Numerals.{one-add}

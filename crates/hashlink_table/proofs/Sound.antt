@@ -5,12 +5,10 @@ use Rattle.hashlink_table.proofs.Names.{get_or, replicate, Option, Some, None, i
 use Rattle.hashlink_table.proofs.Names.{arith, IsPermutation, cases_eq, cases_lt, length-append}
 use Rattle.hashlink_table.proofs.Names.{length-replicate, length_permutation, Hashed, Cell, END, kept_at}
 use Rattle.hashlink_table.proofs.Names.{next_at, chain_of, nodes_in, links_of, contents, AreSizes, IsArranged}
-use Rattle.hashlink_table.proofs.Names.{IsFilled, IsLinked, IsSound, bare_cell, Contents}
 use Rattle.hashlink_table.proofs.Linking.{chain_at_within, within_by_kept, bucket_start, free_start}
-use Rattle.hashlink_table.proofs.Linking.{length-starts}
+use Rattle.hashlink_table.proofs.{Names.{IsFilled, IsLinked, IsSound, bare_cell, Contents}, Threads.begun}
+use Rattle.hashlink_table.proofs.{Linking.length-starts, Walks.bucket_begun}
 use Rattle.hashlink_table.proofs.Nodes.{nodes_in-full, nodes_in-bare, nodes_in-more_at, nodes_in-part}
-use Rattle.hashlink_table.proofs.Walks.{bucket_begun}
-use Rattle.hashlink_table.proofs.Threads.{begun}
 
 -- the node of a cell that has one
 of_kept : {N : Type 0} (o : Option (Hashed N)) → is_some o ≡ true → (k : Hashed N) × (o ≡ Some k)

@@ -7,8 +7,7 @@ use Rattle.hashlink_table.proofs.Names.{map-set, set-get_or, take-map, drop-map,
 use Rattle.hashlink_table.proofs.Names.{All-head, All-map, All-set, All-tail, map-map, splat_is_map, Hashed}
 use Rattle.hashlink_table.proofs.Names.{Cell, END, Rest, kept_at, next_at, bare_cell, tag_of, slot, cells_in}
 use Rattle.hashlink_table.proofs.Names.{may_be, with_kept, with_next, without_kept, IsStored, IsTagged, Row}
-use Rattle.std.specs.Prelude.{IsSome}
-use Rattle.std.specs.Simd.Lanes.{mask_l}
+use Rattle.std.specs.{Prelude.IsSome, Simd.Lanes.mask_l}
 
 -- what a bare slot stores besides its node
 abbrev pub bare : Rest

@@ -9,8 +9,7 @@ use Rattle.hashlink_table.proofs.Names.{sum_by-append, chunk-drop, get_or-chunk,
 use Rattle.hashlink_table.proofs.Names.{Spot, Slot, Overflow, Contents, agreeing, AreBuckets, CanAsk, kept_at}
 use Rattle.hashlink_table.proofs.Names.{kept_by, chain_of, with_node, nodes_in, contents, AreGrouped}
 use Rattle.hashlink_table.proofs.Names.{IsInPlace, IsSound, kept_may_be, lanes_of, may_be, bare_cell, tag_of}
-use Rattle.hashlink_table.proofs.Groups.{group_within, grouped_in}
-use Rattle.hashlink_table.proofs.Linking.{positive_by_power}
+use Rattle.hashlink_table.proofs.{Groups.{group_within, grouped_in}, Linking.positive_by_power}
 use Rattle.hashlink_table.proofs.Nodes.{contains-at, at-contains}
 
 -- the number of elements that pass, with one more element

@@ -4,10 +4,9 @@ use Rattle.hashlink_table.proofs.Names.{inr, Bool, true, false, List, length, ge
 use Rattle.hashlink_table.proofs.Names.{sym, ap, ◌∙◌, subst, arith, cases_eq, cases_lt, true≢false, eq-eqb}
 use Rattle.hashlink_table.proofs.Names.{ne_eqb, get_or-set_other, get_or_past, get_or_read, sum_by-set}
 use Rattle.hashlink_table.proofs.Names.{count_by-le-length, Cell, END, kept_at, next_at, chain_of, chain_at}
-use Rattle.hashlink_table.proofs.Names.{IsChain, IsLink, IsLinked, bare_cell, [], ◌∷◌, ◌++◌, links_of}
 use Rattle.hashlink_table.proofs.Linking.{on_within, on_some, bucket_start, length-starts, within_by_chain}
-use Rattle.hashlink_table.proofs.Linking.{chain_at_within}
-use Rattle.hashlink_table.proofs.Threads.{lower, passed}
+use Rattle.hashlink_table.proofs.Names.{IsChain, IsLink, IsLinked, bare_cell, [], ◌∷◌, ◌++◌, links_of}
+use Rattle.hashlink_table.proofs.{Linking.chain_at_within, Threads.{lower, passed}}
 
 -- the number of links from a cell to the end, or `most` if there are more
 abbrev pub steps_left : (ℕ → ℕ) → ℕ → ℕ → ℕ

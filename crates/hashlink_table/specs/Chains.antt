@@ -2,12 +2,8 @@
 use Rattle.std.specs.Prelude.{◌≡◌, ◌≢◌, ℕ, suc, ◌+◌, ◌-◌, ◌*◌, ◌/◌, ◌%◌, ◌^◌, ◌<◌, ◌≤◌, ◌⊎◌, List, [], ◌∷◌}
 use Rattle.std.specs.Prelude.{◌++◌, map, length, max, Option, Some, None, IsSome, slice_index_or, slice_set}
 use Rattle.std.specs.Int.{IsPowerOfTwo}
-use Rattle.hashlink_table.specs.Contents.{Contents}
-use Rattle.hashlink_table.specs.Stored.{bare_cell}
-use Rattle.hashlink_table.specs.declared.hashed.Hashed.{Hashed}
-use Rattle.hashlink_table.specs.declared.store.cell.Cell.{Cell}
-use Rattle.hashlink_table.specs.declared.store.cell.TheConstants.{END}
-use Rattle.hashlink_table.specs.declared.store.spot.Spot.{Spot}
+use Rattle.hashlink_table.specs.{Contents.Contents, Stored.bare_cell, declared.hashed.Hashed.Hashed}
+use Rattle.hashlink_table.specs.declared.store.{cell.Cell.Cell, cell.TheConstants.END, spot.Spot.Spot}
 use Rattle.hashlink_table.specs.declared.store.spot.Spot.TheVariants.{Slot, Overflow}
 
 module _ {N : Type 0} where

@@ -1,7 +1,6 @@
 -- A `Table`, as contracts see it.
 use Rattle.std.specs.Prelude.{◌≡◌, ℕ, ◌%◌, ◌≤◌, ◌==◌, List, length, count_by, Contains, refl}
-use Rattle.std.specs.Int.{IsPowerOfTwo}
-use Rattle.std.specs.Coded.{Coded, code_by, coded×, coded_ℕ, coded_list}
+use Rattle.std.specs.{Int.IsPowerOfTwo, Coded.{Coded, code_by, coded×, coded_ℕ, coded_list}}
 use Rattle.hashlink_table.specs.declared.hashed.Hashed.{Hashed}
 
 -- the nodes with their hashes, in an order without meaning, and how many nodes fit without an allocation

@@ -1,13 +1,9 @@
 -- The slots, as they are stored and as contracts see them.
-use Rattle.std.specs.Prelude.{◌≡◌, ℕ, ◌+◌, ◌*◌, ◌%◌, ◌≤◌, ◌==◌, ◌⊎◌, Bool, false, cond, ltb, not, List}
-use Rattle.std.specs.Prelude.{◌++◌, slice_index_or, slice_set, length, map, Option, None, Some}
-use Rattle.std.specs.List.{zip, All}
+use Rattle.std.specs.Prelude.{◌≡◌, ℕ, ◌+◌, ◌*◌, ◌%◌, ◌≤◌, ◌==◌, ◌⊎◌, Bool, false, cond, ltb, not, List, ◌++◌}
+use Rattle.std.specs.{Prelude.{slice_index_or, slice_set, length, map, Option, None, Some}, List.{zip, All}}
 use Rattle.std.specs.Simd.Lanes.{chunk}
-use Rattle.hashlink_table.specs.declared.hashed.Hashed.{Hashed}
-use Rattle.hashlink_table.specs.declared.store.cell.Cell.{Cell}
-use Rattle.hashlink_table.specs.declared.store.cell.TheConstants.{END}
-use Rattle.hashlink_table.specs.declared.store.slots.Rest.{Rest}
-use Rattle.hashlink_table.specs.Stored.{bare_cell, tag_of}
+use Rattle.hashlink_table.specs.declared.{hashed.Hashed.Hashed, store.cell.Cell.Cell, store.slots.Rest.Rest}
+use Rattle.hashlink_table.specs.{declared.store.cell.TheConstants.END, Stored.{bare_cell, tag_of}}
 
 -- what is stored for a slot
 pub record Row (N : Type 0) : Type 0 where

@@ -1,7 +1,6 @@
 -- The cells that a table stores.
 use Rattle.std.specs.Prelude.{ℕ, ◌+◌, ◌*◌, ◌/◌, ◌%◌, ◌^◌, cond, None, Some, ltb, max}
-use Rattle.hashlink_table.specs.declared.store.cell.Cell.{Cell}
-use Rattle.hashlink_table.specs.declared.store.cell.TheConstants.{END}
+use Rattle.hashlink_table.specs.declared.store.cell.{Cell.Cell, TheConstants.END}
 
 -- a stored cell as contracts see it: what a free cell stores as its node is no node of the table
 abbrev pub cell_of : {N : Type 0} → N → ℕ → ℕ → Cell N

@@ -1,12 +1,9 @@
 //! Searches. They read a node only by `look`, which counts it.
-ghost use Rattle.std.specs.Prelude.{◌≡◌, ℕ, ◌+◌, ◌%◌, ◌<◌, ◌≤◌, ◌==◌, ◌++◌};
-ghost use Rattle.std.specs.Prelude.{Contains, IfNone, IfSome, Some, count_by, false, length, true};
-ghost use Rattle.std.specs.Int.{IsPowerOfTwo};
-ghost use Rattle.hashlink_table.specs.declared.hashed.Hashed.{Hashed};
-ghost use Rattle.hashlink_table.specs.Stored.{tag_of};
+ghost use Rattle.std.specs.Prelude.{◌≡◌, ℕ, ◌+◌, ◌%◌, ◌<◌, ◌≤◌, ◌==◌, ◌++◌, Contains, IfNone, IfSome, Some};
+ghost use Rattle.std.specs.{Prelude.{count_by, false, length, true}, Int.IsPowerOfTwo};
+ghost use Rattle.hashlink_table.specs.{declared.hashed.Hashed.Hashed, Stored.tag_of};
 ghost use Rattle.hashlink_table.specs.Slots.{lanes_of, may_be};
-ghost use Rattle.hashlink_table.specs.Chains.{chain_of, kept_at, kept_by, nodes_in};
-ghost use Rattle.hashlink_table.specs.Chains.{IsArranged, IsLinked};
+ghost use Rattle.hashlink_table.specs.Chains.{chain_of, kept_at, kept_by, nodes_in, IsArranged, IsLinked};
 
 use super::steps::Steps;
 use super::store::bucket::{base_of, bucket_of};

@@ -1,21 +1,15 @@
 -- The possible answers to a text, worked out line by line from the entries before each line.
 use Rattle.std.proofs.Common.{◌≡◌, ℕ, ◌++◌, ◌⊎◌, List, [], ◌∷◌, Option, None, Some, Result, Ok, Err, codes}
-use Rattle.std.proofs.Common.{decimal, nat_eq, refl, sym, ap, ap₂, ◌∙◌, subst, inl, inr}
-use Rattle.std.specs.Fmt.{digits}
-use Rattle.std.specs.Map.{lookup_entry}
-use Rattle.std.specs.Result.{IsOk}
-use Rattle.std.specs.declared.alloc.AllocError.{AllocError}
+use Rattle.std.{proofs.Common.{decimal, nat_eq, refl, sym, ap, ap₂, ◌∙◌, subst, inl, inr}, specs.Fmt.digits}
+use Rattle.std.specs.{Map.lookup_entry, Result.IsOk, declared.alloc.AllocError.AllocError}
 use Rattle.hashlink_model.specs.MapState.{MapState, map_state, empty_map, Inserts}
 use Rattle.hashlink_core.specs.declared.hash_builder.DefaultHashBuilder.{DefaultHashBuilder}
-use Rattle.hashlink_run.specs.declared.replies.Reply.{Reply}
+use Rattle.hashlink_run.specs.{declared.replies.Reply.Reply, Reads.{SaysOf, Replies}}
 use Rattle.hashlink_run.specs.declared.replies.Reply.TheVariants.{Done, Seen, Pair, Value, Length}
-use Rattle.hashlink_run.specs.Reads.{SaysOf, Replies}
 use Rattle.hashlink_run.specs.CallReplies.{insert_reply, shrink_reply}
-use Rattle.hashlink_text.specs.Text.{IsTranscript, LinesRun}
 use Rattle.hashlink_text.specs.Transcript.{Shows, LineShows, ShowsAll, Itself, ended, shown_by, list_shown}
-use Rattle.hashlink_text.specs.Transcript.{reply_shown, replies_shown}
-use Rattle.hashlink_text.specs.declared.shown.Form.{Form}
-use Rattle.hashlink_text.specs.declared.shown.Form.TheVariants.{OfValue, Whole}
+use Rattle.hashlink_text.specs.{Text.{IsTranscript, LinesRun}, Transcript.{reply_shown, replies_shown}}
+use Rattle.hashlink_text.specs.declared.shown.{Form.Form, Form.TheVariants.{OfValue, Whole}}
 use Rattle.hashlink_text.proofs.ReadSo.{read_of, runs_read, shows_read}
 
 abbrev Pairs : Type 0

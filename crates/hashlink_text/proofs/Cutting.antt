@@ -1,15 +1,11 @@
 -- The part that is read from the front of a text is its first part, such as a word or a line.
 use Rattle.std.proofs.Common.{◌≡◌, ℕ, ◌+◌, ◌<◌, Bool, true, false, nat_eq, nat_lt, List, [], ◌∷◌, length}
 use Rattle.std.proofs.Common.{take, drop, Option, None, Some, unwrap_or, refl, sym, ap, ◌∙◌, ⊎_elim, arith}
-use Rattle.std.proofs.Common.{Bor}
-use Rattle.std.specs.List.{slice_split, position, position_or_len, join_with_byte}
-use Rattle.std.proofs.lemmas.Bool.{cases_Bool, ltb-true, ltb-false}
-use Rattle.std.proofs.lemmas.Option.{cond_some}
 use Rattle.std.proofs.lemmas.List.Splits.{slice_split_none, slice_split_first, length-slice_split}
-use Rattle.std.proofs.lemmas.List.Splits.{join_with_byte-slice_split}
-use Rattle.std.proofs.lemmas.List.Sums.{fails_before_first}
-use Rattle.hashlink_text.specs.Lines.{parts_of, without_empty_end, lines_of}
-use Rattle.hashlink_text.specs.Cuts.{parts_left}
+use Rattle.std.{proofs.Common.Bor, specs.List.{slice_split, position, position_or_len, join_with_byte}}
+use Rattle.std.proofs.lemmas.{Bool.{cases_Bool, ltb-true, ltb-false}, Option.cond_some}
+use Rattle.std.proofs.lemmas.List.{Splits.join_with_byte-slice_split, Sums.fails_before_first}
+use Rattle.hashlink_text.specs.{Lines.{parts_of, without_empty_end, lines_of}, Cuts.parts_left}
 
 module _ {X : Type 0} (p : X → Bool) where
   pub slice_split-position_none : (xs : List X) → position p xs ≡ None → slice_split p xs ≡ xs ∷ []

@@ -1,15 +1,10 @@
 -- The value of digits that are read from the front.
 use Rattle.std.proofs.Common.{◌≡◌, ℕ, ◌+◌, ◌-◌, ◌*◌, ◌^◌, ◌<◌, ◌≤◌, true, false, List, length, take, get_or}
-use Rattle.std.proofs.Common.{None, Some, refl, ⊎_elim, arith, lit<, lit≤}
-use Rattle.std.specs.Int.{IsInRange}
-use Rattle.std.specs.Str.{all_ascii_digits}
-use Rattle.std.specs.Str.Parse.{digits_value, AllDigits}
-use Rattle.std.proofs.lemmas.Bool.{cases_Bool, cases_lt, le-ltb, lt-ltb}
-use Rattle.std.proofs.lemmas.Int.Digits.{digits_more, digits_value_more}
 use Rattle.std.proofs.lemmas.Str.Parse.{digit_at, IsNumeralModel, numerals_by_value, tells_all_ascii_digits}
-use Rattle.std.proofs.lemmas.Str.Parse.{digits_value-take-le}
-use Rattle.std.proofs.lemmas.Str.{digit_value_digit}
-use Rattle.std.proofs.lemmas.List.{take_all}
+use Rattle.std.proofs.{Common.{None, Some, refl, ⊎_elim, arith, lit<, lit≤}, lemmas.Str.digit_value_digit}
+use Rattle.std.specs.{Int.IsInRange, Str.all_ascii_digits, Str.Parse.{digits_value, AllDigits}}
+use Rattle.std.proofs.lemmas.{Bool.{cases_Bool, cases_lt, le-ltb, lt-ltb}, Str.Parse.digits_value-take-le}
+use Rattle.std.proofs.lemmas.{Int.Digits.{digits_more, digits_value_more}, List.take_all}
 use Rattle.hashlink_text.specs.Lines.{value_of}
 
 -- the first n bytes are digits, and this is their value

@@ -3,24 +3,17 @@
 use Rattle.std.proofs.Common.{◌≡◌, ℕ, ◌^◌, ◌<◌, ◌⊎◌, Bool, true, false, ◌&&◌, cond, not, nat_eq, nat_lt, List}
 use Rattle.std.proofs.Common.{[], ◌∷◌, length, get_or, zero, suc, Option, None, Some, option_and_then, map}
 use Rattle.std.proofs.Common.{decimal, refl, sym, ap, ap₂, ◌∙◌, subst, inl, inr, ⊎_elim, arith, lit<, is_none}
-use Rattle.std.specs.Map.{lookup}
-use Rattle.std.specs.Option.{option_map, option_map_or}
-use Rattle.std.specs.List.{All, AllByRecursion, join_with_byte, list_all}
-use Rattle.std.specs.Str.{all_ascii_digits, bytes_eq}
-use Rattle.std.specs.Str.Parse.{AllDigits, digits_value}
-use Rattle.std.proofs.lemmas.Bool.{and_parts, not-true, ne_eqb, lt-ltb, ltb-true}
-use Rattle.std.proofs.lemmas.Option.{cond_some, same_Some, none-some}
-use Rattle.std.proofs.lemmas.List.Elements.{All-nil, All-cons}
-use Rattle.std.proofs.lemmas.List.Sums.{AllPass-from_list_all}
+use Rattle.std.specs.{Map.lookup, Option.{option_map, option_map_or}, Str.Parse.{AllDigits, digits_value}}
+use Rattle.std.specs.{List.{All, AllByRecursion, join_with_byte, list_all}, Str.{all_ascii_digits, bytes_eq}}
+use Rattle.std.proofs.lemmas.{Bool.{and_parts, not-true, ne_eqb, lt-ltb, ltb-true}, Slice.Eq.bytes_eq-Decides}
+use Rattle.std.proofs.lemmas.{Option.{cond_some, same_Some, none-some}, List.Elements.{All-nil, All-cons}}
+use Rattle.std.proofs.lemmas.{List.Sums.AllPass-from_list_all, Str.Parse.digit_from_value}
 use Rattle.std.proofs.lemmas.List.Splits.{slice_split_none, slice_split_at, join_with_byte-slice_split}
-use Rattle.std.proofs.lemmas.Slice.Eq.{bytes_eq-Decides}
-use Rattle.std.proofs.lemmas.Str.Parse.{digit_from_value}
 use Rattle.std.proofs.lemmas.Fmt.{decimal_is_IsNumeral, decimal_digit, first_decimal, decimal-digits_value}
 use Rattle.hashlink_text.specs.Lines.{words_of, begins_as_number, value_of, number_of}
 use Rattle.hashlink_text.specs.Reading.{first_name, by_name, read_in, read_words}
 use Rattle.hashlink_text.specs.Spelling.{Word, Name, Number, word_shown, FitsWord, Spells, Says}
-use Rattle.hashlink_text.specs.Tables.{Token, tokens, numbers_of}
-use Rattle.hashlink_text.proofs.Digits.{digits_model}
+use Rattle.hashlink_text.{specs.Tables.{Token, tokens, numbers_of}, proofs.Digits.digits_model}
 
 -- ---- the results of a choice, of a step that may fail, and of a map
 

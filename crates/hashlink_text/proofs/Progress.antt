@@ -1,7 +1,6 @@
 -- A run over lines that has answered some of them.
 use Rattle.std.proofs.Common.{◌≡◌, ℕ, List, [], ◌∷◌, ◌++◌, refl, sym, ap, ◌∙◌, append_assoc, append-nil}
-use Rattle.std.proofs.Common.{subst}
-use Rattle.std.specs.declared.string.String.{String}
+use Rattle.std.{proofs.Common.subst, specs.declared.string.String.String}
 use Rattle.hashlink_text.specs.Transcript.{Pushes, ShowsAll, ended}
 
 module _ {M : Type 0} (ShowsLine : M → List ℕ → List ℕ → M → Type 0) where

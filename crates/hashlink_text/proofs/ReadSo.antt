@@ -1,15 +1,10 @@
 -- The answer to what is read from a line is the answer to the line.
 use Rattle.std.proofs.Common.{ℕ, List, ◌∷◌, Option, subst}
 use Rattle.hashlink_model.specs.MapState.{MapState}
-use Rattle.hashlink_text.specs.Lines.{words_of}
-use Rattle.hashlink_text.specs.Reading.{line_read, read_words}
-use Rattle.hashlink_text.specs.Spelling.{modes, mode_spelled, Said}
-use Rattle.hashlink_text.specs.Tables.{tokens}
-use Rattle.hashlink_text.specs.Text.{LinesRun, ModeRun}
-use Rattle.hashlink_text.specs.Transcript.{LineShows, Shows}
-use Rattle.hashlink_text.specs.declared.modes.Mode.{Mode}
-use Rattle.hashlink_text.proofs.Grammar.{said_is, says_read}
-use Rattle.hashlink_text.proofs.Readers.{reads_line, reads_mode}
+use Rattle.hashlink_text.specs.{Lines.words_of, Reading.{line_read, read_words}, Tables.tokens}
+use Rattle.hashlink_text.specs.{Spelling.{modes, mode_spelled, Said}, Text.{LinesRun, ModeRun}}
+use Rattle.hashlink_text.specs.{Transcript.{LineShows, Shows}, declared.modes.Mode.Mode}
+use Rattle.hashlink_text.proofs.{Grammar.{said_is, says_read}, Readers.{reads_line, reads_mode}}
 
 -- what is read from a line, and from the first line
 abbrev pub read_of : List ℕ → Option Said

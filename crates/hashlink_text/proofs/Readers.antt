@@ -1,28 +1,21 @@
 -- What is read from a line is what it means: for lines to caches, first lines, and lines to a map.
 use Rattle.std.proofs.Common.{◌≡◌, ℕ, zero, suc, true, false, nat_le, List, [], ◌∷◌, ◌++◌, take, drop, map}
 use Rattle.std.proofs.Common.{Option, Some, option_and_then, refl, codes, sym, ap, ap₂, ◌∙◌, ⊎_elim, cond}
-use Rattle.std.specs.Option.{option_map, option_map_or}
-use Rattle.std.specs.List.{flat_map}
-use Rattle.std.specs.Str.{bytes_eq}
-use Rattle.std.proofs.lemmas.Bool.{cases_Bool}
-use Rattle.std.proofs.lemmas.List.{map-append, take-append-drop, take-map}
-use Rattle.std.proofs.lemmas.Option.{same_Some}
-use Rattle.std.proofs.lemmas.Slice.Eq.{bytes_eq-Decides}
+use Rattle.std.specs.{Option.{option_map, option_map_or}, List.flat_map, Str.bytes_eq}
+use Rattle.std.proofs.lemmas.{Bool.cases_Bool, List.{map-append, take-append-drop, take-map}}
+use Rattle.std.proofs.lemmas.{Option.same_Some, Slice.Eq.bytes_eq-Decides}
 use Rattle.hashlink_run.specs.declared.cache_commands.CacheCommand.TheVariants as cache
 use Rattle.hashlink_run.specs.declared.cache_commands.PairCommand.TheVariants as pair
 use Rattle.hashlink_run.specs.declared.cache_commands.WeightedCommand.TheVariants as weighted
-use Rattle.hashlink_run.specs.declared.commands.Command.TheVariants.{Entry}
-use Rattle.hashlink_run.specs.declared.commands.CursorStep.{CursorStep}
+use Rattle.hashlink_run.specs.declared.commands.{Command.TheVariants.Entry, CursorStep.CursorStep}
 use Rattle.hashlink_run.specs.declared.commands.CursorStep.TheVariants.{Next}
 use Rattle.hashlink_run.specs.declared.commands.EntryStep.TheVariants as step
-use Rattle.hashlink_text.specs.Lines.{number_of}
 use Rattle.hashlink_text.specs.Reading.{cursor_read, cursor_step_spelled, entry_read, line_read}
-use Rattle.hashlink_text.specs.Reading.{numbers_after, read_in, read_words, some_steps, steps_after}
 use Rattle.hashlink_text.specs.Spelling.{cache_lines, pair_commands, weighted_lines, modes, cache_spelled}
 use Rattle.hashlink_text.specs.Spelling.{pair_spelled, weighted_spelled, mode_spelled, commands, cursor_steps}
 use Rattle.hashlink_text.specs.Spelling.{entry_steps, Name, Number, Said, Do, Cursor, spelled, step_spelled}
-use Rattle.hashlink_text.specs.Spelling.{cursor_step_words}
-use Rattle.hashlink_text.specs.Tables.{Token, tokens}
+use Rattle.hashlink_text.specs.{Lines.number_of, Spelling.cursor_step_words, Tables.{Token, tokens}}
+use Rattle.hashlink_text.specs.Reading.{numbers_after, read_in, read_words, some_steps, steps_after}
 use Rattle.hashlink_text.specs.declared.cache_line.CacheLine.TheVariants as cache_line
 use Rattle.hashlink_text.specs.declared.modes.Mode.TheVariants as mode
 use Rattle.hashlink_text.specs.declared.weighted_line.WeightedLine.TheVariants as weighted_line

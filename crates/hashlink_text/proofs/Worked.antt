@@ -1,14 +1,11 @@
 -- Worked texts, in which no insert is refused.
 use Rattle.std.proofs.Common.{ℕ, ◌+◌, ◌≤◌, ◌++◌, List, [], ◌∷◌, length, None, Some, Ok, codes, refl}
-use Rattle.std.proofs.Common.{length-append, arith, lit≤}
-use Rattle.std.specs.Fmt.{digits}
-use Rattle.std.specs.Int.{IsPowerOfTwo}
+use Rattle.std.{proofs.Common.{length-append, arith, lit≤}, specs.Fmt.digits, specs.Int.IsPowerOfTwo}
 use Rattle.hashlink_model.specs.MapState.{MapState, map_state, empty_map, Adds, Changes}
 use Rattle.hashlink_core.specs.declared.hash_builder.DefaultHashBuilder.{DefaultHashBuilder}
 use Rattle.hashlink_core.specs.Hashing.{default_builder}
 use Rattle.hashlink_run.specs.declared.replies.Reply.TheVariants.{Value, Pair, Seen}
-use Rattle.hashlink_text.specs.Text.{IsTranscript, LinesRun}
-use Rattle.hashlink_text.specs.Transcript.{LineShows, Shows, ShowsAll, ended}
+use Rattle.hashlink_text.specs.{Text.{IsTranscript, LinesRun}, Transcript.{LineShows, Shows, ShowsAll, ended}}
 use Rattle.hashlink_text.proofs.ReadSo.{read_of, runs_mode, shows_line}
 
 abbrev State : Type 0

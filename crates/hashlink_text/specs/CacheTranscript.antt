@@ -3,14 +3,11 @@ use Rattle.std.specs.Prelude.{◌≡◌, ℕ, List, ◌∷◌, ◌++◌, length,
 use Rattle.hashlink_model.specs.Cache.{CacheState}
 use Rattle.hashlink_history.specs.CacheRuns.{answer_to, after_event}
 use Rattle.hashlink_text.specs.Spelling.{Says, cache_spelled, pair_spelled}
-use Rattle.hashlink_run.specs.declared.cache_commands.PairCommand.{PairCommand}
-use Rattle.hashlink_text.specs.declared.cache_line.CacheLine.{CacheLine}
+use Rattle.hashlink_text.specs.declared.{cache_line.CacheLine.CacheLine, shown.Form.TheVariants.OfValue}
 use Rattle.hashlink_text.specs.declared.cache_line.CacheLine.TheVariants.{Do, Len, Iter}
-use Rattle.hashlink_run.specs.declared.replies.Reply.{Reply}
-use Rattle.hashlink_run.specs.CacheCalls.{event_of}
-use Rattle.hashlink_run.specs.CacheStep.{CacheStep}
-use Rattle.hashlink_text.specs.declared.shown.Form.TheVariants.{OfValue}
 use Rattle.hashlink_text.specs.Transcript.{Itself, ShowsAll, ended, shown_by, list_shown, replies_shown}
+use Rattle.hashlink_run.specs.declared.{cache_commands.PairCommand.PairCommand, replies.Reply.Reply}
+use Rattle.hashlink_run.specs.{CacheCalls.event_of, CacheStep.CacheStep}
 
 module _ {S : Type 0} where
   -- starting at old, this text may answer a line with this meaning, and the cache reaches new; a bad line

@@ -1,6 +1,5 @@
 -- The values behind references: the parts of a text that is read from its front, and a table of words.
-use Rattle.std.specs.Prelude.{ℕ, List, [], Option, None, Some, map}
-use Rattle.std.specs.Borrow.{Bor}
+use Rattle.std.specs.{Prelude.{ℕ, List, [], Option, None, Some, map}, Borrow.Bor}
 use Rattle.hashlink_text.specs.Lines.{parts_of}
 
 -- the parts that are left; none after the last

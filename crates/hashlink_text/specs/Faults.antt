@@ -1,7 +1,6 @@
 -- The message of a fault.
 use Rattle.std.specs.Prelude.{ℕ, List, codes}
-use Rattle.hashlink_text.specs.declared.faults.Fault.{Fault}
-use Rattle.hashlink_text.specs.declared.faults.Fault.TheVariants.{Reading, Memory, Writing}
+use Rattle.hashlink_text.specs.declared.faults.{Fault.Fault, Fault.TheVariants.{Reading, Memory, Writing}}
 
 abbrev pub fault_shown : Fault → List ℕ
 fault_shown Reading = codes "linkrun: reading failed"

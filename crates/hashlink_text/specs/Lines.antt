@@ -1,8 +1,6 @@
 -- The parts of a text: lines, the words of a line, and numbers.
 use Rattle.std.specs.Prelude.{ℕ, ◌^◌, Bool, true, false, ◌&&◌, not, List, [], ◌∷◌, Option, None, Some, nat_lt}
-use Rattle.std.specs.Prelude.{◌==◌, if◌then◌else◌}
-use Rattle.std.specs.List.{slice_split}
-use Rattle.std.specs.Str.{all_ascii_digits}
+use Rattle.std.specs.{Prelude.{◌==◌, if◌then◌else◌}, List.slice_split, Str.all_ascii_digits}
 use Rattle.std.specs.Str.Parse.{digits_value}
 
 -- the parts that a byte separates

@@ -1,12 +1,9 @@
 -- How a line is read: its first word chooses among all meanings with as many numbers. Only the functions that
 -- readers of lines call use them; the meaning of a line is defined in `Spelling`.
 use Rattle.std.specs.Prelude.{ℕ, zero, suc, ◌||◌, List, [], ◌∷◌, take, map, Option, None, Some}
-use Rattle.std.specs.Prelude.{option_and_then, if◌then◌else◌, codes}
-use Rattle.std.specs.Map.{lookup}
-use Rattle.std.specs.Option.{option_map}
+use Rattle.std.specs.{Prelude.{option_and_then, if◌then◌else◌, codes}, Map.lookup, Option.option_map}
 use Rattle.std.specs.Str.{bytes_eq}
-use Rattle.hashlink_run.specs.declared.commands.Command.TheVariants.{Entry}
-use Rattle.hashlink_run.specs.declared.commands.CursorStep.{CursorStep}
+use Rattle.hashlink_run.specs.declared.commands.{Command.TheVariants.Entry, CursorStep.CursorStep}
 use Rattle.hashlink_text.specs.Spelling.{Word, Name, Number, Said, Do, Cursor, spelled, commands}
 use Rattle.hashlink_text.specs.Spelling.{step_spelled, entry_steps, cursor_step_words, cursor_steps}
 use Rattle.hashlink_text.specs.Tables.{Token, numbers_of}

@@ -1,8 +1,7 @@
 -- The spelling of what a line may mean. A text means the one whose spelling it is. Each spelling is followed
 -- by a list of all meanings with given numbers; a reader looks the first word of a line up in it.
 use Rattle.std.specs.Prelude.{◌≡◌, ◌↔◌, ℕ, ◌^◌, ◌<◌, List, [], ◌∷◌, map, codes, decimal, Option, None, Some}
-use Rattle.std.specs.Prelude.{nat_le, if◌then◌else◌}
-use Rattle.std.specs.Option.{option_map}
+use Rattle.std.specs.{Prelude.{nat_le, if◌then◌else◌}, Option.option_map}
 use Rattle.std.specs.List.{AllByRecursion, flat_map, join_with_byte}
 use Rattle.hashlink_run.specs.declared.cache_commands.CacheCommand.TheVariants as cache
 use Rattle.hashlink_run.specs.declared.cache_commands.PairCommand.{PairCommand}

@@ -1,8 +1,6 @@
 -- The words of a line as it is read, and the numbers that follow a word.
-use Rattle.std.specs.Prelude.{ℕ, List, [], ◌∷◌, map, Option, None, Some, option_and_then}
-use Rattle.std.specs.Option.{option_map}
-use Rattle.hashlink_text.specs.Lines.{number_of}
-use Rattle.hashlink_text.specs.declared.numbers.Numbers.{Numbers}
+use Rattle.std.specs.{Prelude.{ℕ, List, [], ◌∷◌, map, Option, None, Some, option_and_then}, Option.option_map}
+use Rattle.hashlink_text.specs.{Lines.number_of, declared.numbers.Numbers.Numbers}
 use Rattle.hashlink_text.specs.declared.numbers.Numbers.TheVariants.{Nothing, One, Two, Three}
 
 -- a word as it is written, and the number that it spells

@@ -1,19 +1,13 @@
 -- What `run_text` returns, and what `serve` writes.
-use Rattle.std.specs.Prelude.{◌≡◌, ℕ, List, [], ◌∷◌, codes, Option, None, Some}
-use Rattle.std.specs.Io.KnownBytes.{Appends}
-use Rattle.hashlink_model.specs.Cache.{CacheState}
-use Rattle.hashlink_model.specs.MapState.{MapState, empty_map}
-use Rattle.hashlink_model.specs.Weights.{WeightedState}
+use Rattle.std.specs.{Prelude.{◌≡◌, ℕ, List, [], ◌∷◌, codes, Option, None, Some}, Io.KnownBytes.Appends}
+use Rattle.hashlink_model.specs.{Cache.CacheState, MapState.{MapState, empty_map}, Weights.WeightedState}
 use Rattle.hashlink_core.specs.declared.hash_builder.DefaultHashBuilder.{DefaultHashBuilder}
 use Rattle.hashlink_lru.specs.Cached.{empty_cache}
 use Rattle.hashlink_weighted.specs.Weighed.{empty_weighted}
-use Rattle.hashlink_text.specs.Lines.{lines_of}
-use Rattle.hashlink_text.specs.Spelling.{Says, mode_spelled}
-use Rattle.hashlink_text.specs.declared.modes.Mode.{Mode}
+use Rattle.hashlink_text.specs.{Lines.lines_of, Spelling.{Says, mode_spelled}, declared.modes.Mode.Mode}
 use Rattle.hashlink_text.specs.declared.modes.Mode.TheVariants.{Map, Cache, Pair, Weighted}
 use Rattle.hashlink_text.specs.CacheTranscript.{CacheLineShows, PairRun}
-use Rattle.hashlink_text.specs.Transcript.{LineShows, ShowsAll, ended}
-use Rattle.hashlink_text.specs.WeightedTranscript.{WeightedLineShows}
+use Rattle.hashlink_text.specs.{Transcript.{LineShows, ShowsAll, ended}, WeightedTranscript.WeightedLineShows}
 
 module _ (S : Type 0) where
   -- the answer to the lines after the mode line, starting with an empty map or empty caches. If the mode line

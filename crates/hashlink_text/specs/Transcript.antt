@@ -2,23 +2,17 @@
 -- answered by one line. The map's own choices are open: whether an insert that needs a new node is refused,
 -- whether a shrink of a map that isn't empty is refused, and for how many nodes there is room.
 use Rattle.std.specs.Prelude.{◌≡◌, ℕ, List, [], ◌∷◌, ◌++◌, map, codes, decimal, nat_eq, Option, None, Some}
-use Rattle.std.specs.Prelude.{string_bytes}
-use Rattle.std.specs.List.{join_with_byte}
-use Rattle.std.specs.Option.{option_map_or}
+use Rattle.std.specs.{Prelude.string_bytes, List.join_with_byte, Option.option_map_or}
 use Rattle.std.specs.declared.string.String.{String}
 use Rattle.hashlink_model.specs.MapState.{MapState}
-use Rattle.hashlink_text.specs.Spelling.{Said, Do, Cursor, Iter, Says, spelled}
-use Rattle.hashlink_text.specs.declared.shown.Form.{Form}
+use Rattle.hashlink_text.specs.{Spelling.{Said, Do, Cursor, Iter, Says, spelled}, declared.shown.Form.Form}
 use Rattle.hashlink_text.specs.declared.shown.Form.TheVariants.{OfValue, Whole, OrGiven}
 use Rattle.hashlink_run.specs.declared.commands.Command.{Command}
 use Rattle.hashlink_run.specs.declared.commands.Command.TheVariants as command
 use Rattle.hashlink_run.specs.declared.commands.EntryStep.TheVariants as step
-use Rattle.hashlink_run.specs.declared.replies.Reply.{Reply}
 use Rattle.hashlink_run.specs.declared.replies.Reply.TheVariants.{Done, Denied, Value, Pair, Key, Seen}
-use Rattle.hashlink_run.specs.declared.replies.Reply.TheVariants.{Length, Refused, TooHeavy}
-use Rattle.hashlink_run.specs.CursorSteps.{CursorSteps}
-use Rattle.hashlink_run.specs.Keeps.{IsEven}
-use Rattle.hashlink_run.specs.Step.{Step}
+use Rattle.hashlink_run.specs.declared.replies.{Reply.Reply, Reply.TheVariants.{Length, Refused, TooHeavy}}
+use Rattle.hashlink_run.specs.{CursorSteps.CursorSteps, Keeps.IsEven, Step.Step}
 
 -- a text with the end of its line
 abbrev pub ended : List ℕ → List ℕ

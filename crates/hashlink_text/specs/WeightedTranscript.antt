@@ -1,12 +1,10 @@
 -- The answer to a line to a cache with a budget.
 use Rattle.std.specs.Prelude.{◌≡◌, ℕ, List, map, length, codes, decimal, nat_eq, Option, None, Some}
 use Rattle.hashlink_model.specs.Weights.{WeightedState, total_weight}
-use Rattle.hashlink_run.specs.declared.replies.Reply.{Reply}
-use Rattle.hashlink_run.specs.WeightedStep.{WeightedStep}
-use Rattle.hashlink_text.specs.Spelling.{Says, weighted_spelled}
+use Rattle.hashlink_run.specs.{declared.replies.Reply.Reply, WeightedStep.WeightedStep}
+use Rattle.hashlink_text.specs.{Spelling.{Says, weighted_spelled}, declared.shown.Form.TheVariants.OfValue}
 use Rattle.hashlink_text.specs.declared.weighted_line.WeightedLine.{WeightedLine}
 use Rattle.hashlink_text.specs.declared.weighted_line.WeightedLine.TheVariants.{Do, Total, Len, Iter}
-use Rattle.hashlink_text.specs.declared.shown.Form.TheVariants.{OfValue}
 use Rattle.hashlink_text.specs.Transcript.{Itself, list_shown, replies_shown}
 
 -- the entries without their weights

@@ -1,8 +1,5 @@
-ghost use Rattle.std.specs.Prelude.{◌≡◌, [], ◌∷◌};
-ghost use Rattle.std.specs.Map.{lookup};
-ghost use Rattle.std.specs.Str.{bytes_eq};
-ghost use Rattle.hashlink_text.specs.Reading.{by_name};
-ghost use Rattle.hashlink_text.specs.Spelling.{cache_lines, cache_spelled};
+ghost use Rattle.std.specs.{Prelude.{◌≡◌, [], ◌∷◌}, Map.lookup, Str.bytes_eq};
+ghost use Rattle.hashlink_text.specs.{Reading.by_name, Spelling.{cache_lines, cache_spelled}};
 
 use crate::named::{Named, meaning_of};
 use crate::numbers::Numbers;

@@ -1,12 +1,10 @@
 //! Lines to a cache.
 ghost use Rattle.std.specs.Prelude.{Some, OnOk};
 ghost use Rattle.hashlink_core.specs.declared.hash_builder.DefaultHashBuilder.{DefaultHashBuilder};
-ghost use Rattle.hashlink_text.specs.Lines.{lines_of};
-ghost use Rattle.hashlink_text.specs.declared.modes.Mode.TheVariants.{Cache};
-ghost use Rattle.hashlink_lru.specs.Cached.{state_of};
+ghost use Rattle.hashlink_text.specs.{Lines.lines_of, declared.modes.Mode.TheVariants.Cache, Text.ModeRun};
 ghost use Rattle.hashlink_text.specs.CacheTranscript.{CacheLineShows, CacheShows};
-ghost use Rattle.hashlink_text.specs.Text.{ModeRun};
 ghost use Rattle.hashlink_text.specs.Transcript.{Pushes, PushesLine};
+ghost use Rattle.hashlink_lru.specs.Cached.{state_of};
 
 use crate::reading::{AnswersLines, answer_lines};
 use crate::shown::Form;

@@ -1,6 +1,5 @@
 ghost use Rattle.std.specs.Prelude.{◌≡◌, ◌∷◌};
-ghost use Rattle.hashlink_text.specs.Lines.{parts_of};
-ghost use Rattle.hashlink_text.specs.Cuts.{parts_left};
+ghost use Rattle.hashlink_text.specs.{Lines.parts_of, Cuts.parts_left};
 
 // Returns the part before the first such byte, and the text after that byte if there is one.
 pub(crate) fn cut(text: &[u8], byte: u8) -> (&[u8], Option<&[u8]>)

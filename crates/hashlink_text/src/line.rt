@@ -1,14 +1,9 @@
 ghost use Rattle.std.specs.Prelude.{◌≡◌, ℕ, List, [], ◌∷◌, codes, take, drop, IfOk, OnErr, OnSome};
-ghost use Rattle.std.specs.Map.{lookup};
-ghost use Rattle.std.specs.Option.{option_map};
-ghost use Rattle.std.specs.Str.{bytes_eq};
-ghost use Rattle.hashlink_text.specs.Cuts.{parts_left};
-ghost use Rattle.hashlink_text.specs.Lines.{words_of};
+ghost use Rattle.std.specs.{Map.lookup, Option.option_map, Str.bytes_eq};
 ghost use Rattle.hashlink_text.specs.Reading.{by_name, cursor_read, cursor_step_spelled, entry_read};
-ghost use Rattle.hashlink_text.specs.Reading.{line_read, numbers_after, read_in};
 ghost use Rattle.hashlink_text.specs.Spelling.{commands, cursor_steps, entry_steps, said, spelled};
-ghost use Rattle.hashlink_text.specs.Spelling.{step_spelled};
-ghost use Rattle.hashlink_text.specs.Tables.{tokens};
+ghost use Rattle.hashlink_text.specs.{Cuts.parts_left, Lines.words_of, Spelling.step_spelled, Tables.tokens};
+ghost use Rattle.hashlink_text.specs.Reading.{line_read, numbers_after, read_in};
 
 use crate::numbers::{Numbers, number, read_numbers};
 use crate::tables::said_by;

@@ -1,5 +1,4 @@
-ghost use Rattle.std.specs.Prelude.{◌≡◌};
-ghost use Rattle.std.specs.Iterator.{YieldsFirstRef, item_count};
+ghost use Rattle.std.specs.{Prelude.◌≡◌, Iterator.{YieldsFirstRef, item_count}};
 ghost use Rattle.hashlink_text.specs.Lines.{lines_of};
 
 use crate::cuts::cut;

@@ -1,13 +1,9 @@
 //! Lines to a map.
-ghost use Rattle.std.specs.Prelude.{Some, OnOk};
-ghost use Rattle.std.specs.Option.{option_map};
+ghost use Rattle.std.specs.{Prelude.{Some, OnOk}, Option.option_map};
 ghost use Rattle.hashlink_core.specs.declared.hash_builder.DefaultHashBuilder.{DefaultHashBuilder};
 ghost use Rattle.hashlink_core.specs.Keyed.{state_of};
-ghost use Rattle.hashlink_text.specs.Lines.{lines_of};
-ghost use Rattle.hashlink_text.specs.Spelling.{said};
-ghost use Rattle.hashlink_text.specs.declared.modes.Mode.TheVariants.{Map};
-ghost use Rattle.hashlink_text.specs.Text.{ModeRun};
-ghost use Rattle.hashlink_text.specs.Transcript.{LineShows, Pushes, PushesLine, Shows};
+ghost use Rattle.hashlink_text.specs.{Lines.lines_of, Spelling.said, declared.modes.Mode.TheVariants.Map};
+ghost use Rattle.hashlink_text.specs.{Text.ModeRun, Transcript.{LineShows, Pushes, PushesLine, Shows}};
 
 use crate::reading::{AnswersLines, answer_lines};
 use crate::shown::form_of;

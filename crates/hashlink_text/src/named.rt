@@ -1,7 +1,5 @@
 ghost use Rattle.std.specs.Prelude.{◌≡◌};
-ghost use Rattle.hashlink_text.specs.Cuts.{parts_left};
-ghost use Rattle.hashlink_text.specs.Lines.{words_of};
-ghost use Rattle.hashlink_text.specs.Reading.{read_in, read_words};
+ghost use Rattle.hashlink_text.specs.{Cuts.parts_left, Lines.words_of, Reading.{read_in, read_words}};
 ghost use Rattle.hashlink_text.specs.Tables.{tokens};
 
 use crate::numbers::{Numbers, read_numbers};
@@ -9,12 +7,8 @@ use crate::words::Words;
 
 // A meaning of a line that is a name and at most three numbers.
 pub(crate) trait Named: Copy {
-    ghost use Rattle.std.specs.Prelude.{ℕ, List, [], ◌∷◌, Option};
-    ghost use Rattle.std.specs.Map.{lookup};
-    ghost use Rattle.std.specs.Str.{bytes_eq};
-    ghost use Rattle.hashlink_text.specs.Reading.{by_name};
-    ghost use Rattle.hashlink_text.specs.Spelling.{Word};
-    ghost use Rattle.hashlink_text.specs.Tables.{list_of};
+    ghost use Rattle.std.specs.{Prelude.{ℕ, List, [], ◌∷◌, Option}, Map.lookup, Str.bytes_eq};
+    ghost use Rattle.hashlink_text.specs.{Reading.by_name, Spelling.Word, Tables.list_of};
 
     // `spelled` has the words of a meaning, and `among` all meanings before the given numbers.
     ghost spelled: { Self → Option (List Word) };

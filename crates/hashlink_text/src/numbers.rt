@@ -1,8 +1,6 @@
-ghost use Rattle.std.specs.Prelude.{◌≡◌, ◌+◌, ◌-◌, ◌*◌, ◌^◌, ◌<◌, option_and_then};
-ghost use Rattle.std.specs.Int.{IsInRange};
+ghost use Rattle.std.specs.{Prelude.{◌≡◌, ◌+◌, ◌-◌, ◌*◌, ◌^◌, ◌<◌, option_and_then}, Int.IsInRange};
 ghost use Rattle.std.specs.Option.{SomeIff};
-ghost use Rattle.hashlink_text.specs.Cuts.{parts_left};
-ghost use Rattle.hashlink_text.specs.Lines.{value_of, number_of};
+ghost use Rattle.hashlink_text.specs.{Cuts.parts_left, Lines.{value_of, number_of}};
 ghost use Rattle.hashlink_text.specs.Tables.{numbers_of, three_at_most, tokens};
 
 use crate::words::Words;

@@ -1,12 +1,10 @@
 //! Lines to two caches, and the lists of their entries at the end.
 ghost use Rattle.std.specs.Prelude.{◌≡◌, ◌++◌, ◌∷◌, Some, OnOk, decimal, string_bytes};
 ghost use Rattle.hashlink_core.specs.declared.hash_builder.DefaultHashBuilder.{DefaultHashBuilder};
-ghost use Rattle.hashlink_text.specs.Lines.{lines_of};
-ghost use Rattle.hashlink_text.specs.declared.modes.Mode.TheVariants.{Pair};
-ghost use Rattle.hashlink_lru.specs.Cached.{entries_of, state_of};
+ghost use Rattle.hashlink_text.specs.{Lines.lines_of, declared.modes.Mode.TheVariants.Pair, Text.ModeRun};
 ghost use Rattle.hashlink_text.specs.CacheTranscript.{PairRun, PairShows, lists_shown};
-ghost use Rattle.hashlink_text.specs.Text.{ModeRun};
 ghost use Rattle.hashlink_text.specs.Transcript.{Pushes, PushesLine, ended, shown_by};
+ghost use Rattle.hashlink_lru.specs.Cached.{entries_of, state_of};
 
 use crate::shown::Form;
 use crate::text::{push_list, push_reply};

@@ -1,7 +1,6 @@
 //! Several lines, each of which is answered by one line.
 ghost use Rattle.std.specs.Prelude.{ℕ, List, OnOk};
-ghost use Rattle.hashlink_text.specs.Lines.{lines_of};
-ghost use Rattle.hashlink_text.specs.Transcript.{Pushes, PushesLine, ShowsAll};
+ghost use Rattle.hashlink_text.specs.{Lines.lines_of, Transcript.{Pushes, PushesLine, ShowsAll}};
 
 use crate::Lines;
 use std::alloc::AllocError;

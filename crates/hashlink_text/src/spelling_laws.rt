@@ -1,15 +1,12 @@
 //! Theorems on the lines of the text form. Each function has an empty body: its contract is the theorem.
 ghost use Rattle.std.specs.Prelude.{◌≡◌, ℕ, ◌++◌, List, [], ◌∷◌, Option, Some, None, codes};
+ghost use Rattle.hashlink_run.specs.declared.commands.CursorStep.TheVariants.{Next, Prev, Current, PeekNext};
 ghost use Rattle.hashlink_run.specs.declared.cache_commands.PairCommand.{PairCommand};
-ghost use Rattle.hashlink_run.specs.declared.commands.CursorStep.TheVariants.{Next, Prev, Current};
-ghost use Rattle.hashlink_run.specs.declared.commands.CursorStep.TheVariants.{PeekNext};
 ghost use Rattle.hashlink_run.specs.declared.commands.CursorStep.TheVariants.{PeekPrev, Before, After};
-ghost use Rattle.hashlink_text.specs.Lines.{lines_of};
 ghost use Rattle.hashlink_text.specs.Spelling.{Said, Cursor, Says, Spells, spelled, cache_spelled};
+ghost use Rattle.hashlink_text.specs.{Lines.lines_of, declared.cache_line.CacheLine.CacheLine};
 ghost use Rattle.hashlink_text.specs.Spelling.{pair_spelled, weighted_spelled, mode_spelled};
-ghost use Rattle.hashlink_text.specs.declared.cache_line.CacheLine.{CacheLine};
-ghost use Rattle.hashlink_text.specs.declared.modes.Mode.{Mode};
-ghost use Rattle.hashlink_text.specs.declared.weighted_line.WeightedLine.{WeightedLine};
+ghost use Rattle.hashlink_text.specs.declared.{modes.Mode.Mode, weighted_line.WeightedLine.WeightedLine};
 
 /// No two lines to a container share a spelling, nor do two first lines.
 pub fn no_two_lines_share_a_spelling()

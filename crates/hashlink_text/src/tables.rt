@@ -1,6 +1,4 @@
-ghost use Rattle.std.specs.Prelude.{◌≡◌};
-ghost use Rattle.std.specs.Map.{lookup};
-ghost use Rattle.std.specs.Str.{bytes_eq};
+ghost use Rattle.std.specs.{Prelude.◌≡◌, Map.lookup, Str.bytes_eq};
 ghost use Rattle.hashlink_text.specs.Cuts.{words_shown};
 
 // Returns what the table has for the name.

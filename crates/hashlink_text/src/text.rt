@@ -1,9 +1,7 @@
 ghost use Rattle.std.specs.Prelude.{◌≡◌, [], ◌++◌, IfOk, IsOk, OnOk, string_bytes};
 ghost use Rattle.hashlink_core.specs.declared.hash_builder.DefaultHashBuilder.{DefaultHashBuilder};
-ghost use Rattle.hashlink_text.specs.Lines.{lines_of};
-ghost use Rattle.hashlink_text.specs.Text.{IsTranscript, ModeRun};
 ghost use Rattle.hashlink_text.specs.Transcript.{Pushes, ended, list_shown, read_shown, reply_shown};
-ghost use Rattle.hashlink_text.specs.Transcript.{replies_shown};
+ghost use Rattle.hashlink_text.specs.{Lines.lines_of, Text.{IsTranscript, ModeRun}, Transcript.replies_shown};
 
 use crate::cache_text::run_cache_lines;
 use crate::map_text::run_map_lines;

@@ -1,9 +1,7 @@
 //! Lines to a cache with a budget.
 ghost use Rattle.std.specs.Prelude.{◌≡◌, ◌++◌, Some, OnOk, string_bytes};
 ghost use Rattle.hashlink_core.specs.declared.hash_builder.DefaultHashBuilder.{DefaultHashBuilder};
-ghost use Rattle.hashlink_text.specs.Lines.{lines_of};
-ghost use Rattle.hashlink_text.specs.declared.modes.Mode.TheVariants.{Weighted};
-ghost use Rattle.hashlink_text.specs.Text.{ModeRun};
+ghost use Rattle.hashlink_text.specs.{Lines.lines_of, declared.modes.Mode.TheVariants.Weighted, Text.ModeRun};
 ghost use Rattle.hashlink_text.specs.Transcript.{Pushes, PushesLine, ended, list_shown};
 ghost use Rattle.hashlink_text.specs.WeightedTranscript.{WeightedLineShows, WeightedShows, pairs_of};
 

@@ -1,8 +1,5 @@
-ghost use Rattle.std.specs.Prelude.{◌≡◌};
-ghost use Rattle.std.specs.Iterator.{YieldsFirstRef, item_count};
-ghost use Rattle.std.specs.Str.{bytes_eq};
-ghost use Rattle.hashlink_text.specs.Cuts.{parts_left};
-ghost use Rattle.hashlink_text.specs.Lines.{words_of};
+ghost use Rattle.std.specs.{Prelude.◌≡◌, Iterator.{YieldsFirstRef, item_count}, Str.bytes_eq};
+ghost use Rattle.hashlink_text.specs.{Cuts.parts_left, Lines.words_of};
 
 use crate::cuts::cut;
 

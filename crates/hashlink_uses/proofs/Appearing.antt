@@ -1,7 +1,5 @@
 -- Items are appended to those seen before, one after another, if they appear for the first time.
-use Rattle.std.proofs.Common.{cond, ◌||◌, map}
-use Rattle.std.specs.Set.{is_member}
-use Rattle.std.proofs.lemmas.List.{map_push}
+use Rattle.std.{proofs.Common.{cond, ◌||◌, map}, specs.Set.is_member, proofs.lemmas.List.map_push}
 use Rattle.hashlink_uses.proofs.Common.{◌≡◌, Bool, List, [], ◌∷◌, ◌++◌, ap, refl, arith, append_assoc}
 use Rattle.hashlink_uses.proofs.Common.{list_any, first_appearances}
 

@@ -1,12 +1,9 @@
 -- A key is found exactly if it has a place, and a first value exactly if there is an entry.
-use Rattle.std.proofs.Common.{◌≡◌, ℕ, zero, suc, ◌+◌, ◌-◌, ◌<◌, ◌%◌, Bool, true, false, List, [], ◌∷◌}
-use Rattle.std.proofs.Common.{None, Some, is_some, is_none, refl, sym, ap, ◌∙◌, arith, mod-eq_of_lt}
-use Rattle.std.proofs.Math.Nat.{add-mod_right}
-use Rattle.std.specs.Prelude.{drop, length, option_map, slice_get, take}
+use Rattle.std.proofs.Common.{◌≡◌, ℕ, zero, suc, ◌+◌, ◌-◌, ◌<◌, ◌%◌, Bool, true, false, List, [], ◌∷◌, None}
+use Rattle.std.proofs.Common.{Some, is_some, is_none, refl, sym, ap, ◌∙◌, arith, mod-eq_of_lt}
+use Rattle.std.{proofs.Math.Nat.add-mod_right, specs.Prelude.{drop, length, option_map, slice_get, take}}
 use Rattle.std.specs.Map.{lookup}
-use Rattle.hashlink.specs.Cursor.{preceding_place}
-use Rattle.hashlink.specs.Entries.{place_of}
-use Rattle.hashlink.specs.Walk.{first_of}
+use Rattle.hashlink.specs.{Cursor.preceding_place, Entries.place_of, Walk.first_of}
 
 module _ {K V : Type 0} (test : K → Bool) where
   found-placed : (es : List (K × V)) → is_some (lookup test es) ≡ is_some (place_of test es)

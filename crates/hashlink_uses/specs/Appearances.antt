@@ -1,6 +1,5 @@
 -- The first appearances of items in a list.
-use Rattle.std.specs.Prelude.{Bool, cond, List, [], ◌∷◌, ◌++◌}
-use Rattle.std.specs.Set.{is_member}
+use Rattle.std.specs.{Prelude.{Bool, cond, List, [], ◌∷◌, ◌++◌}, Set.is_member}
 
 -- the items that equal none of `seen` and no item before them, in their order
 abbrev pub first_appearances : {X : Type 0} → (X → X → Bool) → List X → List X → List X

@@ -1,6 +1,5 @@
 -- Pages of a store with a cache in front of it.
-use Rattle.std.specs.Prelude.{◌≡◌, ◌≤◌, ◌+◌, ℕ, false, List, Some, length, nat_eq}
-use Rattle.std.specs.Map.{lookup}
+use Rattle.std.specs.{Prelude.{◌≡◌, ◌≤◌, ◌+◌, ℕ, false, List, Some, length, nat_eq}, Map.lookup}
 use Rattle.std.specs.Option.{option_map_or}
 use Rattle.hashlink_uses.specs.declared.pages.Page.{Page}
 

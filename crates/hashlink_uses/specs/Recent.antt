@@ -1,8 +1,6 @@
 -- Files that were opened last, some of them pinned.
-use Rattle.std.specs.Prelude.{ℕ, ◌-◌, Bool, false, List, length, not, unwrap_or}
-use Rattle.std.specs.Map.{lookup}
-use Rattle.hashlink.specs.Entries.{put}
-use Rattle.hashlink.specs.WithoutFirst.{without_first}
+use Rattle.std.specs.{Prelude.{ℕ, ◌-◌, Bool, false, List, length, not, unwrap_or}, Map.lookup}
+use Rattle.hashlink.specs.{Entries.put, WithoutFirst.without_first}
 
 -- the files, the one opened longest ago first, each with whether it is pinned, and how many are to stay
 pub record Files (P : Type 0) : Type 0 where

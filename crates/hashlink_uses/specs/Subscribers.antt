@@ -1,10 +1,7 @@
 -- Topics with their subscribers.
-use Rattle.std.specs.Prelude.{ℕ, List, [], Option}
-use Rattle.std.specs.Map.{lookup}
-use Rattle.std.specs.Option.{option_map_or}
+use Rattle.std.specs.{Prelude.{ℕ, List, [], Option}, Map.lookup, Option.option_map_or}
 use Rattle.std.specs.declared.string.String.{String}
-use Rattle.hashlink.specs.Sets.{SetState, elements_of}
-use Rattle.hashlink.specs.Texts.{is_text}
+use Rattle.hashlink.specs.{Sets.{SetState, elements_of}, Texts.is_text}
 
 -- the elements of a set that was looked up; none if there is no set
 abbrev pub elements_in : {S : Type 0} → Option (SetState ℕ S) → List ℕ

@@ -1,12 +1,9 @@
 //! Calls of a cache, and what the caller knows after a loan has ended.
 ghost use Rattle.std.specs.Prelude.{◌≡◌, ℕ, ◌+◌, ◌<◌, ◌^◌, IsTrue, IsFalse, IsOk, OnOk, IfErr, Ok, length};
-ghost use Rattle.std.specs.Prelude.{is_some, unwrap_or};
-ghost use Rattle.std.specs.Map.{lookup};
+ghost use Rattle.std.specs.{Prelude.{is_some, unwrap_or}, Map.lookup};
 ghost use Rattle.hashlink.specs.Cache.{CacheGetsAndWrites, EvictsFront, OnMap, IsWithin, front_evicted};
-ghost use Rattle.hashlink.specs.Entries.{put};
-ghost use Rattle.hashlink.specs.MapState.{MapState, Inserts, RefusesEntry};
-ghost use Rattle.hashlink.specs.Steps.{Drains, with_value_of};
-ghost use Rattle.hashlink.specs.Cached.{entries_of, state_of};
+ghost use Rattle.hashlink.specs.{Entries.put, MapState.{MapState, Inserts, RefusesEntry}};
+ghost use Rattle.hashlink.specs.{Steps.{Drains, with_value_of}, Cached.{entries_of, state_of}};
 
 use crate::maps::entries::count_word as count_word_in;
 use hashlink::LruCache;

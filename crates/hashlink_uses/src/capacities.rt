@@ -1,7 +1,6 @@
 //! The effect of a larger or a smaller capacity of a cache.
 ghost use Rattle.std.specs.Prelude.{◌≡◌, ◌≤◌, ◌+◌, ◌-◌, ◌*◌, ℕ, List, map, IfOk, count_by, is_none};
-ghost use Rattle.hashlink.specs.Cached.{entries_of};
-ghost use Rattle.hashlink.specs.History.{Schedule, cache_misses, misses};
+ghost use Rattle.hashlink.specs.{Cached.entries_of, History.{Schedule, cache_misses, misses}};
 ghost use Rattle.hashlink.specs.Inclusion.{IsEndOf, SameKey};
 
 use hashlink::LruCache;

@@ -1,14 +1,9 @@
 //! Lists of commands, and what the caller knows about the container afterwards.
 ghost use Rattle.std.specs.Prelude.{[], ◌∷◌, ◌≡◌, ◌≢◌, ◌≤◌, All, Option, Some, length, slice_get, IfOk};
-ghost use Rattle.std.specs.Prelude.{IsSome};
-ghost use Rattle.std.specs.List.{AllPass};
-ghost use Rattle.std.specs.Map.{lookup};
-ghost use Rattle.hashlink.specs.Cache.{IsWithin};
-ghost use Rattle.hashlink.specs.CacheRun.{names_no_entry};
-ghost use Rattle.hashlink.specs.Cached.{entries_of, state_of};
+ghost use Rattle.std.specs.{Prelude.IsSome, List.AllPass, Map.lookup};
+ghost use Rattle.hashlink.specs.{Cache.IsWithin, CacheRun.names_no_entry, Cached.{entries_of, state_of}};
 ghost use Rattle.hashlink.specs.Keyed as keyed;
-ghost use Rattle.hashlink.specs.Run.{keeps_nodes};
-ghost use Rattle.hashlink.specs.declared.run.Reply.TheVariants.{Value};
+ghost use Rattle.hashlink.specs.{Run.keeps_nodes, declared.run.Reply.TheVariants.Value};
 
 use hashlink::run::{CacheCommand, Command, Reply, run, run_cache};
 use hashlink::{AllocError, LinkedHashMap, LruCache};

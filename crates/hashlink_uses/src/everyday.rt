@@ -1,14 +1,10 @@
 //! Everyday calls of a cache and of a set. Each caller is proved without a file of proof.
 ghost use Rattle.std.specs.Prelude.{◌≡◌, ◌≤◌, IfErr, IfOk, IfSome, IsOk, IsTrue, MatchOption, OnErr, OnOk};
 ghost use Rattle.std.specs.Prelude.{[], ◌∷◌, ◌++◌, Contains, Ok, length, nat_eq, not, unwrap_or};
-ghost use Rattle.std.specs.List.{find, list_any};
-ghost use Rattle.std.specs.Map.{lookup, remove_entry};
-ghost use Rattle.std.specs.Option.{UnwrapsOrElse};
+ghost use Rattle.std.specs.{List.{find, list_any}, Map.{lookup, remove_entry}, Option.UnwrapsOrElse};
 ghost use Rattle.std.specs.Set.{is_member, remove_key};
-ghost use Rattle.hashlink.specs.Cache.{cache_get, cache_put};
-ghost use Rattle.hashlink.specs.Cached.{UsesAndWrites, entries_of, state_of};
-ghost use Rattle.hashlink.specs.Sets.{elements_of, put_element, replaced};
-ghost use Rattle.hashlink.specs.TryInsert.{HandsBack};
+ghost use Rattle.hashlink.specs.{Cache.{cache_get, cache_put}, Cached.{UsesAndWrites, entries_of, state_of}};
+ghost use Rattle.hashlink.specs.{Sets.{elements_of, put_element, replaced}, TryInsert.HandsBack};
 
 use hashlink::linked_hash_map::TryInsertError;
 use hashlink::{LinkedHashSet, LruCache};

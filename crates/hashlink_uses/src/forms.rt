@@ -1,10 +1,7 @@
 //! Forms that a caller writes by habit: loops over borrowed containers, `?` on calls that allocate,
 //! operators, and `collect`.
-ghost use Rattle.std.specs.Prelude.{◌≡◌, [], IfOk, OnErr, nat_eq, reverse};
-ghost use Rattle.std.specs.List.{list_any};
-ghost use Rattle.std.specs.Map.{keys_of};
-ghost use Rattle.hashlink.specs.Algebra.{intersection_of};
-ghost use Rattle.hashlink.specs.Cached.{entries_of};
+ghost use Rattle.std.specs.{Prelude.{◌≡◌, [], IfOk, OnErr, nat_eq, reverse}, List.list_any, Map.keys_of};
+ghost use Rattle.hashlink.specs.{Algebra.intersection_of, Cached.entries_of};
 ghost use Rattle.hashlink.specs.Keyed as keyed;
 ghost use Rattle.hashlink.specs.Sets.{elements_of};
 

@@ -1,8 +1,6 @@
 //! First appearances of items and of lines.
-ghost use Rattle.std.specs.Prelude.{◌≡◌, [], ◌∷◌, ◌++◌, IfOk, OnOk, if◌then◌else◌, map};
-ghost use Rattle.std.specs.Set.{is_member};
-ghost use Rattle.std.specs.Str.{bytes_eq};
-ghost use Rattle.std.specs.Str.Lines.{lines};
+ghost use Rattle.std.specs.{Prelude.{◌≡◌, [], ◌∷◌, ◌++◌, IfOk, OnOk, if◌then◌else◌, map}, Set.is_member};
+ghost use Rattle.std.specs.{Str.bytes_eq, Str.Lines.lines};
 ghost use Rattle.hashlink.specs.Sets.{elements_of};
 ghost use Rattle.hashlink_uses.specs.Appearances.{first_appearances};
 

@@ -1,11 +1,7 @@
 //! A cache of names, each with an address that is valid until a time.
-ghost use Rattle.std.specs.Prelude.{◌≡◌, ◌≤◌, IfErr, IfOk, OnErr, OnOk, filter, length};
-ghost use Rattle.std.specs.Option.{option_and_then};
-ghost use Rattle.std.specs.Map.{lookup, remove_entry};
-ghost use Rattle.std.specs.String.{string_eq};
-ghost use Rattle.hashlink.specs.Cache.{cache_put};
-ghost use Rattle.hashlink.specs.Cached.{entries_of, state_of};
-ghost use Rattle.hashlink.specs.Texts.{is_text};
+ghost use Rattle.std.specs.{Prelude.{◌≡◌, ◌≤◌, IfErr, IfOk, OnErr, OnOk, filter, length}, String.string_eq};
+ghost use Rattle.std.specs.{Option.option_and_then, Map.{lookup, remove_entry}};
+ghost use Rattle.hashlink.specs.{Cache.cache_put, Cached.{entries_of, state_of}, Texts.is_text};
 ghost use Rattle.hashlink_uses.specs.Answers.{address_at, holds_at};
 
 use hashlink::LruCache;

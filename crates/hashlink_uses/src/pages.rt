@@ -1,13 +1,9 @@
 //! A cache of pages in front of a store. A changed page is saved in the store when it leaves the cache.
-ghost use Rattle.std.specs.Prelude.{◌≡◌, ◌≤◌, ◌-◌, ℕ, None, false, if◌then◌else◌, length, nat_eq};
-ghost use Rattle.std.specs.Prelude.{IfOk, IfSome, IsFalse, MatchResult, OnErr, OnOk};
-ghost use Rattle.std.specs.Map.{lookup};
+ghost use Rattle.std.specs.Prelude.{◌≡◌, ◌≤◌, ◌-◌, ℕ, None, false, if◌then◌else◌, length, nat_eq, IfOk};
+ghost use Rattle.std.specs.{Prelude.{IfSome, IsFalse, MatchResult, OnErr, OnOk}, Map.lookup};
 ghost use Rattle.std.specs.Option.{option_map};
-ghost use Rattle.hashlink.specs.Entries.{IsEntries};
-ghost use Rattle.hashlink.specs.Cached.{entries_of, state_of};
-ghost use Rattle.hashlink.specs.Evicted.{evicted_by};
-ghost use Rattle.hashlink_uses.specs.declared.pages.Page.{Page};
-ghost use Rattle.hashlink_uses.specs.Contents.{IsSound, Pages, content};
+ghost use Rattle.hashlink.specs.{Entries.IsEntries, Cached.{entries_of, state_of}, Evicted.evicted_by};
+ghost use Rattle.hashlink_uses.specs.{declared.pages.Page.Page, Contents.{IsSound, Pages, content}};
 
 use hashlink::LruCache;
 use std::alloc::Global;

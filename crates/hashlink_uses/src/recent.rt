@@ -1,11 +1,7 @@
 //! Files that were opened last. Some are pinned, and stay however many others are opened.
-ghost use Rattle.std.specs.Prelude.{◌≡◌, ◌+◌, ◌&&◌, IfErr, OnOk, String, [], cond, filter, is_some};
-ghost use Rattle.std.specs.Prelude.{nat_lt, not};
-ghost use Rattle.std.specs.Global.{Global};
-ghost use Rattle.std.specs.Map.{keys_of, lookup, set_value};
-ghost use Rattle.std.specs.String.{string_eq};
-ghost use Rattle.hashlink.specs.Keyed.{entries_of};
-ghost use Rattle.hashlink.specs.Texts.{is_text};
+ghost use Rattle.std.specs.Prelude.{◌≡◌, ◌+◌, ◌&&◌, IfErr, OnOk, String, [], cond, filter, is_some, nat_lt};
+ghost use Rattle.std.specs.{Prelude.not, Global.Global, Map.{keys_of, lookup, set_value}, String.string_eq};
+ghost use Rattle.hashlink.specs.{Keyed.entries_of, Texts.is_text};
 ghost use Rattle.hashlink_uses.specs.Recent.{Files, opened, with_last};
 
 use hashlink::LinkedHashMap;

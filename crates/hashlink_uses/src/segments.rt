@@ -1,16 +1,11 @@
 //! A cache of two segments. What is inserted is on probation, and what is used there is protected from then
 //! on, so keys that are used once do not push out those that are used again.
-ghost use Rattle.std.specs.Prelude.{◌≡◌, ◌≤◌, ◌<◌, ◌++◌, ◌∷◌, [], IfErr, IfOk, IfSome, MatchOption};
-ghost use Rattle.std.specs.Prelude.{None, Ok, OnOk, Some, cond, length};
-ghost use Rattle.std.specs.Map.{lookup, lookup_entry, set_value};
-ghost use Rattle.std.specs.Option.{option_to_list};
-ghost use Rattle.std.proofs.Props.{props};
-ghost use Rattle.hashlink.specs.Cache.{IsWithin, cache_get, cache_put};
-ghost use Rattle.hashlink.specs.Cached.{StaysWithin, entries_of, state_of};
-ghost use Rattle.hashlink.specs.Entries.{IsEntries, moved, without};
-ghost use Rattle.hashlink.specs.Evicted.{pushed_out};
-ghost use Rattle.hashlink.specs.Joined.{AreParts, ShareNoKey};
-ghost use Rattle.hashlink.specs.MapState.{MayRefuse};
+ghost use Rattle.std.specs.Prelude.{◌≡◌, ◌≤◌, ◌<◌, ◌++◌, ◌∷◌, [], IfErr, IfOk, IfSome, MatchOption, None, Ok};
+ghost use Rattle.std.specs.{Prelude.{OnOk, Some, cond, length}, Map.{lookup, lookup_entry, set_value}};
+ghost use Rattle.std.{specs.Option.option_to_list, proofs.Props.props};
+ghost use Rattle.hashlink.specs.{Cache.{IsWithin, cache_get, cache_put}, Entries.{IsEntries, moved, without}};
+ghost use Rattle.hashlink.specs.{Cached.{StaysWithin, entries_of, state_of}, Evicted.pushed_out};
+ghost use Rattle.hashlink.specs.{Joined.{AreParts, ShareNoKey}, MapState.MayRefuse};
 
 use hashlink::LruCache;
 use std::alloc::Global;

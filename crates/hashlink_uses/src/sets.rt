@@ -1,9 +1,7 @@
 //! Calls of a set, and what the caller knows about it afterwards.
 ghost use Rattle.std.specs.Prelude.{◌≡◌, [], List, IfErr, IfOk, OnErr, OnOk};
-ghost use Rattle.hashlink.specs.Many.{AcceptsAll, StopsAt};
-ghost use Rattle.hashlink.specs.SetAnswers.{as_value};
+ghost use Rattle.hashlink.specs.{Many.{AcceptsAll, StopsAt}, SetAnswers.as_value, Steps.{Drains, Moves}};
 ghost use Rattle.hashlink.specs.Sets.{SetInserts, elements_of};
-ghost use Rattle.hashlink.specs.Steps.{Drains, Moves};
 
 use hashlink::LinkedHashSet;
 use hashlink::linked_hash_map::ExtendError;

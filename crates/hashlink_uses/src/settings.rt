@@ -1,12 +1,8 @@
 //! Settings in the order in which they were first set, and other settings that override them.
 ghost use Rattle.std.specs.Prelude.{◌≡◌, ◌++◌, ◌∷◌, Bool, IfErr, IsOk, IsSome, List, OnOk};
-ghost use Rattle.std.specs.Cmp.{IsEquivalence};
-ghost use Rattle.std.specs.Map.{keys_of, lookup};
-ghost use Rattle.std.specs.Option.{option_or};
-ghost use Rattle.hashlink.specs.Entries.{IsEntries, place_or_end, put};
-ghost use Rattle.hashlink.specs.Keyed.{entries_of};
-ghost use Rattle.hashlink_uses.specs.Appearances.{first_appearances};
-ghost use Rattle.hashlink_uses.specs.Merged.{merged};
+ghost use Rattle.std.specs.{Cmp.IsEquivalence, Map.{keys_of, lookup}, Option.option_or};
+ghost use Rattle.hashlink.specs.{Entries.{IsEntries, place_or_end, put}, Keyed.entries_of};
+ghost use Rattle.hashlink_uses.specs.{Appearances.first_appearances, Merged.merged};
 
 use hashlink::LinkedHashMap;
 use std::hash::{BuildHasher, Hash};

@@ -1,9 +1,7 @@
 //! Numbers for names: each name has the place at which it came in, and keeps it.
-ghost use Rattle.std.specs.Prelude.{◌≡◌, ◌++◌, ◌∷◌, [], ℕ, List, IfOk, OnErr, OnOk, Some, map};
-ghost use Rattle.std.specs.Prelude.{if◌then◌else◌, option_copied, option_map, slice_get, string_bytes};
-ghost use Rattle.std.specs.Map.{keys_of};
-ghost use Rattle.std.specs.Set.{is_member};
-ghost use Rattle.std.specs.Str.{bytes_eq};
+ghost use Rattle.std.specs.Prelude.{◌≡◌, ◌++◌, ◌∷◌, [], ℕ, List, IfOk, OnErr, OnOk, Some, map, if◌then◌else◌};
+ghost use Rattle.std.specs.{Prelude.{option_copied, option_map, slice_get, string_bytes}, Map.keys_of};
+ghost use Rattle.std.specs.{Set.is_member, Str.bytes_eq};
 ghost use Rattle.hashlink.specs.Keyed.{entries_of};
 ghost use Rattle.hashlink_uses.specs.Numbered.{AreNumbered};
 

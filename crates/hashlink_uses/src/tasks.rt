@@ -1,8 +1,6 @@
 //! Tasks that take turns, round after round.
 ghost use Rattle.std.specs.Prelude.{◌≡◌, ◌++◌, [], ◌∷◌, false, IsFalse, IsTrue, List, MatchOption};
-ghost use Rattle.std.specs.Prelude.{MatchResult, Ok, length};
-ghost use Rattle.std.specs.List.{IsDistinct, list_any};
-ghost use Rattle.std.specs.Set.{remove_key};
+ghost use Rattle.std.specs.{Prelude.{MatchResult, Ok, length}, List.{IsDistinct, list_any}, Set.remove_key};
 ghost use Rattle.hashlink.specs.Sets.{elements_of};
 ghost use Rattle.hashlink_uses.specs.Turns.{order_left, turns_given};
 

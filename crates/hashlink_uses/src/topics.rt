@@ -1,11 +1,8 @@
 //! Who listens to which topic: a map from texts to sets, looked up by `&str`.
 ghost use Rattle.std.specs.Prelude.{◌≡◌, ℕ, [], List, IfOk, OnErr, OnOk, if◌then◌else◌, length, nat_eq, not};
-ghost use Rattle.std.specs.Prelude.{option_copied, string_bytes};
-ghost use Rattle.std.specs.Option.{option_map_or};
+ghost use Rattle.std.specs.{Prelude.{option_copied, string_bytes}, Option.option_map_or, Str.bytes_eq};
 ghost use Rattle.std.specs.Set.{is_member, remove_key};
-ghost use Rattle.std.specs.Str.{bytes_eq};
-ghost use Rattle.hashlink.specs.Keyed.{entries_of};
-ghost use Rattle.hashlink.specs.Sets.{elements_of, put_element};
+ghost use Rattle.hashlink.specs.{Keyed.entries_of, Sets.{elements_of, put_element}};
 ghost use Rattle.hashlink_uses.specs.Subscribers.{subscribers};
 
 use hashlink::{LinkedHashMap, LinkedHashSet};

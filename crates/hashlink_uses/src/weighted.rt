@@ -1,8 +1,6 @@
 //! Calls of a cache with a budget, and what the caller knows about it afterwards.
-ghost use Rattle.std.specs.Prelude.{◌≡◌, ◌≤◌, ◌<◌, IfOk, IsOk, OnOk, Err};
-ghost use Rattle.std.specs.Map.{lookup};
-ghost use Rattle.hashlink.specs.Weights.{total_weight, weighted_put};
-ghost use Rattle.hashlink.specs.Answers.{without_weight};
+ghost use Rattle.std.specs.{Prelude.{◌≡◌, ◌≤◌, ◌<◌, IfOk, IsOk, OnOk, Err}, Map.lookup};
+ghost use Rattle.hashlink.specs.{Weights.{total_weight, weighted_put}, Answers.without_weight};
 ghost use Rattle.hashlink.specs.Weighed.{entries_of, WeightedGets};
 
 use hashlink::weighted::{WeightError, WeightedCache};

@@ -1,18 +1,11 @@
 -- Entries are dropped from the front, one by one, until the weights fit the budget.
 use Rattle.std.proofs.Common.{◌≡◌, ℕ, ◌+◌, ◌-◌, ◌<◌, ◌≤◌, List, [], ◌∷◌, ◌++◌, length, drop, None, Some, refl}
-use Rattle.std.proofs.Common.{sym, ap, ◌∙◌, subst, arith, le_refl}
-use Rattle.std.proofs.lemmas.Bool.{lt-leb}
-use Rattle.std.proofs.lemmas.List.{length-append}
-use Rattle.std.proofs.lemmas.Option.{none-some}
-use Rattle.hashlink_model.specs.MapState.{MapState}
-use Rattle.hashlink_model.specs.Steps.{KeepsOnly, PopsFront}
-use Rattle.hashlink_model.specs.Walk.{first_of}
-use Rattle.hashlink_model.specs.Weights.{total_weight, fitting}
-use Rattle.hashlink_model.proofs.NodeCounts.{removes_keeps, keeps_twice}
-use Rattle.hashlink_model.proofs.Pops.{pops_front}
-use Rattle.hashlink_model.proofs.Weighted.{fitting-whole}
-use Rattle.hashlink_weighted.specs.Weighed.{HasTotal, LastWeighs}
-use Rattle.hashlink_weighted.proofs.Totals.{total-cons, total-append}
+use Rattle.std.proofs.{Common.{sym, ap, ◌∙◌, subst, arith, le_refl}, lemmas.Bool.lt-leb}
+use Rattle.std.proofs.lemmas.{List.length-append, Option.none-some}
+use Rattle.hashlink_model.specs.{MapState.MapState, Steps.{KeepsOnly, PopsFront}, Walk.first_of}
+use Rattle.hashlink_model.{specs.Weights.{total_weight, fitting}, proofs.Pops.pops_front}
+use Rattle.hashlink_model.proofs.{NodeCounts.{removes_keeps, keeps_twice}, Weighted.fitting-whole}
+use Rattle.hashlink_weighted.{specs.Weighed.{HasTotal, LastWeighs}, proofs.Totals.{total-cons, total-append}}
 
 module _ {K V S : Type 0} where
   -- the state after some entries were dropped

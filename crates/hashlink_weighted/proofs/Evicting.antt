@@ -1,15 +1,10 @@
 -- The calls of a closure on the evicted entries.
-use Rattle.std.proofs.Common.{◌≡◌, ℕ, ◌-◌, ◌<◌, ◌≤◌, List, [], ◌∷◌, Some, refl, sym, ap, ◌∙◌, subst}
-use Rattle.std.proofs.Common.{arith, ◌++◌, true, false, cond}
-use Rattle.std.specs.Prelude.{nat_le}
-use Rattle.std.specs.Fn.{Called, Mut, Takes}
+use Rattle.std.proofs.Common.{◌≡◌, ℕ, ◌-◌, ◌<◌, ◌≤◌, List, [], ◌∷◌, Some, refl, sym, ap, ◌∙◌, subst, arith}
+use Rattle.std.{proofs.Common.{◌++◌, true, false, cond}, specs.Prelude.nat_le, specs.Fn.{Called, Mut, Takes}}
 use Rattle.std.proofs.lemmas.Bool.{le-leb, lt-leb}
-use Rattle.hashlink_model.specs.MapState.{MapState}
-use Rattle.hashlink_model.specs.Steps.{PopsFront}
-use Rattle.hashlink_model.specs.Weights.{fitting, total_weight}
+use Rattle.hashlink_model.specs.{MapState.MapState, Steps.PopsFront, Weights.{fitting, total_weight}}
 use Rattle.hashlink_model.proofs.Pops.{pops_front}
-use Rattle.hashlink_weighted.specs.Evicted.{IsGivenEach, TakesEach, not_fitting}
-use Rattle.hashlink_weighted.specs.Weighed.{LastWeighs}
+use Rattle.hashlink_weighted.specs.{Evicted.{IsGivenEach, TakesEach, not_fitting}, Weighed.LastWeighs}
 use Rattle.hashlink_weighted.proofs.Dropping.{total-last}
 
 module _ {K V : Type 0} where

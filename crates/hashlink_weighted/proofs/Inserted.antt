@@ -1,19 +1,11 @@
 -- An insert into the map with a weight, and the fitting end after it.
 use Rattle.std.proofs.Common.{◌≡◌, ℕ, ◌-◌, ◌≤◌, Bool, List, Option, Some, length, refl, sym, ap, subst, arith}
-use Rattle.std.proofs.Common.{◌∙◌}
-use Rattle.std.specs.Map.{lookup}
-use Rattle.hashlink_model.specs.Cache.{InsertsLast}
-use Rattle.hashlink_model.specs.Entries.{put, without, stored_key}
-use Rattle.hashlink_model.specs.MapState.{MapState}
-use Rattle.hashlink_model.specs.Steps.{KeepsOnly}
-use Rattle.hashlink_model.specs.Walk.{last_of}
-use Rattle.hashlink_model.specs.Weights.{total_weight, fitting, weighted_put}
-use Rattle.hashlink_model.proofs.CacheSteps.{put_entries, put_answer}
-use Rattle.hashlink_model.proofs.Puts.{put_back}
-use Rattle.hashlink_model.proofs.Weighted.{fitting-end, length-weighted_put}
-use Rattle.hashlink_weighted.specs.Answers.{Accepts, without_weight}
-use Rattle.hashlink_weighted.specs.Weighed.{LastWeighs, weight_or_none}
-use Rattle.hashlink_model.proofs.Places.{last_of-append, last_of-end}
+use Rattle.std.{proofs.Common.◌∙◌, specs.Map.lookup}
+use Rattle.hashlink_model.specs.{Cache.InsertsLast, Entries.{put, without, stored_key}, MapState.MapState}
+use Rattle.hashlink_model.specs.{Steps.KeepsOnly, Walk.last_of, Weights.{total_weight, fitting, weighted_put}}
+use Rattle.hashlink_model.proofs.{CacheSteps.{put_entries, put_answer}, Places.{last_of-append, last_of-end}}
+use Rattle.hashlink_model.proofs.{Puts.put_back, Weighted.{fitting-end, length-weighted_put}}
+use Rattle.hashlink_weighted.specs.{Answers.{Accepts, without_weight}, Weighed.{LastWeighs, weight_or_none}}
 use Rattle.hashlink_weighted.proofs.Totals.{last_weighs, total-without}
 
 module _ {K V S : Type 0} (eq : K → K → Bool) (old between : MapState K (V × ℕ) S) (k : K) (v : V)

@@ -1,17 +1,9 @@
 -- A key that moved to the end with its value unchanged.
-use Rattle.std.specs.Prelude.{◌≡◌, Bool, true, Option, None, Some, length, is_some, refl}
-use Rattle.std.specs.Option.{option_map}
-use Rattle.std.specs.Map.{lookup}
-use Rattle.std.proofs.Common.{ap, ◌∙◌}
-use Rattle.hashlink_model.specs.Entries.{without, stored_key}
-use Rattle.hashlink_model.specs.MapState.{MapState}
-use Rattle.hashlink_model.specs.Steps.{MovesMatch}
-use Rattle.hashlink_model.specs.Walk.{last_of}
-use Rattle.hashlink_model.proofs.Afterwards.{moved-there}
-use Rattle.hashlink_model.proofs.NodeCounts.{moves_entries}
-use Rattle.hashlink_model.proofs.Puts.{put_back}
-use Rattle.hashlink_model.proofs.Splits.{stands_from_lookup}
-use Rattle.hashlink_model.proofs.Places.{last_of-end}
+use Rattle.std.specs.{Prelude.{◌≡◌, Bool, true, Option, None, Some, length, is_some, refl}, Option.option_map}
+use Rattle.std.{specs.Map.lookup, proofs.Common.{ap, ◌∙◌}}
+use Rattle.hashlink_model.specs.{Entries.{without, stored_key}, MapState.MapState, Steps.MovesMatch}
+use Rattle.hashlink_model.{specs.Walk.last_of, proofs.Afterwards.moved-there, proofs.NodeCounts.moves_entries}
+use Rattle.hashlink_model.proofs.{Puts.put_back, Splits.stands_from_lookup, Places.last_of-end}
 
 -- a present key is the last one afterwards, with its value
 pub last_value_match : {K V S : Type 0} (test : K → Bool) (old new : MapState K V S)

@@ -1,16 +1,12 @@
 -- Sums of weights after an entry left, was inserted last or moved last.
 use Rattle.std.proofs.Common.{◌≡◌, ℕ, ◌+◌, ◌-◌, ◌≤◌, Bool, List, [], ◌∷◌, ◌++◌, length, Option, None, Some}
-use Rattle.std.proofs.Common.{refl, sym, ap, subst, ◌∙◌, arith}
+use Rattle.std.proofs.{Common.{refl, sym, ap, subst, ◌∙◌, arith}, lemmas.Option.same_Some}
 use Rattle.std.specs.Map.{lookup, lookup_entry, remove_entry}
 use Rattle.std.proofs.lemmas.List.Sums.{sum_by-cons, sum_by-append}
-use Rattle.std.proofs.lemmas.Option.{same_Some}
-use Rattle.hashlink_model.specs.Entries.{put, moved_match, without, stored_key}
-use Rattle.hashlink_model.specs.MapState.{MapState}
-use Rattle.hashlink_model.specs.Steps.{RemovesMatch, MovesMatch}
-use Rattle.hashlink_model.specs.Weights.{total_weight}
 use Rattle.hashlink_model.proofs.Splits.{stands_from_lookup, none_from_lookup, remove_entry-none}
-use Rattle.hashlink_model.proofs.Splits.{remove_entry-here, lookup-here}
-use Rattle.hashlink_model.proofs.Afterwards.{moved-there}
+use Rattle.hashlink_model.specs.{Entries.{put, moved_match, without, stored_key}, MapState.MapState}
+use Rattle.hashlink_model.specs.{Steps.{RemovesMatch, MovesMatch}, Weights.total_weight}
+use Rattle.hashlink_model.proofs.{Splits.{remove_entry-here, lookup-here}, Afterwards.moved-there}
 use Rattle.hashlink_model.proofs.Puts.{put_back}
 use Rattle.hashlink_map.proofs.Outcomes.{removes_entries}
 use Rattle.hashlink_weighted.specs.Weighed.{HasTotal, LastWeighs, weight_or_none}

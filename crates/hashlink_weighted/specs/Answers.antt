@@ -1,6 +1,5 @@
 -- An insert within a budget, by its result.
-use Rattle.std.specs.Prelude.{◌≡◌, ℕ, Bool, List, codes, Option, Result, MatchResult}
-use Rattle.std.specs.Map.{lookup}
+use Rattle.std.specs.{Prelude.{◌≡◌, ℕ, Bool, List, codes, Option, Result, MatchResult}, Map.lookup}
 use Rattle.std.specs.Option.{option_map}
 use Rattle.hashlink_model.specs.Weights.{WeightedState, WeightedInserts, WeightedRefuses, IsTooHeavy}
 use Rattle.hashlink_weighted.specs.declared.error.WeightError.{WeightError}

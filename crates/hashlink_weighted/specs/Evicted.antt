@@ -1,9 +1,7 @@
 -- The entries that an insert within a budget evicts, and the calls of a closure on each evicted pair.
 use Rattle.std.specs.Prelude.{◌≡◌, ℕ, Bool, List, [], ◌∷◌, ◌++◌, length, if◌then◌else◌, nat_le}
-use Rattle.std.specs.Fn.{Called, Mut, Takes}
-use Rattle.std.specs.List.{FoldsTo}
-use Rattle.hashlink_model.specs.Entries.{put}
-use Rattle.hashlink_model.specs.Weights.{WeightedState, total_weight}
+use Rattle.std.specs.{Fn.{Called, Mut, Takes}, List.FoldsTo}
+use Rattle.hashlink_model.specs.{Entries.put, Weights.{WeightedState, total_weight}}
 
 module _ {K V : Type 0} where
   -- the entries before the longest end that fits

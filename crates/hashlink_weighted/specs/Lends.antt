@@ -1,13 +1,11 @@
 -- The state in which a cache ends, after the loan of a value has ended.
-use Rattle.std.specs.Prelude.{Bool, ⊤}
-use Rattle.std.specs.Borrow.{Fml, RattleType, MutBor, follows_so}
+use Rattle.std.specs.{Prelude.{Bool, ⊤}, Borrow.{Fml, RattleType, MutBor, follows_so}}
 use mathlib.Core.Option.{none}
 use Rattle.std.specs.declared.hash.Hasher as hasher
 use Rattle.std.specs.declared.hash.BuildHasher as builder
 use Rattle.hashlink_model.specs.Weights.{WeightedState}
 use Rattle.hashlink_core.specs.KeyedLends.{HashMembers}
-use Rattle.hashlink_weighted.specs.contracts.cache.WeightedCache.{the_row}
-use Rattle.hashlink_weighted.specs.Weighed.{WeightedGetsMatch}
+use Rattle.hashlink_weighted.specs.{contracts.cache.WeightedCache.the_row, Weighed.WeightedGetsMatch}
 
 module _ (K V S T : RattleType) (g : HashMembers K.Denot) (b : builder.Ghosts S.Denot T.Denot)
     (w : hasher.Ghosts T.Denot) where

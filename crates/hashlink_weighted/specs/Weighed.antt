@@ -1,9 +1,7 @@
 -- What holds for the entries inside a cache with a budget, and how an iterator shows them.
 use Rattle.std.specs.Prelude.{◌≡◌, ℕ, ◌≤◌, List, [], ◌∷◌, ◌++◌, length, Option, None, Some, Bool}
-use Rattle.std.specs.Borrow.{Bor}
-use Rattle.std.specs.Map.{lookup, lookup_entry}
-use Rattle.hashlink_model.specs.MapState.{empty_map}
-use Rattle.hashlink_model.specs.Steps.{MovesMatch, RemovesMatch}
+use Rattle.std.specs.{Borrow.Bor, Map.{lookup, lookup_entry}}
+use Rattle.hashlink_model.specs.{MapState.empty_map, Steps.{MovesMatch, RemovesMatch}}
 use Rattle.hashlink_model.specs.Weights.{WeightedState, total_weight}
 
 -- a new cache: no entries, no memory allocated, and a budget

@@ -1,8 +1,7 @@
 //! The cache: a map whose values carry their weights, a budget, and the sum of the weights. A contract sees
 //! the map's state and the budget. The front of the map is the least recently used entry.
 ghost use Rattle.std.specs.Prelude.{◌≡◌, ◌^◌, ◌<◌, ◌≤◌, ◌↔◌, length, IsTrue};
-ghost use Rattle.hashlink_model.specs.Entries.{IsEntries};
-ghost use Rattle.hashlink_model.specs.Weights.{total_weight};
+ghost use Rattle.hashlink_model.specs.{Entries.IsEntries, Weights.total_weight};
 ghost use Rattle.hashlink_weighted.specs.Weighed.{entries_of, empty_weighted};
 
 mod emptied;

@@ -1,12 +1,9 @@
 //! Consequences of the contract of an insert within a budget. Nothing here is for users.
 ghost use Rattle.std.specs.Prelude.{◌≡◌, ℕ, ◌<◌, ◌≤◌, ◌++◌, Bool, Option, Result, None, Some, Ok, Err};
-ghost use Rattle.std.specs.Prelude.{length};
-ghost use Rattle.std.specs.Map.{lookup};
-ghost use Rattle.hashlink_model.specs.Entries.{put, stored_key};
-ghost use Rattle.hashlink_model.specs.Walk.{last_of};
+ghost use Rattle.std.specs.{Prelude.length, Map.lookup};
+ghost use Rattle.hashlink_model.specs.{Entries.{put, stored_key}, Walk.last_of};
 ghost use Rattle.hashlink_model.specs.Weights.{WeightedState, total_weight, weighted_put};
-ghost use Rattle.hashlink_weighted.specs.Answers.{InsertsWithin, without_weight};
-ghost use Rattle.hashlink_weighted.specs.Evicted.{evicted_by};
+ghost use Rattle.hashlink_weighted.specs.{Answers.{InsertsWithin, without_weight}, Evicted.evicted_by};
 ghost use Rattle.hashlink_weighted.specs.declared.error.WeightError.{WeightError};
 ghost use Rattle.hashlink_weighted.specs.declared.error.WeightError.TheVariants.{TooHeavy, Memory};
 

@@ -1,16 +1,12 @@
 -- A trace, read line by line.
 use Rattle.std.proofs.Common.{◌≡◌, ℕ, suc, ◌-◌, ◌<◌, Bool, true, false, cond, ◌&&◌, List, [], ◌∷◌, ◌++◌}
 use Rattle.std.proofs.Common.{length, take, map, filter, Option, None, Some, IfSome, refl, sym, ap, ap₂, ◌∙◌}
-use Rattle.std.proofs.Common.{subst, arith, append_assoc, eqb, get_or, nat_lt, nat_eq}
-use Rattle.std.specs.Prelude.{Vec}
-use Rattle.std.specs.Cmp.Lexicographic.{pointwise}
+use Rattle.std.{proofs.Common.{subst, arith, append_assoc, eqb, get_or, nat_lt, nat_eq}, specs.Prelude.Vec}
+use Rattle.std.specs.{Cmp.Lexicographic.pointwise, Io.KnownBytes.IsAtEnd}
 use Rattle.std.specs.Io.BufRead.{take_through, drop_through, strip_last, first_piece, DropsThrough}
-use Rattle.std.specs.Io.KnownBytes.{IsAtEnd}
-use Rattle.std.proofs.lemmas.Bool.Decides.{nat_tests}
-use Rattle.std.proofs.lemmas.List.{append-nil, map-append}
+use Rattle.std.proofs.lemmas.{Bool.Decides.nat_tests, List.{append-nil, map-append}}
 use Rattle.std.proofs.lemmas.List.Elements.{filter-append}
-use Rattle.hashlink_curve.specs.Curve.{CurveState, Counted}
-use Rattle.hashlink_curve.proofs.MappedKeys.{Counted-map}
+use Rattle.hashlink_curve.{specs.Curve.{CurveState, Counted}, proofs.MappedKeys.Counted-map}
 use Rattle.misscurve.specs.Trace.{CountsLine, CountsTrace, is_picked, lines_of, of_bytes, same_bytes}
 
 -- ---- the first line

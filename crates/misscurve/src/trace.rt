@@ -1,8 +1,6 @@
 //! Reads a trace.
-ghost use Rattle.std.specs.Prelude.{◌≡◌, ◌<◌, length, IfOk, OnOk, IfSome};
-ghost use Rattle.std.specs.Bool.{OnTrue, OnFalse};
-ghost use Rattle.std.specs.Io.BufRead.{take_through, strip_last, DropsThrough};
-ghost use Rattle.std.specs.Io.KnownBytes.{IsAtEnd};
+ghost use Rattle.std.specs.{Prelude.{◌≡◌, ◌<◌, length, IfOk, OnOk, IfSome}, Bool.{OnTrue, OnFalse}};
+ghost use Rattle.std.specs.Io.{BufRead.{take_through, strip_last, DropsThrough}, KnownBytes.IsAtEnd};
 ghost use Rattle.misscurve.specs.Trace.{CountsLine, CountsTrace, is_picked, mixed};
 
 use crate::faults::Fault;

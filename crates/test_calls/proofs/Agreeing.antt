@@ -1,10 +1,7 @@
 -- How many nodes agree with a hash, after each insert of a node.
-use Rattle.std.proofs.Common.{◌≡◌, ℕ, ◌+◌, ◌%◌, ◌∷◌, cond, eqb, ◌∙◌, arith}
-use Rattle.std.specs.Prelude.{IsPermutation}
-use Rattle.std.proofs.lemmas.List.Sorted.{sum_by-IsPermutation}
-use Rattle.std.proofs.lemmas.List.Sums.{sum_by-cons}
-use Rattle.hashlink_table.specs.declared.hashed.Hashed.{Hashed}
-use Rattle.hashlink_table.specs.Contents.{Contents, agreeing}
+use Rattle.std.{proofs.Common.{◌≡◌, ℕ, ◌+◌, ◌%◌, ◌∷◌, cond, eqb, ◌∙◌, arith}, specs.Prelude.IsPermutation}
+use Rattle.std.proofs.lemmas.List.{Sorted.sum_by-IsPermutation, Sums.sum_by-cons}
+use Rattle.hashlink_table.specs.{declared.hashed.Hashed.Hashed, Contents.{Contents, agreeing}}
 
 -- one more node agrees, or none
 pub agreeing_inserted : {N : Type 0} (old new : Contents N) (hash : ℕ) (node : N)

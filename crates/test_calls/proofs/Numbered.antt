@@ -1,12 +1,9 @@
 -- A table of the numbers from 1 on, each with itself as its hash, for the tests.
 use Rattle.std.proofs.Common.{◌≡◌, ℕ, ◌+◌, ◌%◌, ◌<◌, ◌≤◌, [], ◌∷◌, cond, eqb, ◌⊎◌, inl, inr, refl, sym, ap}
-use Rattle.std.proofs.Common.{◌∙◌, arith}
-use Rattle.std.specs.Prelude.{IsPermutation}
-use Rattle.std.proofs.lemmas.Bool.{cases_eq, cases_lt, eq-eqb, ne_eqb}
+use Rattle.std.{proofs.Common.{◌∙◌, arith}, specs.Prelude.IsPermutation}
+use Rattle.std.proofs.{lemmas.Bool.{cases_eq, cases_lt, eq-eqb, ne_eqb}, Math.Nat.{mod-eq_of_lt, mod_self}}
 use Rattle.std.proofs.lemmas.List.Sorted.{length_permutation, sum_by-IsPermutation}
-use Rattle.std.proofs.Math.Nat.{mod-eq_of_lt, mod_self}
-use Rattle.hashlink_table.specs.declared.hashed.Hashed.{Hashed}
-use Rattle.hashlink_table.specs.Contents.{Contents, agreeing, len_of}
+use Rattle.hashlink_table.specs.{declared.hashed.Hashed.Hashed, Contents.{Contents, agreeing, len_of}}
 use Rattle.test_calls.proofs.Agreeing.{agreeing_inserted}
 
 -- the numbers from 1 to n - 1 were inserted, each with itself as its hash, and n is at most 501: no two of

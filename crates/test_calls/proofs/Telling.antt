@@ -2,8 +2,7 @@
 use Rattle.std.proofs.Common.{◌≡◌, ℕ, suc, zero, [], ◌∷◌, sym, ap, ◌∙◌, arith}
 use Rattle.std.specs.Prelude.{IsPermutation, Contains}
 use Rattle.std.proofs.lemmas.List.Sorted.{Contains-permutation, IsPermutation-sym}
-use Rattle.hashlink_table.specs.declared.hashed.Hashed.{Hashed}
-use Rattle.hashlink_table.specs.Contents.{Contents, len_of}
+use Rattle.hashlink_table.specs.{declared.hashed.Hashed.Hashed, Contents.{Contents, len_of}}
 use Rattle.test_calls.specs.Telling.{Tells}
 
 module _ {N : Type 0} (told : N → ℕ) where

@@ -1,7 +1,5 @@
 //! How often a map compares keys whose hashes are all different.
-ghost use Rattle.std.specs.Prelude.{◌==◌};
-ghost use Rattle.std.proofs.Common.{rules};
-ghost use Rattle.std.specs.Cmp.Rules.{comparing, hashing};
+ghost use Rattle.std.{specs.Prelude.◌==◌, proofs.Common.rules, specs.Cmp.Rules.{comparing, hashing}};
 ghost use Rattle.std.specs.Hash as fed;
 ghost use Rattle.test_calls.specs.OwnNumber.{number_of};
 

@@ -1,8 +1,6 @@
 //! The iterators over the keys and over the values of a keyed list.
-ghost use Rattle.std.specs.Prelude.{◌≡◌, Some, IfSome, length, map, ⊤};
-ghost use Rattle.std.specs.Iterator.{at_most, UpTo};
-ghost use Rattle.std.specs.Iterator.SizeHint.{IsWithinCount};
-ghost use Rattle.std.specs.Map.Iter.{TakesFirst, TakesLast, deref};
+ghost use Rattle.std.specs.{Prelude.{◌≡◌, Some, IfSome, length, map, ⊤}, Iterator.{at_most, UpTo}};
+ghost use Rattle.std.specs.{Iterator.SizeHint.IsWithinCount, Map.Iter.{TakesFirst, TakesLast, deref}};
 
 use super::Iter;
 use std::alloc::AllocError;

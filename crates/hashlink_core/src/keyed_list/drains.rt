@@ -1,8 +1,7 @@
 //! Calls that take the nodes of a keyed list out, to drain them, and that put them back.
 ghost use Rattle.std.specs.Prelude.{◌≡◌};
 ghost use Rattle.hashlink_model.specs.Steps.{Drains};
-ghost use Rattle.hashlink_core.specs.Keyed.{state_of, IsKeyed};
-ghost use Rattle.hashlink_core.specs.Drained.{with_drained, FitsBack};
+ghost use Rattle.hashlink_core.specs.{Keyed.{state_of, IsKeyed}, Drained.{with_drained, FitsBack}};
 
 use super::KeyedList;
 use crate::drained::DrainedNodes;

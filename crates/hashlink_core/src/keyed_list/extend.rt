@@ -1,6 +1,5 @@
 //! Inserts of many pairs in turn, each by `insert`.
-ghost use Rattle.std.specs.Prelude.{List, [], None, OnOk, IfErr};
-ghost use Rattle.std.specs.Iterator.{IsFinite, Yields, YieldsThen};
+ghost use Rattle.std.specs.{Prelude.{List, [], None, OnOk, IfErr}, Iterator.{IsFinite, Yields, YieldsThen}};
 ghost use Rattle.hashlink_model.specs.Many.{AcceptsAll, StopsAt, InsertsPair};
 ghost use Rattle.hashlink_core.specs.Keyed.{state_of};
 

@@ -1,7 +1,6 @@
 //! The room and the free nodes of a keyed list.
 ghost use Rattle.std.specs.Prelude.{◌≡◌, ◌+◌, ◌<◌, ◌≤◌, ◌↔◌, [], length, Ok, Err, IsOk, OnOk, OnErr};
-ghost use Rattle.hashlink_core.specs.Keyed.{entries_of, IsKeyed};
-ghost use Rattle.hashlink_core.specs.Steps.{GrowsRoom};
+ghost use Rattle.hashlink_core.specs.{Keyed.{entries_of, IsKeyed}, Steps.GrowsRoom};
 ghost use Rattle.hashlink_table.specs.declared.error.TryReserveError.TheVariants.{CapacityOverflow};
 ghost use Rattle.hashlink_table.specs.declared.table.TheConstants.{MAX_ROOM};
 

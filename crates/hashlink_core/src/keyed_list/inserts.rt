@@ -1,10 +1,8 @@
 //! Inserts of a pair by its key. Each call hashes the key once, and looks it up as `find` does.
 ghost use Rattle.std.specs.Prelude.{◌≡◌, ◌↔◌, length, Option, Some, IsTrue};
-ghost use Rattle.hashlink_model.specs.MapState.{Inserts};
-ghost use Rattle.hashlink_model.specs.Steps.{Replaces};
-ghost use Rattle.hashlink_core.specs.Keyed.{entries_of, state_of, IsKeyed};
+ghost use Rattle.hashlink_model.specs.{MapState.Inserts, Steps.Replaces};
+ghost use Rattle.hashlink_core.specs.{Keyed.{entries_of, state_of, IsKeyed}, Steps.KeepsPlace};
 ghost use Rattle.hashlink_core.specs.Places.{Node, Holds, IsPlace, place_number};
-ghost use Rattle.hashlink_core.specs.Steps.{KeepsPlace};
 
 use super::{KeyedList, MARKED};
 use hashlink_nodes::Node;

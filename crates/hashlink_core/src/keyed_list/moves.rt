@@ -1,16 +1,10 @@
 //! Inserts, moves and removals of entries by their nodes.
 ghost use Rattle.std.specs.Prelude.{◌≡◌, [], length, slice_get, eqb, None, Some, IfOk, IfErr, OnErr};
-ghost use Rattle.std.specs.Option.{option_map};
-ghost use Rattle.std.specs.Map.{lookup, remove_entry};
-ghost use Rattle.hashlink_model.specs.Cursor.{following_place};
-ghost use Rattle.hashlink_model.specs.Entries.{place_of};
-ghost use Rattle.hashlink_nodes.specs.Node.{same_node};
-ghost use Rattle.hashlink_nodes.specs.Ring.{Holds, IsPlace};
-ghost use Rattle.hashlink_core.specs.Keyed.{entries_of, state_of, IsKeyed};
-ghost use Rattle.hashlink_core.specs.Places.{place_number};
-ghost use Rattle.hashlink_core.specs.Steps.{AddsNode, RemovesNode, MovesNode, GrowsRoom};
-ghost use Rattle.hashlink_core.specs.Tied.{hash_with};
-ghost use Rattle.hashlink_model.specs.Steps.{Clears};
+ghost use Rattle.std.specs.{Option.option_map, Map.{lookup, remove_entry}};
+ghost use Rattle.hashlink_model.specs.{Cursor.following_place, Entries.place_of, Steps.Clears};
+ghost use Rattle.hashlink_nodes.specs.{Node.same_node, Ring.{Holds, IsPlace}};
+ghost use Rattle.hashlink_core.specs.{Keyed.{entries_of, state_of, IsKeyed}, Places.place_number};
+ghost use Rattle.hashlink_core.specs.{Steps.{AddsNode, RemovesNode, MovesNode, GrowsRoom}, Tied.hash_with};
 
 use super::{KeyedList, MARKED, short_hash};
 use hashlink_nodes::Node;

@@ -1,19 +1,11 @@
 //! Reads of a keyed list.
 ghost use Rattle.std.specs.Prelude.{◌≡◌, ◌+◌, ◌-◌, ◌<◌, ◌^◌, length, slice_get, None, Some, IfSome};
-ghost use Rattle.std.specs.Prelude.{MatchOption};
-ghost use Rattle.std.specs.Borrow.{Bor};
-ghost use Rattle.std.specs.Fn.{FnReturnsAt};
-ghost use Rattle.std.specs.Map.{lookup, keys_of, values_of};
-ghost use Rattle.std.specs.Option.{ForSome};
-ghost use Rattle.std.specs.Map.Iter.{ShowsInOrder, ShowsInReverse, deref, deref_pair};
-ghost use Rattle.hashlink_model.specs.Cursor.{following_place, preceding_place};
-ghost use Rattle.hashlink_model.specs.Entries.{place_of};
-ghost use Rattle.hashlink_nodes.specs.Node.{same_node};
-ghost use Rattle.hashlink_nodes.specs.Ring.{Holds, IsPlace};
-ghost use Rattle.hashlink_core.specs.Keyed.{entries_of, HoldsKey, HoldsMatch, IsKeyed};
-ghost use Rattle.hashlink_core.specs.Places.{place_number, IsPlaceAt};
-ghost use Rattle.hashlink_core.specs.Tied.{hash_with};
-ghost use Rattle.hashlink_core.specs.Telling.{Tells};
+ghost use Rattle.std.specs.{Prelude.MatchOption, Map.Iter.{ShowsInOrder, ShowsInReverse, deref, deref_pair}};
+ghost use Rattle.std.specs.{Borrow.Bor, Fn.FnReturnsAt, Map.{lookup, keys_of, values_of}, Option.ForSome};
+ghost use Rattle.hashlink_model.specs.{Cursor.{following_place, preceding_place}, Entries.place_of};
+ghost use Rattle.hashlink_nodes.specs.{Node.same_node, Ring.{Holds, IsPlace}};
+ghost use Rattle.hashlink_core.specs.{Keyed.{entries_of, HoldsKey, HoldsMatch, IsKeyed}, Tied.hash_with};
+ghost use Rattle.hashlink_core.specs.{Places.{place_number, IsPlaceAt}, Telling.Tells};
 
 use super::{KeyedList, short_hash};
 use crate::equivalent::Equivalent;

@@ -1,9 +1,7 @@
 //! Removals by key and at the ends, and the owning iterator. The other entries keep their order. Each removal
 //! leaves a free node, which the next insert of an absent key uses. No call allocates.
-ghost use Rattle.std.specs.Prelude.{◌≡◌, IfSome};
-ghost use Rattle.std.specs.Map.{lookup};
-ghost use Rattle.hashlink_nodes.specs.Node.{same_node};
-ghost use Rattle.hashlink_nodes.specs.Ring.{Holds};
+ghost use Rattle.std.specs.{Prelude.{◌≡◌, IfSome}, Map.lookup};
+ghost use Rattle.hashlink_nodes.specs.{Node.same_node, Ring.Holds};
 ghost use Rattle.hashlink_model.specs.Steps.{RemovesMatch, PopsFront, PopsBack};
 ghost use Rattle.hashlink_core.specs.Keyed.{state_of, entries_of, IsKeyed};
 

@@ -1,12 +1,9 @@
 //! Changes of an entry that stays at its place.
-ghost use Rattle.std.specs.Prelude.{◌≡◌, slice_get, Some};
-ghost use Rattle.std.specs.Borrow.{sem};
-ghost use Rattle.std.specs.Option.{option_map};
+ghost use Rattle.std.specs.{Prelude.{◌≡◌, slice_get, Some}, Borrow.sem, Option.option_map};
 ghost use Rattle.hashlink_nodes.specs.Ring.{Holds};
 ghost use Rattle.hashlink_model.specs.Entry.{ReplacesEntry};
 ghost use Rattle.hashlink_core.specs.Keyed.{entries_of, state_of, EqualsKeyAt, HoldsKey, IsKeyed};
-ghost use Rattle.hashlink_core.specs.Places.{place_number, renewed_at};
-ghost use Rattle.hashlink_core.specs.Steps.{WritesNode, SetsNodeKey};
+ghost use Rattle.hashlink_core.specs.{Places.{place_number, renewed_at}, Steps.{WritesNode, SetsNodeKey}};
 
 use super::KeyedList;
 use hashlink_nodes::Node;

@@ -1,13 +1,9 @@
 //! The methods of `CursorMut`.
 ghost use Rattle.std.specs.Prelude.{◌≡◌, IfOk, IfErr, IfSome, IfNone, OnOk, Some, length, slice_get};
-ghost use Rattle.std.specs.Borrow.{sem};
-ghost use Rattle.std.specs.Option.{option_map, option_copied_mut};
-ghost use Rattle.std.specs.Map.Iter.{deref_pair};
-ghost use Rattle.hashlink_model.specs.Cursor.{at_place, entry_in, place_next, place_previous};
-ghost use Rattle.hashlink_model.specs.Cursor.{InsertsBefore, InsertsAfter};
-ghost use Rattle.hashlink_model.specs.Lookups.{Updates};
-ghost use Rattle.hashlink_core.specs.Keyed.{entries_of};
-ghost use Rattle.hashlink_core.specs.Places.{Holds, IsPlace, place_number};
+ghost use Rattle.std.specs.{Borrow.sem, Option.{option_map, option_copied_mut}, Map.Iter.deref_pair};
+ghost use Rattle.hashlink_model.specs.Cursor.{at_place, entry_in, place_next, place_previous, InsertsBefore};
+ghost use Rattle.hashlink_model.specs.{Cursor.InsertsAfter, Lookups.Updates};
+ghost use Rattle.hashlink_core.specs.{Keyed.entries_of, Places.{Holds, IsPlace, place_number}};
 
 use super::CursorMut;
 use crate::raw_entry::RawOccupiedEntryMut;
@@ -15,12 +11,10 @@ use hashlink_core::Node;
 use std::hash::{BuildHasher, Hash};
 
 impl<'a, K: Eq + Hash, V, S: BuildHasher> CursorMut<'a, K, V, S> {
-    ghost use Rattle.hashlink_map.specs.Cursor.{cursor_map, cursor_state, lent_pair};
-    ghost use Rattle.hashlink_map.specs.Cursor.{TakesPlace, LentAt};
     ghost use Rattle.hashlink_map.specs.CursorLends.{LendsFromCursor, LendsPairFromCursor, LendsAtCursorNode};
+    ghost use Rattle.hashlink_map.specs.Cursor.{cursor_map, cursor_state, lent_pair, TakesPlace, LentAt};
     ghost use Rattle.hashlink_map.specs.CursorLends.{LendsNextPair, LendsPreviousPair};
-    ghost use Rattle.hashlink_map.specs.RawLends.{HandsOnOccupied};
-    ghost use Rattle.hashlink_map.specs.RawEntry.{raw_occupied_map, raw_place};
+    ghost use Rattle.hashlink_map.specs.{RawLends.HandsOnOccupied, RawEntry.{raw_occupied_map, raw_place}};
     ghost use Rattle.hashlink_model.specs.Entry.{value_at};
 
     /// Moves to the next place: from the entry at the back to the guard, and from the guard to the entry at

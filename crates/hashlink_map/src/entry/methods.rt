@@ -1,15 +1,10 @@
 //! `entry`, and the methods of `Entry`.
-ghost use Rattle.std.specs.Prelude.{◌≡◌, None, Some, Ok, IfOk, IfErr, unwrap_or};
-ghost use Rattle.std.specs.Borrow.{sem, MutBor};
-ghost use Rattle.std.specs.Option.{UnwrapsOrElse};
-ghost use Rattle.std.specs.Map.{lookup};
-ghost use Rattle.hashlink_model.specs.Entries.{IsEntries, stored_key};
-ghost use Rattle.hashlink_model.specs.Entry.{entry_of};
-ghost use Rattle.hashlink_model.specs.Lookups.{UpdatesLast};
+ghost use Rattle.std.specs.{Prelude.{◌≡◌, None, Some, Ok, IfOk, IfErr, unwrap_or}, Borrow.{sem, MutBor}};
+ghost use Rattle.std.specs.{Option.UnwrapsOrElse, Map.lookup};
+ghost use Rattle.hashlink_model.specs.{Entries.{IsEntries, stored_key}, Entry.entry_of, Lookups.UpdatesLast};
 ghost use Rattle.hashlink_core.specs.Keyed.{state_of, entries_of};
 ghost use Rattle.hashlink_map.specs.Entry.{entry_map, entry_state, entry_value, Modifies};
-ghost use Rattle.hashlink_map.specs.EntryLends.{LendsOrNew, LendsOrTryNew};
-ghost use Rattle.hashlink_map.specs.TryInsert.{HandsBack};
+ghost use Rattle.hashlink_map.specs.{EntryLends.{LendsOrNew, LendsOrTryNew}, TryInsert.HandsBack};
 
 use super::{Entry, OccupiedEntry, VacantEntry};
 use crate::map::LinkedHashMap;

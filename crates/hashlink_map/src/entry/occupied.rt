@@ -1,10 +1,8 @@
 //! Occupied entries. Each of their methods takes constant time, and none hashes or allocates.
-ghost use Rattle.std.specs.Prelude.{◌≡◌, ◌-◌, length, None, Some, IfOk};
-ghost use Rattle.std.specs.Borrow.{sem};
-ghost use Rattle.hashlink_model.specs.Lookups.{KeepsLookups, Updates, UpdatesLast};
-ghost use Rattle.hashlink_model.specs.MapState.{RemovesAt, MovesAt};
+ghost use Rattle.std.specs.{Prelude.{◌≡◌, ◌-◌, length, None, Some, IfOk}, Borrow.sem};
 ghost use Rattle.hashlink_model.specs.Entry.{key_at, value_at, InsertsValue, InsertsEntry, ReplacesEntry};
-ghost use Rattle.hashlink_model.specs.Entry.{ReplacesKey, TakesEntry};
+ghost use Rattle.hashlink_model.specs.Lookups.{KeepsLookups, Updates, UpdatesLast};
+ghost use Rattle.hashlink_model.specs.{MapState.{RemovesAt, MovesAt}, Entry.{ReplacesKey, TakesEntry}};
 ghost use Rattle.hashlink_core.specs.Keyed.{entries_of, state_of, HoldsKey};
 
 use crate::as_node::AsNode;
@@ -34,9 +32,7 @@ pub struct OccupiedEntry<
 
 impl<'a, K: Eq + Hash, V, S: BuildHasher> OccupiedEntry<'a, K, V, S> {
     ghost use Rattle.hashlink_map.specs.Entry.{occupied_map, occupied_place, occupied_state, occupied_with};
-    ghost use Rattle.hashlink_map.specs.Entry.{StandsAt};
-    ghost use Rattle.hashlink_map.specs.Entry.{IsWritten};
-    ghost use Rattle.hashlink_map.specs.Cursor.{cursor_map, cursor_state};
+    ghost use Rattle.hashlink_map.specs.{Entry.{StandsAt, IsWritten}, Cursor.{cursor_map, cursor_state}};
     ghost use Rattle.hashlink_map.specs.RawEntry.{raw_occupied_map, raw_place};
     ghost use Rattle.hashlink_map.specs.EntryLends.{LendsFromOccupied, LendsForGood, LendsLast};
 

@@ -1,11 +1,7 @@
 //! Vacant entries. None of their methods hashes.
-ghost use Rattle.std.specs.Prelude.{◌≡◌, None, Some, Ok, IfOk, IfErr, length};
-ghost use Rattle.std.specs.Borrow.{sem};
-ghost use Rattle.hashlink_model.specs.Entries.{place_of};
-ghost use Rattle.hashlink_model.specs.Lookups.{Updates, UpdatesLast};
-ghost use Rattle.hashlink_model.specs.MapState.{AddsEntry};
-ghost use Rattle.hashlink_core.specs.Keyed.{entries_of, state_of};
-ghost use Rattle.hashlink_core.specs.Tied.{hash_with};
+ghost use Rattle.std.specs.{Prelude.{◌≡◌, None, Some, Ok, IfOk, IfErr, length}, Borrow.sem};
+ghost use Rattle.hashlink_model.specs.{Entries.place_of, Lookups.{Updates, UpdatesLast}, MapState.AddsEntry};
+ghost use Rattle.hashlink_core.specs.{Keyed.{entries_of, state_of}, Tied.hash_with};
 
 use crate::map::LinkedHashMap;
 use crate::raw_entry::{RawOccupiedEntryMut, RawVacantEntryMut};
@@ -36,11 +32,9 @@ impl<K: Eq + Hash + Drop, V, S: BuildHasher> Drop for VacantEntry<'_, K, V, S> {
 }
 
 impl<'a, K: Eq + Hash, V, S: BuildHasher> VacantEntry<'a, K, V, S> {
-    ghost use Rattle.hashlink_map.specs.Entry.{vacant_map, vacant_state};
-    ghost use Rattle.hashlink_map.specs.EntryLends.{LendsNew, LendsTryNew};
-    ghost use Rattle.hashlink_map.specs.TryInsert.{HandsBack};
+    ghost use Rattle.hashlink_map.specs.{Entry.{vacant_map, vacant_state}, TryInsert.HandsBack};
+    ghost use Rattle.hashlink_map.specs.{EntryLends.{LendsNew, LendsTryNew}, RawLends.HandsOnNew};
     ghost use Rattle.hashlink_map.specs.RawEntry.{raw_occupied_map, raw_vacant_map, raw_place};
-    ghost use Rattle.hashlink_map.specs.RawLends.{HandsOnNew};
 
     /// Returns a reference to the given key. It takes constant time.
     pub fn key(&self) -> &K

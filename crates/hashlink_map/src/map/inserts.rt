@@ -1,12 +1,8 @@
 //! Inserts. Each of them hashes the key once, and looks it up as `get` does.
 ghost use Rattle.std.specs.Prelude.{◌≡◌, [], ◌∷◌, ◌++◌, None, Some, IfOk, IfErr, IsOk, IsSome, OnOk, length};
-ghost use Rattle.std.specs.Borrow.{sem};
-ghost use Rattle.std.specs.Map.{lookup};
-ghost use Rattle.std.specs.Option.{UnwrapsOrElse};
-ghost use Rattle.hashlink_model.specs.Entries.{IsEntries, place_or_end, put};
-ghost use Rattle.hashlink_model.specs.Lookups.{Updates, UpdatesLast};
-ghost use Rattle.hashlink_model.specs.MapState.{Inserts};
-ghost use Rattle.hashlink_model.specs.Steps.{Replaces};
+ghost use Rattle.std.specs.{Borrow.sem, Map.lookup, Option.UnwrapsOrElse};
+ghost use Rattle.hashlink_model.specs.{Entries.{IsEntries, place_or_end, put}, MapState.Inserts};
+ghost use Rattle.hashlink_model.specs.{Lookups.{Updates, UpdatesLast}, Steps.Replaces};
 ghost use Rattle.hashlink_core.specs.Keyed.{state_of, entries_of};
 
 use super::LinkedHashMap;

@@ -1,12 +1,8 @@
 //! Moves of an entry to either end. A move hashes the key once, does not allocate, and stores at most six
 //! links.
-ghost use Rattle.std.specs.Prelude.{◌≡◌, IfSome, length};
-ghost use Rattle.std.specs.Borrow.{sem};
-ghost use Rattle.std.specs.Option.{option_copied_mut};
-ghost use Rattle.std.specs.Map.{lookup};
+ghost use Rattle.std.specs.{Prelude.{◌≡◌, IfSome, length}, Borrow.sem, Option.option_copied_mut, Map.lookup};
 ghost use Rattle.hashlink_core.specs.Keyed.{entries_of};
-ghost use Rattle.hashlink_model.specs.Entries.{IsEntries, moved_match};
-ghost use Rattle.hashlink_model.specs.Lookups.{KeepsLookups, UpdatesLent};
+ghost use Rattle.hashlink_model.specs.{Entries.{IsEntries, moved_match}, Lookups.{KeepsLookups, UpdatesLent}};
 
 use super::LinkedHashMap;
 use hashlink_core::Equivalent;

@@ -1,15 +1,10 @@
 //! Reads of a map. Each lookup hashes the key once, and looks at the entries of one bucket.
-ghost use Rattle.std.specs.Prelude.{◌≡◌, ◌-◌, [], length, None, IfNone, IfSome, MatchOption};
-ghost use Rattle.std.specs.Prelude.{is_some, option_copied};
-ghost use Rattle.std.specs.Borrow.{sem};
-ghost use Rattle.std.specs.Option.{option_map, option_copied_mut};
-ghost use Rattle.std.specs.Map.{lookup, lookup_entry};
-ghost use Rattle.std.specs.Map.Iter.{deref_pair};
-ghost use Rattle.hashlink_model.specs.Entries.{IsEntries, place_of};
-ghost use Rattle.hashlink_model.specs.Lookups.{UpdatesLent};
+ghost use Rattle.std.specs.Prelude.{◌≡◌, ◌-◌, [], length, None, IfNone, IfSome, MatchOption, is_some};
+ghost use Rattle.std.specs.{Prelude.option_copied, Borrow.sem, Option.{option_map, option_copied_mut}};
+ghost use Rattle.std.specs.{Map.{lookup, lookup_entry}, Map.Iter.deref_pair};
+ghost use Rattle.hashlink_model.specs.{Entries.{IsEntries, place_of}, Lookups.UpdatesLent};
 ghost use Rattle.hashlink_model.specs.Walk.{first_of, last_of};
-ghost use Rattle.hashlink_core.specs.Keyed.{entries_of, HoldsMatch};
-ghost use Rattle.hashlink_core.specs.Places.{IsPlaceAt};
+ghost use Rattle.hashlink_core.specs.{Keyed.{entries_of, HoldsMatch}, Places.IsPlaceAt};
 
 use super::LinkedHashMap;
 use hashlink_core::{Equivalent, Node};

@@ -1,10 +1,8 @@
 //! Removals. The other entries keep their order. Each removal except `clear` leaves a free node, which the
 //! next insert of an absent key uses. No removal allocates.
-ghost use Rattle.std.specs.Prelude.{◌≡◌, Contains, IfSome, None};
-ghost use Rattle.std.specs.Map.{lookup, lookup_entry, remove_entry};
+ghost use Rattle.std.specs.{Prelude.{◌≡◌, Contains, IfSome, None}, Map.{lookup, lookup_entry, remove_entry}};
 ghost use Rattle.std.specs.Map.Iter.{TakesFirst, TakesLast};
-ghost use Rattle.hashlink_model.specs.Entries.{IsEntries};
-ghost use Rattle.hashlink_model.specs.Lookups.{UpdatesBy, UpdatesPopped};
+ghost use Rattle.hashlink_model.specs.{Entries.IsEntries, Lookups.{UpdatesBy, UpdatesPopped}};
 ghost use Rattle.hashlink_model.specs.Steps.{RemovesMatch, PopsFront, PopsBack, Clears};
 ghost use Rattle.hashlink_core.specs.Keyed.{state_of, entries_of};
 

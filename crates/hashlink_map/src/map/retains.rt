@@ -2,9 +2,7 @@
 //! closure wrote. None of the methods allocates or hashes a key. Each removal leaves a free node, which a
 //! later insert of an absent key uses.
 ghost use Rattle.std.specs.Map.Calls.{CalledAtPair, TakesPair, CallableOnEachPair};
-ghost use Rattle.hashlink_model.specs.Entries.{IsEntries};
-ghost use Rattle.hashlink_model.specs.Lookups.{UpdatesKept};
-ghost use Rattle.hashlink_model.specs.Retain.{RetainsInOrder};
+ghost use Rattle.hashlink_model.specs.{Entries.IsEntries, Lookups.UpdatesKept, Retain.RetainsInOrder};
 ghost use Rattle.hashlink_core.specs.Keyed.{state_of, entries_of};
 
 use super::LinkedHashMap;

@@ -1,17 +1,10 @@
 //! Calls that find raw entries: by a query for the key, by its hash, or at either end.
-ghost use Rattle.std.specs.Prelude.{◌≡◌, ◌-◌, [], Some, IfSome, IfNone, MatchOption, length, ⊤};
-ghost use Rattle.std.specs.Borrow.{sem};
-ghost use Rattle.std.specs.Option.{option_map};
-ghost use Rattle.std.specs.Map.{keys_of, lookup_entry};
-ghost use Rattle.std.specs.Map.Iter.{deref_pair};
-ghost use Rattle.hashlink_model.specs.Entries.{IsEntries};
-ghost use Rattle.hashlink_model.specs.Entry.{raw_entry_of, raw_entry_match};
-ghost use Rattle.hashlink_core.specs.Keyed.{state_of, entries_of, PassesAt};
-ghost use Rattle.hashlink_core.specs.Telling.{Tells};
-ghost use Rattle.hashlink_core.specs.Tied.{hash_with};
+ghost use Rattle.std.specs.{Prelude.{◌≡◌, ◌-◌, [], Some, IfSome, IfNone, MatchOption, length, ⊤}, Borrow.sem};
+ghost use Rattle.std.specs.{Option.option_map, Map.{keys_of, lookup_entry}, Map.Iter.deref_pair};
+ghost use Rattle.hashlink_model.specs.{Entries.IsEntries, Entry.{raw_entry_of, raw_entry_match}};
+ghost use Rattle.hashlink_core.specs.{Keyed.{state_of, entries_of, PassesAt}, Telling.Tells, Tied.hash_with};
 ghost use Rattle.hashlink_map.specs.RawEntry.{read_map, found_map, raw_map, raw_state, raw_pair};
-ghost use Rattle.hashlink_map.specs.RawEntry.{raw_occupied_map, raw_place};
-ghost use Rattle.hashlink_map.specs.RawLends.{HandsOnOccupied};
+ghost use Rattle.hashlink_map.specs.{RawEntry.{raw_occupied_map, raw_place}, RawLends.HandsOnOccupied};
 
 use super::{RawEntryMut, RawOccupiedEntryMut, RawVacantEntryMut};
 use crate::map::LinkedHashMap;

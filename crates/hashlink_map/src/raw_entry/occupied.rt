@@ -1,11 +1,9 @@
 //! Occupied raw entries. Each of their methods takes constant time, and none hashes or allocates.
 ghost use Rattle.std.specs.Prelude.{◌≡◌, ◌-◌, length, slice_get, Some, Err, IfOk, IfErr, MatchResult};
-ghost use Rattle.std.specs.Borrow.{sem};
-ghost use Rattle.std.specs.Map.Iter.{deref_pair};
+ghost use Rattle.std.specs.{Borrow.sem, Map.Iter.deref_pair};
 ghost use Rattle.hashlink_model.specs.MapState.{RemovesAt, MovesAt};
 ghost use Rattle.hashlink_model.specs.Entry.{key_at, value_at, ReplacesKey, ReplacesValue, TakesEntry};
-ghost use Rattle.hashlink_core.specs.Keyed.{state_of};
-ghost use Rattle.hashlink_core.specs.Places.{Holds};
+ghost use Rattle.hashlink_core.specs.{Keyed.state_of, Places.Holds};
 
 use crate::as_node::AsNode;
 use crate::cursor::CursorMut;
@@ -29,11 +27,10 @@ pub struct RawOccupiedEntryMut<
 
 impl<'a, K: Eq + Hash, V, S: BuildHasher> RawOccupiedEntryMut<'a, K, V, S> {
     ghost use Rattle.hashlink_map.specs.RawEntry.{raw_occupied_map, raw_occupied_state, raw_place, raw_with};
-    ghost use Rattle.hashlink_map.specs.RawEntry.{RawIsWritten};
-    ghost use Rattle.hashlink_core.specs.Keyed.{EqualsKeyAt};
-    ghost use Rattle.hashlink_map.specs.Cursor.{cursor_map, cursor_state};
     ghost use Rattle.hashlink_map.specs.RawLends.{LendsFromRaw, RawLendsForGood, RawRestsForGood};
+    ghost use Rattle.hashlink_map.specs.{RawEntry.RawIsWritten, Cursor.{cursor_map, cursor_state}};
     ghost use Rattle.hashlink_map.specs.RawLends.{LendsPairOf};
+    ghost use Rattle.hashlink_core.specs.Keyed.{EqualsKeyAt};
 
     /// Returns a reference to the stored key. It takes constant time.
     pub fn key(&self) -> &K

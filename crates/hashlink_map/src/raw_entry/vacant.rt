@@ -1,11 +1,7 @@
 //! Vacant raw entries.
-ghost use Rattle.std.specs.Prelude.{◌≡◌, ◌∷◌, None, IfOk, IfErr, length};
-ghost use Rattle.std.specs.Borrow.{sem};
-ghost use Rattle.std.specs.List.{All};
-ghost use Rattle.std.specs.Map.{keys_of};
+ghost use Rattle.std.specs.{Prelude.{◌≡◌, ◌∷◌, None, IfOk, IfErr, length}, Borrow.sem, List.All, Map.keys_of};
 ghost use Rattle.hashlink_model.specs.Entries.{place_of};
-ghost use Rattle.hashlink_core.specs.Keyed.{state_of, entries_of};
-ghost use Rattle.hashlink_core.specs.Tied.{hash_with};
+ghost use Rattle.hashlink_core.specs.{Keyed.{state_of, entries_of}, Tied.hash_with};
 
 use super::RawOccupiedEntryMut;
 use crate::map::LinkedHashMap;

@@ -1,9 +1,7 @@
 //! Calls that free blocks, and that remove entries at the ends.
 ghost use Rattle.std.specs.Prelude.{◌≡◌, ◌+◌, ◌*◌, ◌<◌, [], ◌∷◌, ◌++◌, length, drop, Some};
 ghost use Rattle.std.specs.Map.{lookup, remove_entry};
-ghost use Rattle.hashlink_nodes.specs.Node.{same_node};
-ghost use Rattle.hashlink_nodes.specs.Ring.{Holds};
-ghost use Rattle.hashlink_nodes.specs.declared.node.Node.{Node};
+ghost use Rattle.hashlink_nodes.specs.{Node.same_node, Ring.Holds, declared.node.Node.Node};
 
 use super::Nodes;
 use crate::held::Held;

@@ -1,8 +1,6 @@
 //! Moves of an entry.
-ghost use Rattle.std.specs.Prelude.{◌≡◌, ◌+◌};
-ghost use Rattle.std.specs.Map.{remove_entry};
-ghost use Rattle.hashlink_nodes.specs.Node.{same_node};
-ghost use Rattle.hashlink_nodes.specs.Ring.{Holds, IsPlace, MovesBefore, MovesAfter};
+ghost use Rattle.std.specs.{Prelude.{◌≡◌, ◌+◌}, Map.remove_entry};
+ghost use Rattle.hashlink_nodes.specs.{Node.same_node, Ring.{Holds, IsPlace, MovesBefore, MovesAfter}};
 
 use super::Nodes;
 use crate::node::Node;

@@ -1,7 +1,5 @@
 //! Changes of an entry that stays at its place.
-ghost use Rattle.std.specs.Prelude.{◌≡◌, ◌^◌, ◌<◌, Some, IfSome};
-ghost use Rattle.std.specs.Option.{option_map};
-ghost use Rattle.std.specs.Borrow.{sem};
+ghost use Rattle.std.specs.{Prelude.{◌≡◌, ◌^◌, ◌<◌, Some, IfSome}, Option.option_map, Borrow.sem};
 ghost use Rattle.std.specs.Map.{lookup, set_value};
 ghost use Rattle.hashlink_nodes.specs.Node.{same_node};
 ghost use Rattle.hashlink_nodes.specs.Ring.{pair_of, with_value, with_key, with_number, Holds};

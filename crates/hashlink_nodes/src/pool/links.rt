@@ -1,7 +1,6 @@
 //! The links of the blocks.
 ghost use Rattle.std.specs.Prelude.{◌≡◌, ◌+◌, false, true, IfOk, OnErr};
-ghost use Rattle.hashlink_nodes.specs.declared.node.Node.{Node};
-ghost use Rattle.hashlink_nodes.specs.Pool.{state_of};
+ghost use Rattle.hashlink_nodes.specs.{declared.node.Node.Node, Pool.state_of};
 ghost use Rattle.hashlink_nodes.specs.State.{store_next, store_prev, Adds, MakesGuard};
 
 use super::Pool;

@@ -1,17 +1,10 @@
 //! Inserts. Each one hashes an element that it is given once, and looks it up as `contains` does.
 ghost use Rattle.std.specs.Prelude.{◌≡◌, IsSome, IsTrue, IsOk, None, option_copied, OnOk, IfOk, IfErr, Ok};
-ghost use Rattle.std.specs.Prelude.{Err, Some, length, not, true};
-ghost use Rattle.std.specs.Borrow.{sem};
-ghost use Rattle.std.specs.Fn.{FnOnceReturnsAt};
-ghost use Rattle.std.specs.List.{find};
-ghost use Rattle.std.specs.Option.{UnwrapsOrElse};
-ghost use Rattle.std.specs.Set.{is_member};
-ghost use Rattle.hashlink_model.specs.Lookups.{SetUpdates};
-ghost use Rattle.hashlink_model.specs.MapState.{RefusesEntry};
-ghost use Rattle.hashlink_model.specs.Walk.{last_of};
-ghost use Rattle.std.specs.List.{IsDistinct};
-ghost use Rattle.hashlink_model.specs.Sets.{elements_of, put_element, replaced, stored_element};
-ghost use Rattle.hashlink_model.specs.Sets.{SetInserts, SetReplaces};
+ghost use Rattle.std.specs.{Prelude.{Err, Some, length, not, true}, Borrow.sem, Fn.FnOnceReturnsAt};
+ghost use Rattle.std.specs.{List.{find, IsDistinct}, Option.UnwrapsOrElse, Set.is_member};
+ghost use Rattle.hashlink_model.specs.Sets.{elements_of, put_element, replaced, stored_element, SetInserts};
+ghost use Rattle.hashlink_model.specs.{Lookups.SetUpdates, MapState.RefusesEntry, Walk.last_of};
+ghost use Rattle.hashlink_model.specs.Sets.{SetReplaces};
 ghost use Rattle.hashlink_core.specs.Keyed.{state_of};
 ghost use Rattle.hashlink_set.specs.Made.{CanMakeAbsent, GetsOrMakes};
 

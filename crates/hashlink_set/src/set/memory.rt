@@ -1,7 +1,6 @@
 //! The memory of a set. No method here changes an element.
 ghost use Rattle.std.specs.Prelude.{◌≡◌, ◌+◌, ◌^◌, ◌<◌, ◌↔◌, length, Err};
-ghost use Rattle.hashlink_model.specs.Steps.{Reserves, Shrinks};
-ghost use Rattle.hashlink_model.specs.Sets.{elements_of};
+ghost use Rattle.hashlink_model.specs.{Steps.{Reserves, Shrinks}, Sets.elements_of};
 
 use super::LinkedHashSet;
 use hashlink_map::TryReserveError;

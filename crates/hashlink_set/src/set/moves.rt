@@ -1,10 +1,7 @@
 //! Moves of an element to either end. A move hashes the element once, does not allocate, and stores at most
 //! six links.
-ghost use Rattle.std.specs.Prelude.{◌≡◌, length};
-ghost use Rattle.std.specs.List.{IsDistinct};
-ghost use Rattle.hashlink_model.specs.Lookups.{SetKeepsLookups};
-ghost use Rattle.hashlink_model.specs.Steps.{MovesMatch};
-ghost use Rattle.hashlink_model.specs.Sets.{elements_of};
+ghost use Rattle.std.specs.{Prelude.{◌≡◌, length}, List.IsDistinct};
+ghost use Rattle.hashlink_model.specs.{Lookups.SetKeepsLookups, Steps.MovesMatch, Sets.elements_of};
 ghost use Rattle.hashlink_set.specs.Answers.{as_value};
 
 use super::LinkedHashSet;

@@ -1,8 +1,6 @@
 //! Reads of a set. Each lookup hashes the element once, and looks at the elements of one bucket.
-ghost use Rattle.std.specs.Prelude.{◌≡◌, [], IfNone, option_copied};
-ghost use Rattle.std.specs.List.{IsDistinct, find, list_any};
-ghost use Rattle.hashlink_model.specs.Walk.{first_of, last_of};
-ghost use Rattle.hashlink_model.specs.Sets.{elements_of};
+ghost use Rattle.std.specs.{Prelude.{◌≡◌, [], IfNone, option_copied}, List.{IsDistinct, find, list_any}};
+ghost use Rattle.hashlink_model.specs.{Walk.{first_of, last_of}, Sets.elements_of};
 
 use super::LinkedHashSet;
 use hashlink_map::Equivalent;

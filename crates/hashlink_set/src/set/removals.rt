@@ -1,13 +1,9 @@
 //! Removals. The other elements keep their order. Except for `clear`, each removal leaves a free node, which
 //! the next insert of an absent element uses. No removal allocates.
-ghost use Rattle.std.specs.Prelude.{◌≡◌, false};
-ghost use Rattle.std.specs.List.{IsDistinct, list_any};
-ghost use Rattle.std.specs.Map.{lookup_entry};
-ghost use Rattle.std.specs.Map.Iter.{TakesFirst, TakesLast};
-ghost use Rattle.std.specs.Set.{remove_key};
-ghost use Rattle.hashlink_model.specs.Lookups.{SetUpdatesBy, SetUpdatesPopped};
+ghost use Rattle.std.specs.{Prelude.{◌≡◌, false}, List.{IsDistinct, list_any}, Map.lookup_entry};
+ghost use Rattle.std.specs.{Map.Iter.{TakesFirst, TakesLast}, Set.remove_key};
+ghost use Rattle.hashlink_model.specs.{Lookups.{SetUpdatesBy, SetUpdatesPopped}, Sets.elements_of};
 ghost use Rattle.hashlink_model.specs.Steps.{RemovesMatch, PopsFront, PopsBack, Clears};
-ghost use Rattle.hashlink_model.specs.Sets.{elements_of};
 ghost use Rattle.hashlink_set.specs.Answers.{as_entry};
 
 use super::LinkedHashSet;

@@ -1,11 +1,8 @@
 //! Removals of the elements that a closure rejects. The others keep their order. No method here allocates or
 //! hashes an element. Each node that becomes free serves a later insert of an absent element.
-ghost use Rattle.std.specs.Fn.{CalledAt};
-ghost use Rattle.std.specs.List.{IsDistinct};
+ghost use Rattle.std.specs.{Fn.CalledAt, List.IsDistinct};
 ghost use Rattle.std.specs.Map.Calls.{CallableOnEachPair, CalledAtPair, TakesPair};
-ghost use Rattle.hashlink_model.specs.Entries.{IsEntries};
-ghost use Rattle.hashlink_model.specs.Lookups.{UpdatesKept};
-ghost use Rattle.hashlink_model.specs.Retain.{RetainsInOrder};
+ghost use Rattle.hashlink_model.specs.{Entries.IsEntries, Lookups.UpdatesKept, Retain.RetainsInOrder};
 ghost use Rattle.hashlink_model.specs.Sets.{elements_of, at_element};
 ghost use Rattle.hashlink_core.specs.Keyed.{entries_of, state_of};
 ghost use Rattle.hashlink_set.specs.Called.{CallableOnEachElement, SetUpdatesKept};

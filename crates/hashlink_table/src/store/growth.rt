@@ -1,10 +1,7 @@
 //! The growth of the cells.
-ghost use Rattle.std.specs.Prelude.{◌≡◌, ◌+◌, ◌*◌, ◌%◌, ◌^◌, ◌<◌, ◌≤◌, [], ◌++◌};
-ghost use Rattle.std.specs.Prelude.{IfOk, IsPermutation, OnErr, OnOk, Some};
-ghost use Rattle.std.specs.Prelude.{length, max, min, vec_capacity, vec_len};
-ghost use Rattle.std.specs.Int.{IsPowerOfTwo};
-ghost use Rattle.hashlink_table.specs.Chains.{nodes_in, IsArranged, IsInPlace};
-ghost use Rattle.hashlink_table.specs.Contents.{len_of};
+ghost use Rattle.std.specs.Prelude.{◌≡◌, ◌+◌, ◌*◌, ◌%◌, ◌^◌, ◌<◌, ◌≤◌, [], ◌++◌, IfOk, IsPermutation, OnErr};
+ghost use Rattle.std.specs.{Prelude.{OnOk, Some, length, max, min, vec_capacity, vec_len}, Int.IsPowerOfTwo};
+ghost use Rattle.hashlink_table.specs.{Chains.{nodes_in, IsArranged, IsInPlace}, Contents.len_of};
 
 use super::cell::{END, Stored};
 use super::lanes::LANES;

@@ -1,7 +1,6 @@
 //! Inserts of a node into a cell.
-ghost use Rattle.std.specs.Prelude.{◌≡◌, ◌≢◌, ◌+◌, ◌-◌, ◌%◌, ◌<◌, ◌≤◌, ◌∷◌, ◌++◌};
-ghost use Rattle.std.specs.Prelude.{IsPermutation};
-ghost use Rattle.std.specs.Prelude.{length, vec_capacity, vec_len};
+ghost use Rattle.std.specs.Prelude.{◌≡◌, ◌≢◌, ◌+◌, ◌-◌, ◌%◌, ◌<◌, ◌≤◌, ◌∷◌, ◌++◌, IsPermutation, length};
+ghost use Rattle.std.specs.Prelude.{vec_capacity, vec_len};
 ghost use Rattle.hashlink_table.specs.Chains.{nodes_in, AreTaken, IsArranged, IsPlaced};
 
 use super::bucket::group_of;

@@ -1,6 +1,5 @@
 //! Comparisons of sixteen tags at once.
-ghost use Rattle.std.specs.Prelude.{◌≡◌, ◌+◌, ◌≤◌, ◌==◌, length, map};
-ghost use Rattle.std.specs.Simd.Lanes.{chunk, mask_l};
+ghost use Rattle.std.specs.{Prelude.{◌≡◌, ◌+◌, ◌≤◌, ◌==◌, length, map}, Simd.Lanes.{chunk, mask_l}};
 
 use std::simd::prelude::*;
 

@@ -1,12 +1,9 @@
 //! Removals of a node from its cell.
-ghost use Rattle.std.specs.Prelude.{◌≡◌, ◌≢◌, ℕ, ◌+◌, ◌*◌, ◌%◌, ◌<◌, ◌≤◌, ◌∷◌, ◌++◌};
-ghost use Rattle.std.specs.Prelude.{IfNone, IfSome, IsPermutation, IsSome, Some};
-ghost use Rattle.std.specs.Prelude.{length};
-ghost use Rattle.std.specs.Int.{IsPowerOfTwo};
+ghost use Rattle.std.specs.Prelude.{◌≡◌, ◌≢◌, ℕ, ◌+◌, ◌*◌, ◌%◌, ◌<◌, ◌≤◌, ◌∷◌, ◌++◌, IfNone, IfSome};
+ghost use Rattle.std.specs.{Prelude.{IsPermutation, IsSome, Some, length}, Int.IsPowerOfTwo};
+ghost use Rattle.hashlink_table.specs.Chains.{chain_at, kept_at, kept_by, next_at, nodes_in, IsArranged};
 ghost use Rattle.hashlink_table.specs.declared.store.spot.Spot.TheVariants.{Overflow};
-ghost use Rattle.hashlink_table.specs.Chains.{chain_at, kept_at, kept_by, next_at};
-ghost use Rattle.hashlink_table.specs.Chains.{nodes_in, IsArranged, IsFilled, IsLinked, IsLinkedBut};
-ghost use Rattle.hashlink_table.specs.Chains.{SameNodes};
+ghost use Rattle.hashlink_table.specs.Chains.{IsFilled, IsLinked, IsLinkedBut, SameNodes};
 
 use super::bucket::{bucket_of, group_of};
 use super::cell::{END, Stored};

@@ -1,13 +1,10 @@
 //! The slots, in groups.
-ghost use Rattle.std.specs.Prelude.{◌≡◌, ◌≢◌, ◌+◌, ◌*◌, ◌^◌, ◌<◌, ◌≤◌, ◌++◌, ◌↔◌, [], IfOk, IfSome};
-ghost use Rattle.std.specs.Prelude.{IsSome, IsTrue, OnErr, OnOk, Some};
-ghost use Rattle.std.specs.Prelude.{length, map, replicate, is_none};
-ghost use Rattle.std.specs.Int.{IsPowerOfTwo};
-ghost use Rattle.std.specs.Simd.Lanes.{mask_l};
-ghost use Rattle.hashlink_table.specs.Chains.{kept_at, next_at};
-ghost use Rattle.hashlink_table.specs.Stored.{bare_cell, tag_of};
-ghost use Rattle.hashlink_table.specs.Slots.{may_be, lanes_of, with_kept, without_kept, with_next};
-ghost use Rattle.hashlink_table.specs.Slots.{begins, cells_in, doubled, parted, IsTagged};
+ghost use Rattle.std.specs.Prelude.{◌≡◌, ◌≢◌, ◌+◌, ◌*◌, ◌^◌, ◌<◌, ◌≤◌, ◌++◌, ◌↔◌, [], IfOk, IfSome, IsSome};
+ghost use Rattle.std.specs.Prelude.{IsTrue, OnErr, OnOk, Some, length, map, replicate, is_none};
+ghost use Rattle.std.specs.{Int.IsPowerOfTwo, Simd.Lanes.mask_l};
+ghost use Rattle.hashlink_table.specs.Slots.{may_be, lanes_of, with_kept, without_kept, with_next, begins};
+ghost use Rattle.hashlink_table.specs.{Chains.{kept_at, next_at}, Stored.{bare_cell, tag_of}};
+ghost use Rattle.hashlink_table.specs.Slots.{cells_in, doubled, parted, IsTagged};
 
 use super::bucket::bucket_of;
 use super::cell::END;
@@ -41,8 +38,7 @@ pub struct Slots<N> {
 
 impl<N> Model for Slots<N> {
     ghost use Rattle.std.specs.Prelude.{List};
-    ghost use Rattle.hashlink_table.specs.declared.store.cell.Cell.{Cell};
-    ghost use Rattle.hashlink_table.specs.Slots.{cells_in, AreSlots};
+    ghost use Rattle.hashlink_table.specs.{declared.store.cell.Cell.Cell, Slots.{cells_in, AreSlots}};
 
     ghost Value = { List (Cell N) };
 

@@ -1,8 +1,7 @@
 //! Look-ups of a cache after a change.
 ghost use Rattle.std.specs.Prelude.{◌≡◌, ◌≢◌, ◌<◌, [], Some, None, IsTrue, OnOk, nat_eq, string_bytes};
 ghost use Rattle.std.specs.Map.{lookup};
-ghost use Rattle.hashlink.specs.Cached.{entries_of, state_of};
-ghost use Rattle.hashlink.specs.Texts.{is_text};
+ghost use Rattle.hashlink.specs.{Cached.{entries_of, state_of}, Texts.is_text};
 
 use hashlink::LruCache;
 use std::hash::BuildHasher;

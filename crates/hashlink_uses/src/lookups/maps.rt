@@ -1,9 +1,7 @@
 //! Look-ups of a map after a change.
-ghost use Rattle.std.specs.Prelude.{◌≡◌, ◌≢◌, ℕ, [], Some, None, IfOk, IsTrue, OnOk, nat_eq};
-ghost use Rattle.std.specs.Prelude.{string_bytes};
+ghost use Rattle.std.specs.Prelude.{◌≡◌, ◌≢◌, ℕ, [], Some, None, IfOk, IsTrue, OnOk, nat_eq, string_bytes};
 ghost use Rattle.std.specs.Map.{lookup};
-ghost use Rattle.hashlink.specs.Keyed.{entries_of};
-ghost use Rattle.hashlink.specs.Texts.{is_text};
+ghost use Rattle.hashlink.specs.{Keyed.entries_of, Texts.is_text};
 
 use hashlink::LinkedHashMap;
 use std::hash::BuildHasher;

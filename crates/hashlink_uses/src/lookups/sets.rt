@@ -1,8 +1,7 @@
 //! Look-ups of a set after a change.
 ghost use Rattle.std.specs.Prelude.{◌≡◌, ◌≢◌, [], true, false, IsTrue, OnOk, nat_eq, string_bytes};
 ghost use Rattle.std.specs.List.{list_any};
-ghost use Rattle.hashlink.specs.Sets.{elements_of};
-ghost use Rattle.hashlink.specs.Texts.{is_text};
+ghost use Rattle.hashlink.specs.{Sets.elements_of, Texts.is_text};
 
 use hashlink::LinkedHashSet;
 use std::hash::BuildHasher;

@@ -1,9 +1,6 @@
 //! Look-ups of a cache with a budget after a change.
-ghost use Rattle.std.specs.Prelude.{◌≡◌, ◌≢◌, Some, None, OnOk, nat_eq, string_bytes};
-ghost use Rattle.std.specs.Map.{lookup};
-ghost use Rattle.hashlink.specs.Answers.{without_weight};
-ghost use Rattle.hashlink.specs.Weighed.{entries_of};
-ghost use Rattle.hashlink.specs.Texts.{is_text};
+ghost use Rattle.std.specs.{Prelude.{◌≡◌, ◌≢◌, Some, None, OnOk, nat_eq, string_bytes}, Map.lookup};
+ghost use Rattle.hashlink.specs.{Answers.without_weight, Weighed.entries_of, Texts.is_text};
 
 use hashlink::weighted::{WeightError, WeightedCache};
 use std::hash::BuildHasher;

@@ -1,9 +1,6 @@
 //! Cursors of entries, and what the caller knows about a map after one.
-ghost use Rattle.std.specs.Prelude.{◌≡◌, ℕ, None, Some, IfNone, MatchOption, length};
-ghost use Rattle.std.specs.Map.{lookup};
-ghost use Rattle.hashlink.specs.Cursor.{following_place};
-ghost use Rattle.hashlink.specs.Entries.{place_of};
-ghost use Rattle.hashlink.specs.Keyed.{entries_of, state_of};
+ghost use Rattle.std.specs.{Prelude.{◌≡◌, ℕ, None, Some, IfNone, MatchOption, length}, Map.lookup};
+ghost use Rattle.hashlink.specs.{Cursor.following_place, Entries.place_of, Keyed.{entries_of, state_of}};
 ghost use Rattle.hashlink.specs.MapState.{Inserts};
 
 use hashlink::LinkedHashMap;

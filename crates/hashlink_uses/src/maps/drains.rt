@@ -1,6 +1,5 @@
 //! Drains, and what the caller knows about a map after one.
-ghost use Rattle.hashlink.specs.Steps.{Drains};
-ghost use Rattle.hashlink.specs.Keyed.{state_of};
+ghost use Rattle.hashlink.specs.{Steps.Drains, Keyed.state_of};
 
 use hashlink::LinkedHashMap;
 use std::hash::{BuildHasher, Hash};

@@ -1,13 +1,11 @@
 //! Calls through entries, raw entries and cursors, and what the caller knows about a map afterwards.
-ghost use Rattle.std.specs.Prelude.{◌≡◌, ℕ, ◌+◌, ◌-◌, ◌<◌, ◌^◌, [], Some, Ok, IfOk, OnOk, IfErr, IfNone};
-ghost use Rattle.std.specs.Prelude.{◌≢◌, MatchOption, is_none, is_some, length, unwrap_or, true, false};
+ghost use Rattle.std.specs.Prelude.{◌≡◌, ℕ, ◌+◌, ◌-◌, ◌<◌, ◌^◌, [], Some, Ok, IfOk, OnOk, IfErr, IfNone, ◌≢◌};
+ghost use Rattle.std.specs.Prelude.{MatchOption, is_none, is_some, length, unwrap_or, true, false};
 ghost use Rattle.std.specs.Map.{lookup};
-ghost use Rattle.hashlink.specs.Cursor.{following_place, preceding_place};
-ghost use Rattle.hashlink.specs.Entry.{TakesEntry, ReplacesKey, ReplacesValue};
-ghost use Rattle.hashlink.specs.Entries.{place_of};
+ghost use Rattle.hashlink.specs.{Cursor.{following_place, preceding_place}, Keyed.{state_of, entries_of}};
+ghost use Rattle.hashlink.specs.{Entry.{TakesEntry, ReplacesKey, ReplacesValue}, Entries.place_of};
 ghost use Rattle.hashlink.specs.MapState.{AddsEntry, PutsEntry, Inserts, RefusesEntry, with_value};
 ghost use Rattle.hashlink.specs.Steps.{RemovesKey, WritesEntry, with_value_of};
-ghost use Rattle.hashlink.specs.Keyed.{state_of, entries_of};
 
 use hashlink::LinkedHashMap;
 use hashlink::linked_hash_map::{Entry, RawEntryMut};

@@ -1,10 +1,8 @@
 //! Everyday calls of a map. Each caller is proved without a file of proof.
 ghost use Rattle.std.specs.Prelude.{[], ◌∷◌, ◌++◌, ◌≡◌, Contains, IfErr, IfOk, IfSome, IsOk, IsSome};
-ghost use Rattle.std.specs.Prelude.{MatchOption};
-ghost use Rattle.std.specs.Prelude.{OnErr, OnOk, length};
+ghost use Rattle.std.specs.Prelude.{MatchOption, OnErr, OnOk, length};
 ghost use Rattle.std.specs.Map.{lookup, lookup_entry, remove_entry};
-ghost use Rattle.hashlink.specs.Entries.{IsEntries, put};
-ghost use Rattle.hashlink.specs.Keyed.{entries_of};
+ghost use Rattle.hashlink.specs.{Entries.{IsEntries, put}, Keyed.entries_of};
 
 use hashlink::LinkedHashMap;
 use std::hash::{BuildHasher, Hash};

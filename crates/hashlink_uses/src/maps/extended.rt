@@ -1,7 +1,6 @@
 //! Maps that are built from many pairs or extended by them, and what the caller knows about them afterwards.
 ghost use Rattle.std.specs.Prelude.{◌≡◌, ◌≤◌, [], List, length, IsOk, OnErr, OnOk, IfOk, IfErr};
-ghost use Rattle.hashlink.specs.Many.{AcceptsAll, StopsAt, InsertsPair};
-ghost use Rattle.hashlink.specs.Keyed.{state_of, entries_of};
+ghost use Rattle.hashlink.specs.{Many.{AcceptsAll, StopsAt, InsertsPair}, Keyed.{state_of, entries_of}};
 
 use super::drains::empty_out;
 use hashlink::LinkedHashMap;

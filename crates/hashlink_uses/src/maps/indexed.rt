@@ -1,8 +1,6 @@
 //! Writes through an index, and what the caller knows about a map after one.
 ghost use Rattle.std.specs.Prelude.{◌≡◌};
-ghost use Rattle.hashlink.specs.Steps.{with_value_of};
-ghost use Rattle.hashlink.specs.Keyed.{state_of};
-ghost use Rattle.hashlink.specs.Indexed.{HasKey};
+ghost use Rattle.hashlink.specs.{Steps.with_value_of, Keyed.state_of, Indexed.HasKey};
 
 use hashlink::LinkedHashMap;
 use std::hash::{BuildHasher, Hash};

@@ -1,8 +1,6 @@
 //! Values that a map lends for writing, and what the caller knows about the map afterwards.
-ghost use Rattle.std.specs.Prelude.{◌≡◌, IsFalse, IsTrue, is_some, length};
-ghost use Rattle.std.specs.Map.{lookup};
-ghost use Rattle.hashlink.specs.Keyed.{entries_of, state_of};
-ghost use Rattle.hashlink.specs.Steps.{MovesAndWrites, with_value_of};
+ghost use Rattle.std.specs.{Prelude.{◌≡◌, IsFalse, IsTrue, is_some, length}, Map.lookup};
+ghost use Rattle.hashlink.specs.{Keyed.{entries_of, state_of}, Steps.{MovesAndWrites, with_value_of}};
 
 use hashlink::LinkedHashMap;
 use std::hash::{BuildHasher, Hash};

@@ -1,9 +1,7 @@
 //! Values that raw entries lend, entries that are found by a hash, and what the caller knows about a map
 //! afterwards.
-ghost use Rattle.std.specs.Prelude.{◌≡◌, IsFalse, IsTrue, is_some};
-ghost use Rattle.std.specs.Map.{lookup};
-ghost use Rattle.hashlink.specs.Keyed.{entries_of, state_of};
-ghost use Rattle.hashlink.specs.Steps.{RemovesKey, with_value_of};
+ghost use Rattle.std.specs.{Prelude.{◌≡◌, IsFalse, IsTrue, is_some}, Map.lookup};
+ghost use Rattle.hashlink.specs.{Keyed.{entries_of, state_of}, Steps.{RemovesKey, with_value_of}};
 
 use hashlink::LinkedHashMap;
 use hashlink::linked_hash_map::RawEntryMut;

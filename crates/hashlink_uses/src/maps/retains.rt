@@ -1,9 +1,7 @@
 //! Retains, and what the caller knows about a map or a set after one.
 ghost use Rattle.std.specs.Prelude.{◌≡◌, ◌+◌, ◌/◌, ◌%◌, ◌≤◌, ◌&&◌, cond, filter, length, map as list_map};
 ghost use Rattle.std.specs.Prelude.{nat_eq, nat_lt, not};
-ghost use Rattle.hashlink.specs.Steps.{KeepsOnly};
-ghost use Rattle.hashlink.specs.Keyed.{state_of, entries_of};
-ghost use Rattle.hashlink.specs.Sets.{elements_of};
+ghost use Rattle.hashlink.specs.{Steps.KeepsOnly, Keyed.{state_of, entries_of}, Sets.elements_of};
 ghost use Rattle.hashlink.specs.WithoutFirst.{without_first};
 
 use hashlink::{LinkedHashMap, LinkedHashSet};

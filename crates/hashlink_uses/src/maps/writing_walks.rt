@@ -1,7 +1,6 @@
 //! Lending iterators, and what the caller knows about a map after one.
 ghost use Rattle.std.specs.Prelude.{◌≡◌, ◌≢◌, ◌-◌, [], length, IsTrue, IsFalse};
-ghost use Rattle.hashlink.specs.MapState.{with_value};
-ghost use Rattle.hashlink.specs.Keyed.{state_of, entries_of};
+ghost use Rattle.hashlink.specs.{MapState.with_value, Keyed.{state_of, entries_of}};
 
 use hashlink::LinkedHashMap;
 use std::hash::{BuildHasher, Hash};

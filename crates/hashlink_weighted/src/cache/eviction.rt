@@ -1,9 +1,7 @@
 //! Evictions, which make room for the last entry.
 ghost use Rattle.std.specs.Prelude.{◌≤◌};
 ghost use Rattle.hashlink_core.specs.Keyed.{state_of, entries_of};
-ghost use Rattle.hashlink_model.specs.Entries.{IsEntries};
-ghost use Rattle.hashlink_model.specs.Steps.{KeepsOnly};
-ghost use Rattle.hashlink_model.specs.Weights.{fitting};
+ghost use Rattle.hashlink_model.specs.{Entries.IsEntries, Steps.KeepsOnly, Weights.fitting};
 ghost use Rattle.hashlink_weighted.specs.Evicted.{IsGivenEach, TakesEach, not_fitting};
 ghost use Rattle.hashlink_weighted.specs.Weighed.{HasTotal, LastWeighs};
 

@@ -1,10 +1,8 @@
 //! Inserts, which evict entries to make room.
 ghost use Rattle.std.specs.Prelude.{◌≡◌, ◌<◌, ◌↔◌, IfOk, OnOk, OnErr, Err};
-ghost use Rattle.hashlink_model.specs.Entries.{IsEntries};
-ghost use Rattle.hashlink_model.specs.Lookups.{UpdatesFitting};
-ghost use Rattle.hashlink_weighted.specs.Answers.{without_weight};
+ghost use Rattle.hashlink_model.specs.{Entries.IsEntries, Lookups.UpdatesFitting};
+ghost use Rattle.hashlink_weighted.specs.{Answers.without_weight, Weighed.{entries_of, weight_or_none}};
 ghost use Rattle.hashlink_weighted.specs.Evicted.{IsGivenEach, TakesEach, evicted_by};
-ghost use Rattle.hashlink_weighted.specs.Weighed.{entries_of, weight_or_none};
 ghost use Rattle.hashlink_weighted.specs.declared.error.WeightError.TheVariants.{TooHeavy};
 
 use super::WeightedCache;

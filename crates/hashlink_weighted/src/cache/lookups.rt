@@ -1,11 +1,8 @@
 //! Reads, uses and removals. Each hashes the key once and does not allocate.
-ghost use Rattle.std.specs.Prelude.{◌≡◌, None, is_some, length, option_copied};
-ghost use Rattle.std.specs.Borrow.{sem};
-ghost use Rattle.std.specs.Map.{lookup};
+ghost use Rattle.std.specs.{Prelude.{◌≡◌, None, is_some, length, option_copied}, Borrow.sem, Map.lookup};
 ghost use Rattle.hashlink_core.specs.Keyed as keyed;
 ghost use Rattle.hashlink_core.specs.Keyed.{state_of};
-ghost use Rattle.hashlink_model.specs.Entries.{IsEntries, moved_match};
-ghost use Rattle.hashlink_model.specs.Lookups.{KeepsLookups, UpdatesBy};
+ghost use Rattle.hashlink_model.specs.{Entries.{IsEntries, moved_match}, Lookups.{KeepsLookups, UpdatesBy}};
 ghost use Rattle.hashlink_model.specs.Steps.{MovesMatch};
 ghost use Rattle.hashlink_weighted.specs.Weighed.{entries_of, WeightedRemovesMatch};
 
@@ -35,8 +32,7 @@ fn move_last<K: Eq + Hash, V, S: BuildHasher, Q: Equivalent<K>>(
 }
 
 impl<K: Eq + Hash, V, S: BuildHasher> WeightedCache<K, V, S> {
-    ghost use Rattle.hashlink_weighted.specs.Answers.{without_weight};
-    ghost use Rattle.hashlink_weighted.specs.Lends.{EndsUsed};
+    ghost use Rattle.hashlink_weighted.specs.{Answers.without_weight, Lends.EndsUsed};
 
     /// Returns a reference to the value of the key, or `None` if it is absent. The order does not change. It
     /// hashes the key once.

@@ -1,6 +1,5 @@
 //! Keys and values that own memory and are counted.
-ghost use Rattle.std.specs.Prelude.{◌≡◌, ◌==◌, IfOk};
-ghost use Rattle.std.proofs.Common.{rules};
+ghost use Rattle.std.{specs.Prelude.{◌≡◌, ◌==◌, IfOk}, proofs.Common.rules};
 ghost use Rattle.std.specs.Cmp.Rules.{comparing, hashing};
 ghost use Rattle.std.specs.Hash as fed;
 

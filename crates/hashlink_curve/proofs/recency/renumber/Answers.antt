@@ -1,5 +1,4 @@
-use Rattle.hashlink_curve.proofs.Names.{◌∙◌, arith, sym}
-use Rattle.hashlink_curve.proofs.Placing.{free_at, Renumbers-step}
+use Rattle.hashlink_curve.proofs.{Names.{◌∙◌, arith, sym}, Placing.{free_at, Renumbers-step}}
 use Rattle.hashlink_map.proofs.Walking.{on-some}
 use Rattle.hashlink_curve.proofs.recency.renumber.Goals as goal
 

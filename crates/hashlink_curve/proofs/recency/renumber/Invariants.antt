@@ -1,5 +1,4 @@
-use Rattle.hashlink_curve.proofs.Names.{◌≡◌, ◌≤◌, ◌+◌, ◌*◌, ◌^◌, length, entries_of}
-use Rattle.hashlink_curve.proofs.Placing.{Renumbers}
+use Rattle.hashlink_curve.proofs.{Names.{◌≡◌, ◌≤◌, ◌+◌, ◌*◌, ◌^◌, length, entries_of}, Placing.Renumbers}
 use Rattle.hashlink_map.specs.IterMut.{values_map, values_state}
 use Rattle.hashlink_curve.proofs.recency.renumber.Given as goal
 

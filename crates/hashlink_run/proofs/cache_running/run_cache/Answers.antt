@@ -1,10 +1,7 @@
 use Rattle.hashlink_run.proofs.Names.{inl, inr, ap, sym, ◌∙◌, arith, length, into_iter_items, CacheStep}
-use Rattle.hashlink_run.proofs.Names.{ClosureSays}
+use Rattle.hashlink_run.proofs.{Names.ClosureSays, CachePasses.cache_within_peak, CachePuts.inserts_fit}
 use Rattle.hashlink_run.proofs.Answering.{HasAnswered-none, HasAnswered-more, HasAnswered-all}
-use Rattle.hashlink_run.proofs.CacheLengths.{keeps_bounds, stays_bounded}
-use Rattle.hashlink_run.proofs.CachePasses.{cache_within_peak}
-use Rattle.hashlink_run.proofs.CachePuts.{inserts_fit}
-use Rattle.hashlink_run.proofs.CacheSpare.{takes_all_after_a_drop}
+use Rattle.hashlink_run.proofs.{CacheLengths.{keeps_bounds, stays_bounded}, CacheSpare.takes_all_after_a_drop}
 use Rattle.hashlink_run.proofs.cache_running.run_cache.Goals as goal
 
 pub loop-command-init : goal.loop-command-init

@@ -1,8 +1,7 @@
 use Rattle.hashlink_run.proofs.Names.{◌+◌, ◌≤◌, length, vec_len, vec_capacity, into_iter_items, CacheStep}
-use Rattle.hashlink_run.proofs.Names.{CallableOn, ClosureSays}
-use Rattle.hashlink_lru.specs.Cached.{state_of}
-use Rattle.hashlink_run.specs.CacheRun.{ShownByCache}
+use Rattle.hashlink_run.{proofs.Names.{CallableOn, ClosureSays}, specs.CacheRun.ShownByCache}
 use Rattle.hashlink_run.proofs.Answering.{HasAnswered}
+use Rattle.hashlink_lru.specs.Cached.{state_of}
 use Rattle.hashlink_run.proofs.cache_running.run_cache.Given as goal
 
 abbrev pub invariant-loop-command : goal.invariant-loop-command

@@ -1,7 +1,6 @@
 use Rattle.std.proofs.Common.{arith, inl, inr, refl}
 use Rattle.hashlink_lru.specs.Cached.{state_of}
-use Rattle.hashlink_run.specs.Reads.{ClosureSays}
-use Rattle.hashlink_run.proofs.CacheUsed.{used}
+use Rattle.hashlink_run.{specs.Reads.ClosureSays, proofs.CacheUsed.used}
 use Rattle.hashlink_run.proofs.cache_steps.answer_use.Goals as goal
 
 pub returns-then-len-before : goal.returns-then-len-before

@@ -1,9 +1,7 @@
-use Rattle.hashlink_run.proofs.Names.{◌≡◌, Bool, ap, refl, subst}
-use Rattle.hashlink_run.proofs.Names.{sym, ◌∙◌, lookup_entry, entries_of, CacheCommand}
-use Rattle.hashlink_run.proofs.Names.{CacheState}
-use Rattle.hashlink_lru.specs.Cached.{state_of}
+use Rattle.hashlink_run.proofs.Names.{◌≡◌, Bool, ap, refl, subst, sym, ◌∙◌, lookup_entry, entries_of}
+use Rattle.hashlink_run.proofs.{Names.{CacheCommand, CacheState}, Moved.by_key}
 use Rattle.hashlink_run.specs.CacheStep.{CommandReads, ReadFromCache}
-use Rattle.hashlink_run.proofs.Moved.{by_key}
+use Rattle.hashlink_lru.specs.Cached.{state_of}
 use Rattle.hashlink_run.proofs.cache_steps.reply_to_command.Goals as goal
 
 -- the pair that an arm's command reads is the pair that the given command reads

@@ -1,7 +1,5 @@
-use Rattle.std.proofs.Common.{length, map}
-use Rattle.std.proofs.lemmas.List.{at_drop_all}
-use Rattle.hashlink_run.specs.CacheCalls.{EventStep, event_of}
-use Rattle.hashlink_run.proofs.Called.{rest_from, runs_from_empty}
+use Rattle.std.proofs.{Common.{length, map}, lemmas.List.at_drop_all}
+use Rattle.hashlink_run.{specs.CacheCalls.{EventStep, event_of}, proofs.Called.{rest_from, runs_from_empty}}
 use Rattle.hashlink_run.proofs.Answering.{HasAnswered-none, HasAnswered-more, HasAnswered-all}
 use Rattle.hashlink_run.proofs.calls.run_calls.Goals as goal
 

@@ -1,8 +1,7 @@
 use Rattle.std.proofs.Common.{drop, map}
 use Rattle.hashlink_core.specs.Hashing.{default_builder}
 use Rattle.hashlink_lru.specs.Cached.{empty_cache, state_of}
-use Rattle.hashlink_run.specs.CacheCalls.{EventStep, event_of}
-use Rattle.hashlink_run.proofs.Answering.{HasAnswered}
+use Rattle.hashlink_run.{specs.CacheCalls.{EventStep, event_of}, proofs.Answering.HasAnswered}
 use Rattle.hashlink_run.proofs.calls.run_calls.Given as goal
 
 abbrev pub invariant-loop-command : goal.invariant-loop-command

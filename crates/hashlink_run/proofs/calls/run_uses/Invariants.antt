@@ -1,7 +1,6 @@
-use Rattle.hashlink_run.proofs.Names.{drop, map, empty_cache, EventStep, use_of}
+use Rattle.hashlink_run.proofs.{Names.{drop, map, empty_cache, EventStep, use_of}, Answering.HasAnswered}
 use Rattle.hashlink_core.specs.Hashing.{default_builder}
 use Rattle.hashlink_lru.specs.Cached.{state_of}
-use Rattle.hashlink_run.proofs.Answering.{HasAnswered}
 use Rattle.hashlink_run.proofs.calls.run_uses.Given as goal
 
 abbrev pub invariant-loop-key : goal.invariant-loop-key

@@ -1,5 +1,4 @@
-use Rattle.hashlink_run.proofs.Names.{rules, ◌∙◌, ClosureSays}
-use Rattle.hashlink_run.proofs.Kept.{retained-asked, callable_on_each}
+use Rattle.hashlink_run.proofs.{Names.{rules, ◌∙◌, ClosureSays}, Kept.{retained-asked, callable_on_each}}
 use Rattle.hashlink_run.proofs.commands.keep_where.Goals as goal
 
 pub retain_by-requires : goal.retain_by-requires

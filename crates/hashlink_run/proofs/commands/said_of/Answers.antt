@@ -1,6 +1,5 @@
-use Rattle.hashlink_run.proofs.Names.{ap, refl, option_map}
+use Rattle.hashlink_run.proofs.{Names.{ap, refl, option_map}, Said.said_by}
 use Rattle.std.specs.Map.Iter.{deref_pair}
-use Rattle.hashlink_run.proofs.Said.{said_by}
 use Rattle.hashlink_run.proofs.commands.said_of.Goals as goal
 
 pub says-requires : goal.says-requires

@@ -1,9 +1,8 @@
 use Rattle.hashlink_run.proofs.Names.{◌≡◌, ◌+◌, ◌++◌, List, length, vec_len, vec_capacity, into_iter_items}
-use Rattle.hashlink_run.proofs.Names.{Reply, first_place, CallableOn, ClosureSays}
+use Rattle.hashlink_run.proofs.{Names.{Reply, first_place, CallableOn, ClosureSays}, CursorProgress.WalksOn}
+use Rattle.hashlink_run.specs.CursorSteps.{ReadOnWalk}
 use Rattle.hashlink_core.specs.Keyed.{state_of}
 use Rattle.hashlink_map.specs.Cursor.{cursor_map, cursor_state}
-use Rattle.hashlink_run.specs.CursorSteps.{ReadOnWalk}
-use Rattle.hashlink_run.proofs.CursorProgress.{WalksOn}
 use Rattle.hashlink_run.proofs.cursors.walk_cursor.Given as goal
 
 abbrev pub invariant-loop-step : goal.invariant-loop-step

@@ -1,9 +1,8 @@
 use Rattle.std.proofs.Common.{rules, [], ◌∷◌, Some, None, refl, sym, ap, ◌∙◌, is_ok, Ok, Err, ⊎_elim}
 use Rattle.hashlink_core.specs.Keyed.{state_of}
+use Rattle.hashlink_run.proofs.AtEntry.{at_occupied, at_vacant, added, taken, there, there_at_end}
 use Rattle.hashlink_run.specs.declared.replies.Reply.TheVariants.{Value, Pair, Seen, Refused}
-use Rattle.hashlink_run.specs.Reads.{ClosureSays}
-use Rattle.hashlink_run.proofs.AtEntry.{at_occupied, at_vacant, added, taken}
-use Rattle.hashlink_run.proofs.AtEntry.{there, there_at_end, there_at_front}
+use Rattle.hashlink_run.{specs.Reads.ClosureSays, proofs.AtEntry.there_at_front}
 use Rattle.hashlink_run.proofs.entries.reply_of_entry.Goals as goal
 
 pub said_of_entry-requires : goal.said_of_entry-requires

@@ -1,5 +1,4 @@
-use Rattle.hashlink_run.specs.Reads.{ClosureSays}
-use Rattle.hashlink_run.proofs.Kept.{kept_by_predicate}
+use Rattle.hashlink_run.{specs.Reads.ClosureSays, proofs.Kept.kept_by_predicate}
 use Rattle.hashlink_run.proofs.laws.a_keep_is_a_filter.Goals as goal
 
 pub returns : goal.returns

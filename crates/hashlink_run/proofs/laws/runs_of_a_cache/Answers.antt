@@ -1,7 +1,5 @@
-use Rattle.hashlink_run.proofs.CacheLengths.{keeps_bounds}
-use Rattle.hashlink_run.proofs.CachePasses.{cache_within_peak}
-use Rattle.hashlink_run.proofs.CachePuts.{inserts_fit}
-use Rattle.hashlink_run.proofs.CacheSpare.{takes_all_after_a_drop}
+use Rattle.hashlink_run.proofs.{CacheLengths.keeps_bounds, CachePasses.cache_within_peak}
+use Rattle.hashlink_run.proofs.{CachePuts.inserts_fit, CacheSpare.takes_all_after_a_drop}
 use Rattle.hashlink_run.proofs.laws.runs_of_a_cache.Goals as goal
 
 pub returns : goal.returns

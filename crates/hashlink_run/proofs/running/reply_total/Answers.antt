@@ -1,5 +1,4 @@
-use Rattle.std.proofs.Common.{ap, arith}
-use Rattle.std.proofs.lemmas.List.{at_drop_more}
+use Rattle.std.proofs.{Common.{ap, arith}, lemmas.List.at_drop_more}
 use Rattle.hashlink_run.specs.Run.{reply_count, reply_total}
 use Rattle.hashlink_run.proofs.running.reply_total.Goals as goal
 

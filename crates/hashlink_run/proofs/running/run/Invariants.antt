@@ -1,8 +1,7 @@
 use Rattle.hashlink_run.proofs.Names.{◌+◌, ◌≤◌, vec_len, vec_capacity, into_iter_items, CallableOn}
-use Rattle.hashlink_run.proofs.Names.{ClosureSays, reply_total, Step}
-use Rattle.hashlink_core.specs.Keyed.{state_of}
-use Rattle.hashlink_run.specs.Run.{ShownBy}
+use Rattle.hashlink_run.{proofs.Names.{ClosureSays, reply_total, Step}, specs.Run.ShownBy}
 use Rattle.hashlink_run.proofs.Answering.{HasAnswered}
+use Rattle.hashlink_core.specs.Keyed.{state_of}
 use Rattle.hashlink_run.proofs.running.run.Given as goal
 
 abbrev pub invariant-loop-command : goal.invariant-loop-command

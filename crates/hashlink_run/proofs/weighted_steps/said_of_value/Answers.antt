@@ -1,5 +1,4 @@
-use Rattle.std.proofs.Common.{ap, option_copied, refl}
-use Rattle.std.specs.Option.{option_map}
+use Rattle.std.{proofs.Common.{ap, option_copied, refl}, specs.Option.option_map}
 use Rattle.hashlink_run.proofs.Said.{said_by}
 use Rattle.hashlink_run.proofs.weighted_steps.said_of_value.Goals as goal
 

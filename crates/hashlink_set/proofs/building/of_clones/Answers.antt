@@ -1,8 +1,7 @@
 use Rattle.hashlink_set.proofs.Names.{[], ◌∷◌, ◌++◌, refl, sym, subst, AllZip, deref, AcceptsAll, SetInserts}
-use Rattle.hashlink_set.proofs.Names.{accepts_another, on_err}
+use Rattle.hashlink_set.proofs.{Names.{accepts_another, on_err}, OfClones.first_gave}
 use Rattle.std.proofs.lemmas.List.Elements.{AllZip-push}
 use Rattle.hashlink_map.proofs.InTurn.{mapped_another}
-use Rattle.hashlink_set.proofs.OfClones.{first_gave}
 use Rattle.std.proofs.iter.Next as it
 use Rattle.hashlink_set.proofs.building.of_clones.Goals as goal
 

@@ -1,12 +1,10 @@
 use Rattle.hashlink_table.proofs.Names.{ℕ, ◌+◌, ◌-◌, ◌%◌, ◌<◌, ◌≤◌, ◌≡◌, ◌++◌, count_by, eqb, false, length}
 use Rattle.hashlink_table.proofs.Names.{Some, inl, inr, refl, sym, ap, ◌∙◌, arith, cases_eq, eq-eqb, eqb-true}
 use Rattle.hashlink_table.proofs.Names.{false≢true, chain_at, chain_of, kept_at, next_at, nodes_in, lanes_of}
-use Rattle.hashlink_table.proofs.Names.{may_be, END, Slot, Overflow, tag_of}
-use Rattle.hashlink_table.proofs.Linking.{chain_at_within, positive_by_power}
+use Rattle.hashlink_table.proofs.{Names.{may_be, END, Slot, Overflow, tag_of}, Moving.within_kept}
+use Rattle.hashlink_table.proofs.{Linking.{chain_at_within, positive_by_power}, Walks.bucket_begun}
 use Rattle.hashlink_table.proofs.Groups.{from_base, grouped_in, to_base}
-use Rattle.hashlink_table.proofs.Moving.{within_kept}
 use Rattle.hashlink_table.proofs.Views.{contains_found, looked_at, none_left, tag_agrees}
-use Rattle.hashlink_table.proofs.Walks.{bucket_begun}
 use Rattle.hashlink_table.proofs.search.seek.Given as given
 use Rattle.hashlink_table.proofs.search.seek.Goals.{After-base_of-base, In_default}
 use Rattle.hashlink_table.proofs.search.seek.Goals as goal

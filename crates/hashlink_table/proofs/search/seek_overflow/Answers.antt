@@ -1,8 +1,7 @@
 use Rattle.hashlink_table.proofs.Names.{◌≡◌, ℕ, ◌<◌, ◌%◌, length, false, sym, ap, ◌∙◌, Some, subst, arith}
-use Rattle.hashlink_table.proofs.Names.{rules, same_Some, IsPowerOfTwo, Hashed, next_at, chain_of}
-use Rattle.hashlink_table.proofs.Linking.{chain_at_within, on_within, positive_by_power}
-use Rattle.hashlink_table.proofs.Moving.{within_kept}
 use Rattle.hashlink_table.proofs.Walks.{search_start, search_on, search_ends, walk_read, steps_left}
+use Rattle.hashlink_table.proofs.Names.{rules, same_Some, IsPowerOfTwo, Hashed, next_at, chain_of}
+use Rattle.hashlink_table.proofs.{Linking.{chain_at_within, on_within, positive_by_power}, Moving.within_kept}
 use Rattle.hashlink_table.proofs.Walks.{steps_left-falls, IsAt}
 use Rattle.hashlink_table.proofs.search.seek_overflow.Given as given
 use Rattle.hashlink_table.proofs.search.seek_overflow.Goals as goal

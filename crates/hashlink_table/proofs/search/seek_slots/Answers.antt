@@ -1,8 +1,7 @@
 use Rattle.hashlink_table.proofs.Names.{◌≡◌, ℕ, ◌+◌, true, false, inl, inr, Option, None, Some, IsSome, refl}
 use Rattle.hashlink_table.proofs.Names.{sym, ap, ◌∙◌, subst, arith, IfSome, cases_eq, cases_lt, eq-eqb}
 use Rattle.hashlink_table.proofs.Names.{eqb-true, true≢false, false≢true, same_Some, count_trailing_zeros}
-use Rattle.hashlink_table.proofs.Names.{Hashed, kept_at, tag_of, kept_may_be}
-use Rattle.hashlink_table.proofs.Masks.{hit, no_hit}
+use Rattle.hashlink_table.proofs.{Names.{Hashed, kept_at, tag_of, kept_may_be}, Masks.{hit, no_hit}}
 use Rattle.hashlink_table.proofs.search.seek_slots.Goals as goal
 
 -- a cell that may have a node has one

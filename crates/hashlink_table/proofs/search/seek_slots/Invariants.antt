@@ -1,6 +1,5 @@
 use Rattle.hashlink_table.proofs.Names.{◌≡◌, ℕ, ◌+◌, ◌-◌, ◌<◌, ◌≤◌, false, Some, drop, count_by, kept_at}
-use Rattle.hashlink_table.proofs.Names.{lanes_of, may_be}
-use Rattle.hashlink_table.proofs.Masks.{IsLeft}
+use Rattle.hashlink_table.proofs.{Names.{lanes_of, may_be}, Masks.IsLeft}
 use Rattle.hashlink_table.proofs.search.seek_slots.Given as goal
 
 -- no cell before this one has the node, and the bits left are those of the cells from this one on. There was

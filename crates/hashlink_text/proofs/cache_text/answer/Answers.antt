@@ -1,8 +1,6 @@
-use Rattle.std.proofs.Common.{◌≡◌, codes, nat_eq, refl, ap, ◌∙◌, rules, [], ◌∷◌}
-use Rattle.std.proofs.lemmas.Result.{on_ok_weaker}
+use Rattle.std.proofs.{Common.{◌≡◌, codes, nat_eq, refl, ap, ◌∙◌, rules, [], ◌∷◌}, lemmas.Result.on_ok_weaker}
 use Rattle.hashlink_lru.specs.Cached.{state_of}
-use Rattle.hashlink_text.specs.declared.shown.Form.TheVariants.{OfValue}
-use Rattle.hashlink_text.specs.Transcript.{Itself, replies_shown}
+use Rattle.hashlink_text.specs.{declared.shown.Form.TheVariants.OfValue, Transcript.{Itself, replies_shown}}
 use Rattle.hashlink_run.proofs.CacheWider.{cache_step-wider}
 use Rattle.hashlink_text.proofs.cache_text.answer.Goals as goal
 

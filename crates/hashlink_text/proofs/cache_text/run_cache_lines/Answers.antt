@@ -1,9 +1,8 @@
 use Rattle.std.proofs.lemmas.Result.{on_ok_weaker}
 use Rattle.hashlink_core.specs.Hashing.{default_builder}
-use Rattle.hashlink_text.specs.Lines.{lines_of}
-use Rattle.hashlink_lru.specs.Cached.{state_of}
-use Rattle.hashlink_text.specs.CacheTranscript.{CacheLineShows}
+use Rattle.hashlink_text.specs.{Lines.lines_of, CacheTranscript.CacheLineShows}
 use Rattle.hashlink_text.proofs.Progress.{Pushes-seen}
+use Rattle.hashlink_lru.specs.Cached.{state_of}
 use Rattle.hashlink_text.proofs.cache_text.run_cache_lines.Goals as goal
 
 pub returns : goal.returns

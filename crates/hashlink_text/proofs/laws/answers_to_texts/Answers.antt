@@ -1,7 +1,6 @@
 use Rattle.std.proofs.Common.{[], ◌∷◌, codes}
 use Rattle.hashlink_core.specs.declared.hash_builder.DefaultHashBuilder.{DefaultHashBuilder}
-use Rattle.hashlink_text.proofs.Answered.{bads, reads, insert_answers, only_answer}
-use Rattle.hashlink_text.proofs.ReadSo.{runs_read}
+use Rattle.hashlink_text.proofs.{Answered.{bads, reads, insert_answers, only_answer}, ReadSo.runs_read}
 use Rattle.hashlink_text.proofs.laws.answers_to_texts.Goals as goal
 
 pub returns : goal.returns

@@ -1,11 +1,8 @@
 use Rattle.std.proofs.Common.{◌≡◌, ℕ, zero, suc, List, [], ◌∷◌, ◌++◌, take, drop, Option, None, Some}
-use Rattle.std.proofs.Common.{option_and_then, refl, sym, ap, ◌∙◌, append_assoc}
-use Rattle.std.specs.Option.{option_map}
+use Rattle.std.{proofs.Common.{option_and_then, refl, sym, ap, ◌∙◌, append_assoc}, specs.Option.option_map}
 use Rattle.hashlink_run.specs.declared.commands.CursorStep.{CursorStep}
-use Rattle.hashlink_text.specs.Lines.{number_of}
+use Rattle.hashlink_text.specs.{Lines.number_of, Spelling.cursor_steps, Tables.Token}
 use Rattle.hashlink_text.specs.Reading.{cursor_step_spelled, numbers_after, read_in, steps_after}
-use Rattle.hashlink_text.specs.Spelling.{cursor_steps}
-use Rattle.hashlink_text.specs.Tables.{Token}
 use Rattle.hashlink_text.proofs.line.said_of_cursor.Goals as goal
 
 steps_after-drop : (n : ℕ) (words : List Token) → steps_after n words ≡ steps_after 0 (drop n words)

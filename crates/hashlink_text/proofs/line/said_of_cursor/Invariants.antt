@@ -1,8 +1,5 @@
-use Rattle.std.proofs.Common.{◌≡◌, ◌++◌, length}
-use Rattle.std.specs.Option.{option_map}
-use Rattle.hashlink_text.specs.Cuts.{parts_left}
-use Rattle.hashlink_text.specs.Reading.{steps_after}
-use Rattle.hashlink_text.specs.Tables.{tokens}
+use Rattle.std.{proofs.Common.{◌≡◌, ◌++◌, length}, specs.Option.option_map}
+use Rattle.hashlink_text.specs.{Cuts.parts_left, Reading.steps_after, Tables.tokens}
 use Rattle.hashlink_text.proofs.line.said_of_cursor.Given as goal
 
 abbrev pub invariant-loop-name : goal.invariant-loop-name

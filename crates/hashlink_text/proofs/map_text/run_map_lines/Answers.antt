@@ -1,10 +1,7 @@
 use Rattle.std.proofs.lemmas.Result.{on_ok_weaker}
-use Rattle.hashlink_core.specs.Hashing.{default_builder}
-use Rattle.hashlink_core.specs.Keyed.{state_of}
-use Rattle.hashlink_text.specs.Lines.{lines_of}
-use Rattle.hashlink_text.specs.Transcript.{LineShows}
+use Rattle.hashlink_core.specs.{Hashing.default_builder, Keyed.state_of}
+use Rattle.hashlink_text.{specs.Lines.lines_of, specs.Transcript.LineShows, proofs.Progress.Pushes-seen}
 use Rattle.hashlink_text.specs.declared.map_text.MapWithReplies.{MapWithReplies}
-use Rattle.hashlink_text.proofs.Progress.{Pushes-seen}
 use Rattle.hashlink_text.proofs.map_text.run_map_lines.Goals as goal
 
 pub returns : goal.returns

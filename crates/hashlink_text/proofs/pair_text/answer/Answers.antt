@@ -2,10 +2,8 @@ use Rattle.std.proofs.Common.{◌≡◌, ◌++◌, [], ◌∷◌, codes, decimal
 use Rattle.std.proofs.lemmas.Result.{on_ok_weaker}
 use Rattle.hashlink_history.specs.CacheRuns.{answer_to}
 use Rattle.hashlink_lru.specs.Cached.{entries_of, state_of}
-use Rattle.hashlink_run.specs.CacheCalls.{event_of}
-use Rattle.hashlink_text.specs.CacheTranscript.{TwoLists, answers_shown}
-use Rattle.hashlink_text.specs.Transcript.{ended, shown_by}
-use Rattle.hashlink_run.proofs.Called.{left}
+use Rattle.hashlink_run.{specs.CacheCalls.event_of, proofs.Called.left}
+use Rattle.hashlink_text.specs.{CacheTranscript.{TwoLists, answers_shown}, Transcript.{ended, shown_by}}
 use Rattle.hashlink_text.proofs.pair_text.answer.Goals as goal
 
 pub returns-in_default-clause-shown : goal.returns-in_default-clause-shown

@@ -1,5 +1,4 @@
-use Rattle.std.proofs.Common.{◌++◌, ap, ◌∙◌, refl, append_assoc, string_bytes}
-use Rattle.std.proofs.lemmas.Result.{on_ok_weaker}
+use Rattle.std.proofs.{Common.{◌++◌, ap, ◌∙◌, refl, append_assoc, string_bytes}, lemmas.Result.on_ok_weaker}
 use Rattle.hashlink_lru.specs.Cached.{entries_of, state_of}
 use Rattle.hashlink_text.specs.CacheTranscript.{TwoLists, PairLineShows, lists_shown}
 use Rattle.hashlink_text.proofs.Progress.{HasCome-start, HasCome-line, HasCome-all}

@@ -1,8 +1,6 @@
 use Rattle.std.proofs.Common.{◌≡◌, string_bytes}
-use Rattle.hashlink_text.specs.Lines.{lines_of}
+use Rattle.hashlink_text.{specs.Lines.lines_of, specs.CacheTranscript.PairLineShows, proofs.Progress.HasCome}
 use Rattle.hashlink_lru.specs.Cached.{entries_of, state_of}
-use Rattle.hashlink_text.specs.CacheTranscript.{PairLineShows}
-use Rattle.hashlink_text.proofs.Progress.{HasCome}
 use Rattle.hashlink_text.proofs.pair_text.answer_all.Given as goal
 
 abbrev pub invariant-loop-line : goal.invariant-loop-line

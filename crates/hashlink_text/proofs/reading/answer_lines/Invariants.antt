@@ -1,6 +1,5 @@
 use Rattle.std.proofs.Common.{string_bytes}
-use Rattle.hashlink_text.specs.Lines.{lines_of}
-use Rattle.hashlink_text.proofs.Progress.{HasCome}
+use Rattle.hashlink_text.{specs.Lines.lines_of, proofs.Progress.HasCome}
 use Rattle.hashlink_text.proofs.reading.answer_lines.Given as goal
 
 abbrev pub invariant-loop-line : goal.invariant-loop-line

@@ -1,7 +1,5 @@
 use Rattle.std.proofs.Common.{◌≡◌, ℕ, ◌+◌, ◌<◌, Bool, true, false, List, length, get_or, drop, cond, Some}
-use Rattle.std.proofs.Common.{Bor, sym, ap, ◌∙◌}
-use Rattle.std.specs.Map.{lookup}
-use Rattle.std.specs.Str.{bytes_eq}
+use Rattle.std.{proofs.Common.{Bor, sym, ap, ◌∙◌}, specs.Map.lookup, specs.Str.bytes_eq}
 use Rattle.std.proofs.lemmas.List.{at_drop_all, at_drop_more}
 use Rattle.hashlink_text.specs.Cuts.{words_shown}
 use Rattle.hashlink_text.proofs.tables.said_by.Goals as goal

@@ -1,6 +1,4 @@
-use Rattle.std.proofs.Common.{◌≡◌, drop}
-use Rattle.std.specs.Map.{lookup}
-use Rattle.std.specs.Str.{bytes_eq}
+use Rattle.std.{proofs.Common.{◌≡◌, drop}, specs.Map.lookup, specs.Str.bytes_eq}
 use Rattle.hashlink_text.specs.Cuts.{words_shown}
 use Rattle.hashlink_text.proofs.tables.said_by.Given as goal
 

@@ -1,6 +1,5 @@
 use Rattle.std.proofs.Common.{string_bytes}
-use Rattle.hashlink_text.specs.Transcript.{pair_shown}
-use Rattle.hashlink_text.proofs.Lists.{joined-first}
+use Rattle.hashlink_text.{specs.Transcript.pair_shown, proofs.Lists.joined-first}
 use Rattle.hashlink_text.proofs.text.push_list.Goals as goal
 
 pub loop-key-init : goal.loop-key-init

@@ -1,6 +1,5 @@
 use Rattle.std.proofs.Common.{◌≡◌, ◌++◌, string_bytes}
-use Rattle.hashlink_text.specs.Transcript.{list_shown, pair_shown}
-use Rattle.hashlink_text.proofs.Lists.{following_shown}
+use Rattle.hashlink_text.{specs.Transcript.{list_shown, pair_shown}, proofs.Lists.following_shown}
 use Rattle.hashlink_text.proofs.text.push_list.Given as goal
 
 abbrev pub invariant-loop-key : goal.invariant-loop-key

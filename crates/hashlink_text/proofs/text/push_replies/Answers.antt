@@ -1,6 +1,5 @@
 use Rattle.std.proofs.Common.{sym, ◌∙◌, string_bytes}
-use Rattle.hashlink_text.specs.Transcript.{reply_shown}
-use Rattle.hashlink_text.proofs.Lists.{joined-first}
+use Rattle.hashlink_text.{specs.Transcript.reply_shown, proofs.Lists.joined-first}
 use Rattle.hashlink_text.proofs.text.push_replies.Goals as goal
 
 pub loop-reply-init : goal.loop-reply-init

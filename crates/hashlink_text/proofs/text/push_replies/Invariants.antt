@@ -1,6 +1,5 @@
 use Rattle.std.proofs.Common.{◌≡◌, ◌++◌, string_bytes}
-use Rattle.hashlink_text.specs.Transcript.{reply_shown, replies_shown}
-use Rattle.hashlink_text.proofs.Lists.{following_shown}
+use Rattle.hashlink_text.{specs.Transcript.{reply_shown, replies_shown}, proofs.Lists.following_shown}
 use Rattle.hashlink_text.proofs.text.push_replies.Given as goal
 
 abbrev pub invariant-loop-reply : goal.invariant-loop-reply

@@ -1,7 +1,6 @@
 use Rattle.std.proofs.Common.{◌≡◌, ◌∷◌, ◌++◌, sym, ap, ◌∙◌, subst}
 use Rattle.hashlink_core.specs.declared.hash_builder.DefaultHashBuilder.{DefaultHashBuilder}
-use Rattle.hashlink_text.specs.Lines.{lines_of}
-use Rattle.hashlink_text.specs.Text.{LinesRun, ModeRun}
+use Rattle.hashlink_text.specs.{Lines.lines_of, Text.{LinesRun, ModeRun}}
 use Rattle.hashlink_text.proofs.text.run_text.Goals as goal
 
 pub returns-clause-answer : goal.returns-clause-answer

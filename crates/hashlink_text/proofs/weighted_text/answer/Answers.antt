@@ -1,7 +1,5 @@
-use Rattle.std.proofs.Common.{◌≡◌, codes, nat_eq, refl, ap, ◌∙◌, rules, [], ◌∷◌}
-use Rattle.std.proofs.lemmas.Result.{on_ok_weaker}
-use Rattle.hashlink_text.specs.declared.shown.Form.TheVariants.{OfValue}
-use Rattle.hashlink_text.specs.Transcript.{Itself, replies_shown}
+use Rattle.std.proofs.{Common.{◌≡◌, codes, nat_eq, refl, ap, ◌∙◌, rules, [], ◌∷◌}, lemmas.Result.on_ok_weaker}
+use Rattle.hashlink_text.specs.{declared.shown.Form.TheVariants.OfValue, Transcript.{Itself, replies_shown}}
 use Rattle.hashlink_run.proofs.CacheWider.{weighted_step-wider}
 use Rattle.hashlink_text.proofs.weighted_text.answer.Goals as goal
 

@@ -1,6 +1,5 @@
 use Rattle.std.proofs.Common.{◌≡◌, ◌++◌, string_bytes}
-use Rattle.hashlink_text.specs.Transcript.{list_shown, pair_shown}
-use Rattle.hashlink_text.specs.WeightedTranscript.{pairs_of}
+use Rattle.hashlink_text.specs.{Transcript.{list_shown, pair_shown}, WeightedTranscript.pairs_of}
 use Rattle.hashlink_text.proofs.Lists.{following_shown}
 use Rattle.hashlink_text.proofs.weighted_text.push_pairs.Given as goal
 

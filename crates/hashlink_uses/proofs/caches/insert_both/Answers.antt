@@ -1,5 +1,4 @@
-use Rattle.hashlink.specs.Cached.{state_of}
-use Rattle.hashlink.proofs.Extending.{inserted_fits}
+use Rattle.hashlink.{specs.Cached.state_of, proofs.Extending.inserted_fits}
 use Rattle.hashlink_uses.proofs.caches.insert_both.Goals as goal
 
 pub returns-clause-within : goal.returns-clause-within

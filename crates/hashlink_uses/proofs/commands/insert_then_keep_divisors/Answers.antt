@@ -1,8 +1,6 @@
 use Rattle.std.proofs.Common.{◌≢◌, ℕ, Bool, All, [], ◌∷◌, inl, inr, length, subst, sym}
 use Rattle.std.proofs.lemmas.List.Elements.{All-contains}
-use Rattle.hashlink.specs.MapState.{MapState}
-use Rattle.hashlink.specs.Run.{ShownBy}
-use Rattle.hashlink.specs.declared.run.Command.TheVariants.{Insert, Keep}
+use Rattle.hashlink.specs.{MapState.MapState, Run.ShownBy, declared.run.Command.TheVariants.{Insert, Keep}}
 use Rattle.hashlink.proofs.CallerLemmas.{All-inserts, shown_now_or_later}
 use Rattle.hashlink_uses.proofs.commands.insert_then_keep_divisors.Goals as goal
 

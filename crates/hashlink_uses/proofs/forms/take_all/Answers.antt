@@ -1,8 +1,6 @@
-use Rattle.std.proofs.Common.{List, Option, Result, Ok, Err, IfOk, ◌≡◌}
-use Rattle.std.specs.Iterator.{DrainsIf}
+use Rattle.std.{proofs.Common.{List, Option, Result, Ok, Err, IfOk, ◌≡◌}, specs.Iterator.DrainsIf}
 use Rattle.std.specs.Map.Iter.{TakesFirst}
-use Rattle.hashlink.proofs.CallerLemmas.{given_all}
-use Rattle.hashlink.specs.MapDrain.{DrainSteps, drain_rest}
+use Rattle.hashlink.{proofs.CallerLemmas.given_all, specs.MapDrain.{DrainSteps, drain_rest}}
 use Rattle.hashlink_uses.proofs.Common.{ap, entries_of, sym, ◌∙◌}
 use Rattle.hashlink_uses.proofs.forms.take_all.Goals as goal
 

@@ -1,8 +1,7 @@
 use Rattle.std.proofs.Common.{◌∷◌, ◌++◌, ◌+◌, add-one, ap, ap₂, drop, drop-cons, sym, ◌∙◌}
 use Rattle.std.proofs.lemmas.List.{append-nil, drop_all}
 use Rattle.hashlink.specs.Sets.{elements_of}
-use Rattle.hashlink_uses.specs.Appearances.{first_appearances}
-use Rattle.hashlink_uses.proofs.Appearing.{appears}
+use Rattle.hashlink_uses.{specs.Appearances.first_appearances, proofs.Appearing.appears}
 use Rattle.hashlink_uses.proofs.lines.distinct.Goals as goal
 
 pub loop-item-init : goal.loop-item-init

@@ -1,5 +1,4 @@
-use Rattle.std.proofs.Common.{map}
-use Rattle.std.specs.Str.{bytes_eq}
+use Rattle.std.{proofs.Common.map, specs.Str.bytes_eq}
 use Rattle.hashlink_uses.proofs.Appearing.{map-appearances}
 use Rattle.hashlink_uses.proofs.Common.{[], ap, ◌∙◌, IfOk-weaker, first_appearances}
 use Rattle.hashlink_uses.proofs.lines.distinct_lines.Goals as goal

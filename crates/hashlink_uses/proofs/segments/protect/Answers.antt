@@ -1,5 +1,4 @@
-use Rattle.hashlink.specs.Cached.{state_of}
-use Rattle.hashlink.proofs.Joined.{pushed-parts}
+use Rattle.hashlink.{specs.Cached.state_of, proofs.Joined.pushed-parts}
 use Rattle.hashlink_uses.proofs.segments.protect.Goals as goal
 
 pub returns-in-Ok-clause-parts : goal.returns-in-Ok-clause-parts

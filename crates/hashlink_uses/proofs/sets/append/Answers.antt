@@ -1,5 +1,4 @@
-use Rattle.std.specs.Iterator.{Yields}
-use Rattle.std.specs.Map.Iter.{TakesFirst}
+use Rattle.std.specs.{Iterator.Yields, Map.Iter.TakesFirst}
 use Rattle.hashlink.specs.Sets.{SetInserts}
 use Rattle.hashlink_uses.proofs.Common.{subst, on_ok_weaker, IfErr-weaker, extended_by_all, extended_until}
 use Rattle.hashlink_uses.proofs.sets.append.Goals as goal

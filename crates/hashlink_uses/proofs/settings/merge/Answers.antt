@@ -1,5 +1,4 @@
-use Rattle.std.proofs.lemmas.List.Sums.{fold-append}
-use Rattle.std.proofs.lemmas.Result.{err_from_is_err_and}
+use Rattle.std.proofs.lemmas.{List.Sums.fold-append, Result.err_from_is_err_and}
 use Rattle.hashlink.specs.Entries.{place_or_end, put}
 use Rattle.hashlink_uses.proofs.Common.{List, [], ◌∷◌, ◌++◌, append_assoc, ap, refl, sym, ◌∙◌, append-nil}
 use Rattle.hashlink_uses.proofs.Common.{entries_of, merged}

@@ -1,8 +1,7 @@
 use Rattle.hashlink.specs.Entries.{place_or_end, put}
 use Rattle.hashlink.proofs.CallerLemmas.{keys-put_in_place, lookup-replaced_each}
-use Rattle.hashlink_uses.proofs.Appearing.{appears}
 use Rattle.hashlink_uses.proofs.Common.{◌≡◌, Bool, List, [], ◌∷◌, ◌++◌, ap, sym, ◌∙◌, keys_of, append-nil}
-use Rattle.hashlink_uses.proofs.Common.{first_appearances, merged}
+use Rattle.hashlink_uses.proofs.{Appearing.appears, Common.{first_appearances, merged}}
 use Rattle.hashlink_uses.proofs.settings.what_a_merge_leaves.Goals as goal
 
 keys-merged : {K V : Type 0} (eq : K → K → Bool) (es pairs : List (K × V))

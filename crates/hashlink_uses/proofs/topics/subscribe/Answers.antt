@@ -1,11 +1,8 @@
-use Rattle.std.proofs.Common.{ap, is_ok, length, nat_eq, not, rules, ◌∙◌}
-use Rattle.std.specs.Set.{is_member}
+use Rattle.std.{proofs.Common.{ap, is_ok, length, nat_eq, not, rules, ◌∙◌}, specs.Set.is_member}
 use Rattle.std.specs.String.{string_bytes, string_eq_equiv}
-use Rattle.hashlink.specs.Sets.{elements_of, put_element}
-use Rattle.hashlink_uses.proofs.Common.{keys_of}
 use Rattle.hashlink.proofs.CallerLemmas.{read-found_or_made, read-text_same, read-text_updated}
-use Rattle.hashlink.proofs.CallerLemmas.{updates-entered}
-use Rattle.hashlink_uses.specs.Subscribers.{elements_in}
+use Rattle.hashlink.{specs.Sets.{elements_of, put_element}, proofs.CallerLemmas.updates-entered}
+use Rattle.hashlink_uses.{proofs.Common.keys_of, specs.Subscribers.elements_in}
 use Rattle.hashlink_uses.proofs.topics.subscribe.Goals as goal
 
 pub returns : goal.returns

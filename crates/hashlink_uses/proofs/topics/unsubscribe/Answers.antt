@@ -1,5 +1,4 @@
-use Rattle.std.proofs.Common.{ap, nat_eq, sym, ◌∙◌}
-use Rattle.std.specs.Set.{remove_key}
+use Rattle.std.{proofs.Common.{ap, nat_eq, sym, ◌∙◌}, specs.Set.remove_key}
 use Rattle.std.proofs.lemmas.List.{nil_from_length}
 use Rattle.hashlink.proofs.CallerLemmas.{read-text_updated, updates-lent, updates-twice}
 use Rattle.hashlink_uses.specs.Subscribers.{elements_in}

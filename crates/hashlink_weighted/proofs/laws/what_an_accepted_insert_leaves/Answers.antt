@@ -1,10 +1,7 @@
-use Rattle.std.proofs.Common.{ap, sym, ◌∙◌, ◌++◌, length}
-use Rattle.std.specs.Map.{lookup}
-use Rattle.hashlink_model.specs.Entries.{put}
-use Rattle.hashlink_model.specs.Walk.{last_of}
+use Rattle.std.{proofs.Common.{ap, sym, ◌∙◌, ◌++◌, length}, specs.Map.lookup}
+use Rattle.hashlink_model.specs.{Entries.put, Walk.last_of}
 use Rattle.hashlink_model.proofs.Weighted.{weighted_entries, weighted_total}
-use Rattle.hashlink_weighted.specs.Evicted.{not_fitting}
-use Rattle.hashlink_weighted.proofs.Evicting.{evicted_before}
+use Rattle.hashlink_weighted.{specs.Evicted.not_fitting, proofs.Evicting.evicted_before}
 use Rattle.hashlink_weighted.proofs.Inserted.{last_put}
 use Rattle.hashlink_weighted.proofs.laws.what_an_accepted_insert_leaves.Goals as goal
 

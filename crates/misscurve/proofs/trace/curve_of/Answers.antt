@@ -1,5 +1,4 @@
-use Rattle.std.proofs.Common.{◌<◌, ap, length, rules, ◌∙◌}
-use Rattle.std.specs.Io.BufRead.{strip_last}
+use Rattle.std.{proofs.Common.{◌<◌, ap, length, rules, ◌∙◌}, specs.Io.BufRead.strip_last}
 use Rattle.std.specs.Io.KnownBytes.{IsAtEnd}
 use Rattle.misscurve.proofs.Lines.{Reads-all, Reads-end, Reads-line, Reads-none}
 use Rattle.misscurve.proofs.trace.curve_of.Goals as goal

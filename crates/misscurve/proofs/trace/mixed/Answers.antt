@@ -1,5 +1,4 @@
-use Rattle.std.proofs.Common.{◌*◌, ◌%◌, ◌^◌, ap, sym, ◌∙◌, get_or, take_all}
-use Rattle.std.specs.Prelude.{fold}
+use Rattle.std.{proofs.Common.{◌*◌, ◌%◌, ◌^◌, ap, sym, ◌∙◌, get_or, take_all}, specs.Prelude.fold}
 use Rattle.std.proofs.lemmas.List.Sums.{fold_more}
 use Rattle.misscurve.specs.Trace.{high_bits_down, multiplied}
 use Rattle.misscurve.proofs.trace.mixed.Goals as goal

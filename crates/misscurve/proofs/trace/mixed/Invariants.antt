@@ -1,5 +1,4 @@
-use Rattle.std.proofs.Common.{◌≡◌, take}
-use Rattle.std.specs.Prelude.{fold}
+use Rattle.std.{proofs.Common.{◌≡◌, take}, specs.Prelude.fold}
 use Rattle.misscurve.specs.Trace.{multiplied}
 use Rattle.misscurve.proofs.trace.mixed.Given as goal
 

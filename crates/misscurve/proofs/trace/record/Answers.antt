@@ -1,7 +1,5 @@
-use Rattle.std.proofs.Common.{◌≡◌, [], ◌∷◌, cond, ap, sym, ◌∙◌, rules}
-use Rattle.std.specs.Cmp.Lexicographic.{pointwise, bytes_decides}
-use Rattle.std.specs.Prelude.{nat_eq}
-use Rattle.std.proofs.lemmas.Cmp.{nat_list_eq_equiv}
+use Rattle.std.{proofs.Common.{◌≡◌, [], ◌∷◌, cond, ap, sym, ◌∙◌, rules}, specs.Prelude.nat_eq}
+use Rattle.std.{specs.Cmp.Lexicographic.{pointwise, bytes_decides}, proofs.lemmas.Cmp.nat_list_eq_equiv}
 use Rattle.std.proofs.lemmas.List.Folds.{Any-from_list_any}
 use Rattle.misscurve.proofs.trace.record.Goals as goal
 

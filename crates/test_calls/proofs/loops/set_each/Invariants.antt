@@ -1,7 +1,5 @@
 use Rattle.std.proofs.Common.{◌≡◌}
-use Rattle.hashlink.specs.IterMut.{values_map, values_state}
-use Rattle.hashlink.specs.Keyed.{state_of}
-use Rattle.hashlink.specs.WritingWalk.{WritesSoFar}
+use Rattle.hashlink.specs.{IterMut.{values_map, values_state}, Keyed.state_of, WritingWalk.WritesSoFar}
 use Rattle.test_calls.proofs.loops.set_each.Given as goal
 
 -- the entries before the ones left have been written

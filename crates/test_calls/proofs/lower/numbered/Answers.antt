@@ -1,5 +1,4 @@
-use Rattle.std.proofs.Common.{ℕ, refl, ap, arith}
-use Rattle.std.proofs.lemmas.List.Sorted.{length_permutation}
+use Rattle.std.proofs.{Common.{ℕ, refl, ap, arith}, lemmas.List.Sorted.length_permutation}
 use Rattle.hashlink_table.specs.Contents.{Contents, len_of}
 use Rattle.test_calls.proofs.Numbered.{numbered_none, numbered_more, numbered_few}
 use Rattle.test_calls.proofs.Telling.{tells-none, tells-more, tells-same}

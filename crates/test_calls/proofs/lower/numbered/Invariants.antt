@@ -1,7 +1,6 @@
 use Rattle.std.proofs.Common.{◌≤◌}
 use Rattle.hashlink_table.specs.Contents.{len_of}
-use Rattle.test_calls.specs.Telling.{Tells}
-use Rattle.test_calls.proofs.Numbered.{IsNumbered}
+use Rattle.test_calls.{specs.Telling.Tells, proofs.Numbered.IsNumbered}
 use Rattle.test_calls.proofs.lower.numbered.Given as goal
 
 abbrev pub invariant-loop-number : goal.invariant-loop-number

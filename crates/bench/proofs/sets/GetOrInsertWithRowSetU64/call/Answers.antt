@@ -1,8 +1,6 @@
 -- The element that is made is the key, which is absent.
 use Rattle.std.proofs.Common.{◌≡◌, nat_eq, ℕ, Bool, true, false, List, [], ◌∷◌, Option, Some, None, cond}
-use Rattle.std.proofs.Common.{is_some, refl, sym, ap, ◌∙◌, ◌||◌}
-use Rattle.std.specs.List.{find}
-use Rattle.std.specs.Map.{keys_of}
+use Rattle.std.{proofs.Common.{is_some, refl, sym, ap, ◌∙◌, ◌||◌}, specs.List.find, specs.Map.keys_of}
 use Rattle.std.specs.Set.{is_member}
 use Rattle.bench.proofs.sets.GetOrInsertWithRowSetU64.call.Goals as goal
 

@@ -1,11 +1,9 @@
 use Rattle.hashlink_core.proofs.Names.{◌≡◌, [], ◌∷◌, ◌++◌, ◌∙◌, None, Some, sym, ap, subst, arith, is_some}
 use Rattle.hashlink_core.proofs.Names.{option_map, length, lookup, remove_entry, keys_of, same_node}
 use Rattle.hashlink_core.proofs.Names.{map-append, next_place, prev_place, IfSome, IsEntries, pair_of}
-use Rattle.hashlink_core.proofs.Names.{nodes_of}
-use Rattle.hashlink_nodes.proofs.Cuts.{same_some}
-use Rattle.hashlink_core.specs.Drained.{HasEnds}
-use Rattle.hashlink_core.proofs.Neighbours.{distinct-left}
+use Rattle.hashlink_core.{proofs.Names.nodes_of, specs.Drained.HasEnds, proofs.Neighbours.distinct-left}
 use Rattle.hashlink_core.proofs.Ends.{last_entry, found_last, without_last, ends_without_last}
+use Rattle.hashlink_nodes.proofs.Cuts.{same_some}
 use Rattle.hashlink_core.proofs.drained.DrainedNodes.pop_back.Goals as goal
 
 pub before-self-inside-requires : goal.before-self-inside-requires

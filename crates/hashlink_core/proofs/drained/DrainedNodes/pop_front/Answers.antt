@@ -1,9 +1,8 @@
 use Rattle.hashlink_core.proofs.Names.{◌≡◌, ◌∷◌, ◌∙◌, None, Some, sym, ap, subst, arith, is_some, option_map}
 use Rattle.hashlink_core.proofs.Names.{length, lookup, remove_entry, keys_of, same_node, next_place}
-use Rattle.hashlink_core.proofs.Names.{prev_place, IfSome, pair_of, nodes_of}
-use Rattle.hashlink_nodes.proofs.Cuts.{same_some}
-use Rattle.hashlink_core.specs.Drained.{HasEnds}
+use Rattle.hashlink_core.{proofs.Names.{prev_place, IfSome, pair_of, nodes_of}, specs.Drained.HasEnds}
 use Rattle.hashlink_core.proofs.Ends.{first_entry, found_first, without_first, ends_without_first}
+use Rattle.hashlink_nodes.proofs.Cuts.{same_some}
 use Rattle.hashlink_core.proofs.drained.DrainedNodes.pop_front.Goals as goal
 
 pub after-self-inside-requires : goal.after-self-inside-requires

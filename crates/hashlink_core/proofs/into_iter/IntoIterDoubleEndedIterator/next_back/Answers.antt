@@ -1,5 +1,4 @@
-use Rattle.hashlink_core.proofs.Names.{sym, ap, ◌∙◌, pairs_in}
-use Rattle.hashlink_core.proofs.Walk.{pairs_in-last, progress-back}
+use Rattle.hashlink_core.proofs.{Names.{sym, ap, ◌∙◌, pairs_in}, Walk.{pairs_in-last, progress-back}}
 use Rattle.hashlink_core.proofs.into_iter.IntoIterDoubleEndedIterator.next_back.Goals as goal
 
 pub returns-clause-steps : goal.returns-clause-steps

@@ -1,5 +1,4 @@
-use Rattle.hashlink_core.proofs.Names.{sym, ap, ◌∙◌, arith, length, pairs_in}
-use Rattle.hashlink_core.proofs.Walk.{progress}
+use Rattle.hashlink_core.proofs.{Names.{sym, ap, ◌∙◌, arith, length, pairs_in}, Walk.progress}
 use Rattle.hashlink_core.proofs.into_iter.IntoIterIterator.next.Goals as goal
 
 pub returns-clause-steps : goal.returns-clause-steps

@@ -1,5 +1,4 @@
-use Rattle.std.proofs.Common.{sym, ◌∙◌}
-use Rattle.std.specs.Map.Iter.{deref_pair}
+use Rattle.std.{proofs.Common.{sym, ◌∙◌}, specs.Map.Iter.deref_pair}
 use Rattle.hashlink_core.proofs.Walk.{last-holds, stands-prev, gives-last, progress-back}
 use Rattle.hashlink_core.proofs.iter.IterDoubleEndedIterator.next_back.Goals as goal
 

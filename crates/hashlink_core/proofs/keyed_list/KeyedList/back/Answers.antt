@@ -1,6 +1,5 @@
 use Rattle.std.proofs.Common.{length, None}
-use Rattle.hashlink_core.proofs.Calls.{sound, prev-inside}
-use Rattle.hashlink_core.proofs.Neighbours.{before-guard}
+use Rattle.hashlink_core.proofs.{Calls.{sound, prev-inside}, Neighbours.before-guard}
 use Rattle.hashlink_core.proofs.keyed_list.KeyedList.back.Goals as goal
 
 pub returns-clause-place : goal.returns-clause-place

@@ -1,5 +1,4 @@
-use Rattle.hashlink_core.proofs.Names.{◌≡◌, ap, hash_with}
-use Rattle.hashlink_core.proofs.Calls.{sound}
+use Rattle.hashlink_core.proofs.{Names.{◌≡◌, ap, hash_with}, Calls.sound}
 use Rattle.hashlink_core.proofs.Finding.{Search, query-search, listed-holds, told-hash, found-by_table}
 use Rattle.hashlink_core.proofs.keyed_list.KeyedList.find.Goals.{After-short_hash}
 use Rattle.hashlink_core.proofs.keyed_list.KeyedList.find.Given as given

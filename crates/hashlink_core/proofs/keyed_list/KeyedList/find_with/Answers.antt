@@ -1,8 +1,7 @@
 use Rattle.hashlink_core.proofs.Names.{◌≡◌, Some, ap, subst, sym, ◌∙◌, Contains, FnReturnsAt, fold, keys_of}
 use Rattle.hashlink_core.proofs.Names.{lookup, Held, Node, same_node, entries_of, hash_with, short, Tells}
-use Rattle.hashlink_core.proofs.Calls.{sound}
+use Rattle.hashlink_core.proofs.{Calls.sound, keyed_list.KeyedList.find_with.Goals.After-short_hash}
 use Rattle.hashlink_core.proofs.Finding.{Search, listed-holds, told-hash, found-by_table, key-held, told}
-use Rattle.hashlink_core.proofs.keyed_list.KeyedList.find_with.Goals.{After-short_hash}
 use Rattle.hashlink_core.proofs.keyed_list.KeyedList.find_with.Given as given
 use Rattle.hashlink_core.proofs.keyed_list.KeyedList.find_with.Goals as goal
 

@@ -1,5 +1,4 @@
-use Rattle.hashlink_core.proofs.Names.{length, None, around}
-use Rattle.hashlink_core.proofs.Calls.{sound, next-inside}
+use Rattle.hashlink_core.proofs.{Names.{length, None, around}, Calls.{sound, next-inside}}
 use Rattle.hashlink_core.proofs.keyed_list.KeyedList.front.Goals as goal
 
 pub returns-clause-place : goal.returns-clause-place

@@ -1,7 +1,6 @@
-use Rattle.hashlink_core.proofs.Names.{◌∙◌, length, None, entries_of, state_of}
-use Rattle.hashlink_model.specs.MapState.{Inserts}
 use Rattle.hashlink_core.proofs.AtKeyNode.{guard-number, written-number, written-holds, put, added, refused}
-use Rattle.hashlink_core.proofs.AtKeyNode.{passed-on}
+use Rattle.hashlink_core.proofs.{Names.{◌∙◌, length, None, entries_of, state_of}, AtKeyNode.passed-on}
+use Rattle.hashlink_model.specs.MapState.{Inserts}
 use Rattle.hashlink_core.proofs.keyed_list.KeyedList.insert.Goals as goal
 
 -- ---- a present key

@@ -1,10 +1,9 @@
-use Rattle.hashlink_core.proofs.Names.{◌≡◌, Some, refl, rules, state_of, IsKeyed, place_number, WritesNode}
-use Rattle.hashlink_model.specs.MapState.{Inserts}
-use Rattle.hashlink_core.proofs.AtKey.{stays-key}
-use Rattle.hashlink_core.proofs.AtKeyNode.{written-number, written-holds, put, added, refused, passed-on}
 use Rattle.hashlink_core.proofs.Keeping.{keeps-place, keys-added, keys-grown, keys-moved, keys-place}
-use Rattle.hashlink_core.proofs.Keeping.{keys-written, keys_twice, left-place}
+use Rattle.hashlink_core.proofs.Names.{◌≡◌, Some, refl, rules, state_of, IsKeyed, place_number, WritesNode}
+use Rattle.hashlink_core.proofs.{AtKey.stays-key, Keeping.{keys-written, keys_twice, left-place}}
+use Rattle.hashlink_core.proofs.AtKeyNode.{written-number, written-holds, put, added, refused, passed-on}
 use Rattle.hashlink_core.proofs.keyed_list.KeyedList.insert_at.Goals.{After-is_at}
+use Rattle.hashlink_model.specs.MapState.{Inserts}
 use Rattle.hashlink_core.proofs.keyed_list.KeyedList.insert_at.Given as given
 use Rattle.hashlink_core.proofs.keyed_list.KeyedList.insert_at.Goals as goal
 

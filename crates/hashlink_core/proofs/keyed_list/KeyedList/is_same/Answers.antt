@@ -1,7 +1,5 @@
-use Rattle.hashlink_core.proofs.Names.{ap, ◌∙◌, arith, seen_as}
-use Rattle.hashlink_core.proofs.Calls.{held-inside}
 use Rattle.hashlink_core.proofs.Finding.{Marked, asked-short, marked-holds, marked-same, restored-ring}
-use Rattle.hashlink_core.proofs.Finding.{restored-step}
+use Rattle.hashlink_core.proofs.{Names.{ap, ◌∙◌, arith, seen_as}, Calls.held-inside, Finding.restored-step}
 use Rattle.hashlink_core.proofs.keyed_list.KeyedList.is_same.Goals.{After-set_number}
 use Rattle.hashlink_core.proofs.keyed_list.KeyedList.is_same.Given as given
 use Rattle.hashlink_core.proofs.keyed_list.KeyedList.is_same.Goals as goal

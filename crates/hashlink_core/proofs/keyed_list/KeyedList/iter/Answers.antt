@@ -1,6 +1,4 @@
-use Rattle.hashlink_core.proofs.Names.{deref_pair}
-use Rattle.hashlink_core.proofs.Calls.{sound}
-use Rattle.hashlink_core.proofs.Walk.{in-order, in-reverse}
+use Rattle.hashlink_core.proofs.{Names.deref_pair, Calls.sound, Walk.{in-order, in-reverse}}
 use Rattle.hashlink_core.proofs.keyed_list.KeyedList.iter.Goals as goal
 
 pub returns-clause-runs : goal.returns-clause-runs

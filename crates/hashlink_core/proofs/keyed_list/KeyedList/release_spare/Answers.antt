@@ -1,5 +1,4 @@
-use Rattle.std.proofs.Common.{length, ap, arith}
-use Rattle.std.proofs.lemmas.List.Sorted.{IsPermutation-refl}
+use Rattle.std.proofs.{Common.{length, ap, arith}, lemmas.List.Sorted.IsPermutation-refl}
 use Rattle.hashlink_core.proofs.Stepping.{step-same}
 use Rattle.hashlink_core.proofs.keyed_list.KeyedList.release_spare.Goals as goal
 

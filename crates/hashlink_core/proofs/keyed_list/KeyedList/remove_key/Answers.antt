@@ -1,9 +1,7 @@
 use Rattle.hashlink_core.proofs.Names.{◌≡◌, Some, None, refl, ap, sym, ◌∙◌, entries_of, state_of, seen_as}
-use Rattle.hashlink_core.proofs.Names.{HoldsMatch, hash_with}
-use Rattle.hashlink_core.proofs.Calls.{sound, stored, removed-step, removed-node}
 use Rattle.hashlink_core.proofs.Finding.{Search, query-search, listed-holds, listed-number, told-hash}
-use Rattle.hashlink_core.proofs.Finding.{found-by_table}
-use Rattle.hashlink_core.proofs.Stepping.{was-kept}
+use Rattle.hashlink_core.proofs.{Names.{HoldsMatch, hash_with}, Finding.found-by_table, Stepping.was-kept}
+use Rattle.hashlink_core.proofs.Calls.{sound, stored, removed-step, removed-node}
 use Rattle.hashlink_core.proofs.Steps.{lookup_entry-unplaced, removes_match}
 use Rattle.hashlink_core.proofs.keyed_list.KeyedList.remove_key.Goals.{After-short_hash-hash}
 use Rattle.hashlink_core.proofs.keyed_list.KeyedList.remove_key.Given as given

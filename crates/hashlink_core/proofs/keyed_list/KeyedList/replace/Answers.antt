@@ -1,5 +1,4 @@
-use Rattle.hashlink_core.proofs.Names.{length, Replaces, entries_of, state_of}
-use Rattle.hashlink_core.proofs.AtKey.{replaced-key}
+use Rattle.hashlink_core.proofs.{Names.{length, Replaces, entries_of, state_of}, AtKey.replaced-key}
 use Rattle.hashlink_core.proofs.AtKeyNode.{guard-number, added, refused, passed-on}
 use Rattle.hashlink_core.proofs.keyed_list.KeyedList.replace.Goals as goal
 

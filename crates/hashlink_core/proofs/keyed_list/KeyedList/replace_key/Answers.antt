@@ -1,6 +1,5 @@
-use Rattle.hashlink_core.proofs.Names.{refl, ap, sym, fold}
+use Rattle.hashlink_core.proofs.{Names.{refl, ap, sym, fold}, Holding.equal-holds}
 use Rattle.hashlink_core.proofs.Calls.{sound, held-inside, part-stored, key-written}
-use Rattle.hashlink_core.proofs.Holding.{equal-holds}
 use Rattle.hashlink_core.proofs.keyed_list.KeyedList.replace_key.Goals as goal
 
 -- equal keys have the same hash

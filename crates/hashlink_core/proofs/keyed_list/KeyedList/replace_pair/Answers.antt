@@ -1,7 +1,6 @@
 use Rattle.hashlink_core.proofs.Names.{◌≡◌, Some, ap₂, sym, ◌∙◌, key_at, entries_of, pair_with_key}
 use Rattle.hashlink_core.proofs.Names.{pair_with_value, place_number, renewed_at, renewed_twice}
-use Rattle.hashlink_core.proofs.AtKeyNode.{written-number, written-holds}
-use Rattle.hashlink_core.proofs.Holding.{holds-equal}
+use Rattle.hashlink_core.proofs.{AtKeyNode.{written-number, written-holds}, Holding.holds-equal}
 use Rattle.hashlink_core.proofs.Steps.{then_sets_key, key-set_value_at, pair_from_parts}
 use Rattle.hashlink_core.proofs.keyed_list.KeyedList.replace_pair.Goals.{After-replace_value-old_value}
 use Rattle.hashlink_core.proofs.keyed_list.KeyedList.replace_pair.Given as given

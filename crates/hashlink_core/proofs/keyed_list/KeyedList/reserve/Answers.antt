@@ -1,6 +1,4 @@
-use Rattle.hashlink_core.proofs.Names.{refl, arith}
-use Rattle.hashlink_core.proofs.Calls.{sound}
-use Rattle.hashlink_core.proofs.Stepping.{step-same}
+use Rattle.hashlink_core.proofs.{Names.{refl, arith}, Calls.sound, Stepping.step-same}
 use Rattle.hashlink_core.proofs.keyed_list.KeyedList.reserve.Goals as goal
 
 pub invariant_of-self : goal.invariant_of-self

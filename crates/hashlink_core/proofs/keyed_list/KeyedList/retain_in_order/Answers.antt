@@ -1,6 +1,5 @@
-use Rattle.hashlink_core.proofs.Names.{refl, renewed-holds}
 use Rattle.hashlink_core.proofs.Retaining.{retaining-first, retained-all, takes-pair, pair-kept, pair-dropped}
-use Rattle.hashlink_core.proofs.Retaining.{called-at}
+use Rattle.hashlink_core.proofs.{Names.{refl, renewed-holds}, Retaining.called-at}
 use Rattle.hashlink_core.proofs.keyed_list.KeyedList.retain_in_order.Goals as goal
 
 pub loop-place-init : goal.loop-place-init

@@ -1,6 +1,5 @@
 use Rattle.std.proofs.Common.{refl, ap, ◌∙◌, arith}
-use Rattle.hashlink_core.proofs.Calls.{sound, shrunk-room}
-use Rattle.hashlink_core.proofs.Stepping.{step-same}
+use Rattle.hashlink_core.proofs.{Calls.{sound, shrunk-room}, Stepping.step-same}
 use Rattle.hashlink_core.proofs.keyed_list.KeyedList.shrink_table.Goals as goal
 
 pub invariant_of-self : goal.invariant_of-self

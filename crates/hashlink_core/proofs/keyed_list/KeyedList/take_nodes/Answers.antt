@@ -1,6 +1,5 @@
 use Rattle.std.proofs.Common.{length, ap, arith, ◌∙◌}
-use Rattle.hashlink_core.proofs.Calls.{sound}
-use Rattle.hashlink_core.proofs.Stepping.{step-none}
+use Rattle.hashlink_core.proofs.{Calls.sound, Stepping.step-none}
 use Rattle.hashlink_core.proofs.keyed_list.KeyedList.take_nodes.Goals as goal
 
 pub invariant_of-self : goal.invariant_of-self

@@ -1,5 +1,4 @@
-use Rattle.hashlink_curve.proofs.Names.{sym, ◌∙◌, subst, Counted, reserved_uses}
-use Rattle.hashlink_curve.proofs.Histories.{Counted-accesses}
+use Rattle.hashlink_curve.proofs.{Names.{sym, ◌∙◌, subst, Counted, reserved_uses}, Histories.Counted-accesses}
 use Rattle.hashlink_curve.proofs.curve.MissCurve.accesses.Goals as goal
 
 pub returns-clause-counted : goal.returns-clause-counted

@@ -1,6 +1,5 @@
 use Rattle.hashlink_curve.proofs.Names.{◌≡◌, ◌-◌, length, sym, ap, ap₂, ◌∙◌, subst, arith, sum, CurveState}
-use Rattle.hashlink_curve.proofs.Names.{ListsFalls, falls_from}
-use Rattle.hashlink_curve.proofs.FallsListed.{lists_falls}
+use Rattle.hashlink_curve.proofs.{Names.{ListsFalls, falls_from}, FallsListed.lists_falls}
 use Rattle.hashlink_curve.proofs.curve.MissCurve.falls.Goals as goal
 
 pub returns : goal.returns

@@ -1,7 +1,6 @@
 use Rattle.hashlink_curve.proofs.Names.{◌≡◌, ◌<◌, ◌+◌, true, sym, ap, ◌∙◌, subst, arith, rules, is_member}
 use Rattle.hashlink_curve.proofs.Names.{list_any, Counted, CanCount, IsTallied, tallied, vec_len}
-use Rattle.hashlink_curve.proofs.Names.{vec_capacity}
-use Rattle.hashlink_curve.proofs.Histories.{Counted-next, Counts-alike, Touches-next}
+use Rattle.hashlink_curve.proofs.{Names.vec_capacity, Histories.{Counted-next, Counts-alike, Touches-next}}
 use Rattle.hashlink_curve.proofs.curve.MissCurve.record_with.Goals.{In_ok-distance}
 use Rattle.hashlink_curve.proofs.curve.MissCurve.record_with.Given as given
 use Rattle.hashlink_curve.proofs.curve.MissCurve.record_with.Goals as goal

@@ -1,5 +1,4 @@
-use Rattle.hashlink_curve.proofs.Names.{◌≡◌, ◌-◌, length, sum, falls_from}
-use Rattle.hashlink_curve.specs.Curve.{Falling}
+use Rattle.hashlink_curve.{proofs.Names.{◌≡◌, ◌-◌, length, sum, falls_from}, specs.Curve.Falling}
 use Rattle.hashlink_curve.proofs.falls.FallsIterator.next.Given as goal
 
 abbrev pub invariant-loop-count : goal.invariant-loop-count

@@ -1,6 +1,5 @@
 use Rattle.hashlink_curve.proofs.Names.{sym, subst, refl, ap, length, arith, Marked}
-use Rattle.hashlink_curve.proofs.Sums.{Read, reads, marks_before}
-use Rattle.hashlink_curve.proofs.marks.Marks.before.Goals.{After-deref-2}
+use Rattle.hashlink_curve.proofs.{Sums.{Read, reads, marks_before}, marks.Marks.before.Goals.After-deref-2}
 use Rattle.hashlink_curve.proofs.marks.Marks.before.Goals as goal
 
 pub sum_of_bytes-requires : goal.sum_of_bytes-requires

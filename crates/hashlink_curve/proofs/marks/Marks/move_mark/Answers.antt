@@ -1,6 +1,5 @@
 use Rattle.hashlink_curve.proofs.Names.{[], ◌++◌, sym, subst, arith, Marked}
-use Rattle.std.proofs.lemmas.Grind.{common_steps}
-use Rattle.std.proofs.lemmas.List.{append-nil}
+use Rattle.std.proofs.lemmas.{Grind.common_steps, List.append-nil}
 use Rattle.hashlink_curve.proofs.marks.Marks.move_mark.Goals as goal
 
 pub returns-clause-moved : goal.returns-clause-moved

@@ -1,5 +1,4 @@
-use Rattle.hashlink_curve.proofs.Names.{◌≡◌, ◌≤◌, ◌^◌, replicate, rows_of}
-use Rattle.hashlink_curve.proofs.Sums.{OpenRows}
+use Rattle.hashlink_curve.proofs.{Names.{◌≡◌, ◌≤◌, ◌^◌, replicate, rows_of}, Sums.OpenRows}
 use Rattle.hashlink_curve.proofs.marks.Marks.with_places.Given as goal
 
 abbrev pub invariant-loop-width : goal.invariant-loop-width

@@ -1,7 +1,6 @@
-use Rattle.hashlink_curve.proofs.Names.{◌-◌, ◌∙◌, ap, subst, arith, keys_of, entries_of, list_any}
-use Rattle.hashlink_curve.proofs.Names.{MovesPast, GoesLast}
+use Rattle.hashlink_curve.proofs.Names.{◌-◌, ◌∙◌, ap, subst, arith, keys_of, entries_of, list_any, MovesPast}
 use Rattle.hashlink_curve.proofs.Placing.{same_keys, none_found, Found, found, found_moves, found_placed}
-use Rattle.hashlink_curve.proofs.Placing.{absent_last, free_at, placed_last}
+use Rattle.hashlink_curve.proofs.{Names.GoesLast, Placing.{absent_last, free_at, placed_last}}
 use Rattle.hashlink_curve.proofs.recency.Recency.touch.Goals.{In-Ok-Some}
 use Rattle.hashlink_curve.proofs.recency.Recency.touch.Given as given
 use Rattle.hashlink_curve.proofs.recency.Recency.touch.Goals as goal

@@ -1,8 +1,7 @@
 use Rattle.hashlink_curve.proofs.Names.{◌-◌, sym, ap, ◌∙◌, subst, arith, list_any, keys_of, entries_of}
-use Rattle.hashlink_curve.proofs.Names.{MovesPast, GoesLast}
 use Rattle.hashlink_curve.proofs.Placing.{same_keys, none_found, Found, found, found_moves, found_placed}
+use Rattle.hashlink_curve.proofs.{Names.{MovesPast, GoesLast}, recency.Recency.touch_with.Goals.In-Some}
 use Rattle.hashlink_curve.proofs.Placing.{absent_last, free_at, placed_last, puts_distinct, puts_new}
-use Rattle.hashlink_curve.proofs.recency.Recency.touch_with.Goals.{In-Some}
 use Rattle.hashlink_curve.proofs.recency.Recency.touch_with.Given as given
 use Rattle.hashlink_curve.proofs.recency.Recency.touch_with.Goals as goal
 

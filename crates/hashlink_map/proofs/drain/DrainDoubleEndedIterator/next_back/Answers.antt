@@ -1,6 +1,5 @@
-use Rattle.hashlink_map.proofs.Names.{refl, state_of}
+use Rattle.hashlink_map.proofs.{Names.{refl, state_of}, Taking.pop-takes_last}
 use Rattle.hashlink_core.proofs.Draining.{pops-back}
-use Rattle.hashlink_map.proofs.Taking.{pop-takes_last}
 use Rattle.hashlink_map.proofs.drain.DrainDoubleEndedIterator.next_back.Goals as goal
 
 pub returns-clause-steps : goal.returns-clause-steps

@@ -1,5 +1,4 @@
-use Rattle.hashlink_map.proofs.Names.{◌∙◌}
-use Rattle.hashlink_map.proofs.AtNode.{stored-there, stored-absent}
+use Rattle.hashlink_map.proofs.{Names.◌∙◌, AtNode.{stored-there, stored-absent}}
 use Rattle.hashlink_map.proofs.entry.Entry.key.Goals as goal
 
 pub returns-in-Occupied : goal.returns-in-Occupied

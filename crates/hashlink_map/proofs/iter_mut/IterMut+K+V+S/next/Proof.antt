@@ -1,8 +1,7 @@
 -- `next` lends the pair of the first entry left, if there is one, and the walk follows it.
 use Rattle.hashlink_map.proofs.Names.{first_of, after_front}
 use Rattle.hashlink_map.specs.contracts.iter_mut.IterMut+K+V+S.next as f
-use Rattle.hashlink_map.proofs.LendAtPlace.{steps_and_lends}
-use Rattle.hashlink_map.proofs.WalkPairs.{Writer, taken_off, first-lent}
+use Rattle.hashlink_map.proofs.{LendAtPlace.steps_and_lends, WalkPairs.{Writer, taken_off, first-lent}}
 use Rattle.hashlink_map.proofs.iter_mut.IterMut+K+V+S.step_first.Met as step
 use Rattle.hashlink_map.proofs.iter_mut.IterMut+K+V+S.pair_at.Met as lent
 use Rattle.hashlink_map.proofs.iter_mut.IterMut+K+V+S.next.Statement.{statement}

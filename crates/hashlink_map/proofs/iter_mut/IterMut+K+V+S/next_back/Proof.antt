@@ -1,8 +1,7 @@
 -- `next_back` lends the pair of the last entry left, if there is one, and the walk follows it.
 use Rattle.hashlink_map.proofs.Names.{last_of, after_back, last_place}
 use Rattle.hashlink_map.specs.contracts.iter_mut.IterMut+K+V+S.next_back as f
-use Rattle.hashlink_map.proofs.LendAtPlace.{steps_and_lends}
-use Rattle.hashlink_map.proofs.WalkPairs.{Writer, taken_off, last-lent}
+use Rattle.hashlink_map.proofs.{LendAtPlace.steps_and_lends, WalkPairs.{Writer, taken_off, last-lent}}
 use Rattle.hashlink_map.proofs.iter_mut.IterMut+K+V+S.step_last.Met as step
 use Rattle.hashlink_map.proofs.iter_mut.IterMut+K+V+S.pair_at.Met as lent
 use Rattle.hashlink_map.proofs.iter_mut.IterMut+K+V+S.next_back.Statement.{statement}

@@ -1,5 +1,4 @@
-use Rattle.hashlink_map.proofs.Names.{refl, still_standing}
-use Rattle.hashlink_map.proofs.Walking.{lent-taken, first-taken}
+use Rattle.hashlink_map.proofs.{Names.{refl, still_standing}, Walking.{lent-taken, first-taken}}
 use Rattle.hashlink_map.proofs.iter_mut.IterMut+K+V+S.next_value.Goals as goal
 
 pub invariant_of-self-lent : goal.invariant_of-self-lent

@@ -1,9 +1,7 @@
 -- `pair_at` lends the value beside the key, if there is one, and the walk follows it.
 use Rattle.hashlink_map.specs.contracts.iter_mut.IterMut+K+V+S.pair_at as f
-use Rattle.hashlink_map.proofs.WalkPairs.{Writer, at_node}
-use Rattle.hashlink_map.proofs.LendAtPlace.{lends_at_place}
-use Rattle.hashlink_map.proofs.iter_mut.IterMut+K+V+S.pair_at_node.Met.{met}
-use Rattle.hashlink_map.proofs.iter_mut.IterMut+K+V+S.pair_at.Statement.{statement}
+use Rattle.hashlink_map.proofs.{WalkPairs.{Writer, at_node}, LendAtPlace.lends_at_place}
+use Rattle.hashlink_map.proofs.iter_mut.IterMut+K+V+S.{pair_at_node.Met.met, pair_at.Statement.statement}
 use Rattle.hashlink_map.proofs.iter_mut.IterMut+K+V+S.pair_at.Code as code
 
 pub pair_at_spec : {M : Type 1} → statement M

@@ -1,5 +1,4 @@
-use Rattle.hashlink_map.proofs.Names.{refl, still_standing}
-use Rattle.hashlink_map.proofs.WalkPairs.{walk_with_value-is}
+use Rattle.hashlink_map.proofs.{Names.{refl, still_standing}, WalkPairs.walk_with_value-is}
 use Rattle.hashlink_map.proofs.iter_mut.IterMut+K+V+S.pair_at_node.Goals as goal
 
 pub invariant_of-self-lent : goal.invariant_of-self-lent

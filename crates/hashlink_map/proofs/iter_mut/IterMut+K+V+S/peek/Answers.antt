@@ -1,5 +1,4 @@
-use Rattle.hashlink_map.proofs.Names.{arith, sym, ◌∙◌, entries_of}
-use Rattle.hashlink_map.proofs.Walking.{first-of_part, first-holds}
+use Rattle.hashlink_map.proofs.{Names.{arith, sym, ◌∙◌, entries_of}, Walking.{first-of_part, first-holds}}
 use Rattle.hashlink_map.proofs.iter_mut.IterMut+K+V+S.peek.Goals as goal
 use Rattle.hashlink_map.specs.IterMut.{walk_state}
 

@@ -1,6 +1,5 @@
-use Rattle.hashlink_map.proofs.Names.{[], ◌∷◌, ◌++◌, ap, refl, sym, ◌∙◌, append_assoc, append-nil}
-use Rattle.hashlink_map.proofs.Names.{MadeFrom, InsertsPair, entries_of, state_of, ArePairClones}
-use Rattle.hashlink_map.proofs.Names.{accepts_another}
+use Rattle.hashlink_map.proofs.Names.{[], ◌∷◌, ◌++◌, ap, refl, sym, ◌∙◌, append_assoc, append-nil, MadeFrom}
+use Rattle.hashlink_map.proofs.Names.{InsertsPair, entries_of, state_of, ArePairClones, accepts_another}
 use Rattle.hashlink_map.proofs.Clones.{cloned_another, clone_equal, clone_same}
 use Rattle.hashlink_map.proofs.map.LinkedHashMap.clone.Given as given
 use Rattle.hashlink_map.proofs.map.LinkedHashMap.clone.Goals as goal

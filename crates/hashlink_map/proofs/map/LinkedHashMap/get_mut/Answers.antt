@@ -1,7 +1,6 @@
-use Rattle.hashlink_map.proofs.Names.{Some, refl, sym, ap, is_some, lent, stored-value, lookup-unplaced}
-use Rattle.hashlink_map.proofs.Names.{◌≡◌, lookup, entries_of, state_of, none_passes_from_place}
-use Rattle.hashlink_model.proofs.MovedLast.{writes_none}
-use Rattle.hashlink_model.proofs.Updates.{updates-written}
+use Rattle.hashlink_map.proofs.Names.{Some, refl, sym, ap, is_some, lent, stored-value, lookup-unplaced, ◌≡◌}
+use Rattle.hashlink_map.proofs.Names.{lookup, entries_of, state_of, none_passes_from_place}
+use Rattle.hashlink_model.proofs.{MovedLast.writes_none, Updates.updates-written}
 use Rattle.hashlink_map.proofs.map.LinkedHashMap.get_mut.Goals as goal
 
 pub returns-in-Some : goal.returns-in-Some

@@ -1,5 +1,4 @@
-use Rattle.hashlink_map.proofs.Names.{guard-number}
-use Rattle.hashlink_map.proofs.AtNode.{stays-last}
+use Rattle.hashlink_map.proofs.{Names.guard-number, AtNode.stays-last}
 use Rattle.hashlink_map.proofs.map.LinkedHashMap.move_to_back.Goals as goal
 
 pub returns-clause-moves : goal.returns-clause-moves

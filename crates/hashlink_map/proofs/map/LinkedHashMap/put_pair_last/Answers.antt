@@ -1,7 +1,6 @@
-use Rattle.hashlink_map.proofs.Names.{length, ap, ◌∙◌, subst, entries_of, state_of, then_moves}
-use Rattle.hashlink_model.proofs.Occupied.{length-replace_entry}
-use Rattle.hashlink_map.proofs.Names.{IsEntries}
+use Rattle.hashlink_map.proofs.Names.{length, ap, ◌∙◌, subst, entries_of, state_of, then_moves, IsEntries}
 use Rattle.hashlink_map.proofs.EntryUpdates.{updates-pair_last}
+use Rattle.hashlink_model.proofs.Occupied.{length-replace_entry}
 use Rattle.hashlink_map.proofs.map.LinkedHashMap.put_pair_last.Goals as goal
 
 pub returns-clause-inserts : goal.returns-clause-inserts

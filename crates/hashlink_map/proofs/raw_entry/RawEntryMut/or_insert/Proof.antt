@@ -5,10 +5,8 @@ use Rattle.hashlink_map.proofs.Names.{sets, lands_as, Lfts, tables, no, Last, le
 use Rattle.hashlink_map.proofs.Names.{plain, nothing, calls_from, framed, stay_dropped, Goes-dropped, IfOk}
 use Rattle.hashlink_map.proofs.Names.{MatchOption, raw_map, raw_state, raw_pair}
 use Rattle.hashlink_map.specs.declared.raw_entry.RawEntryMut.TheVariants as found
-use Rattle.hashlink_map.proofs.EnterAndLend.{all_five, entered_and_lent, returned}
-use Rattle.hashlink_map.proofs.LastMoved.{given_parts}
-use Rattle.hashlink_map.proofs.PairRows.{Answer, Entered, Found, found_laws}
-use Rattle.hashlink_map.proofs.PairValues.{value_of}
+use Rattle.hashlink_map.proofs.{EnterAndLend.{all_five, entered_and_lent, returned}, LastMoved.given_parts}
+use Rattle.hashlink_map.proofs.{PairRows.{Answer, Entered, Found, found_laws}, PairValues.value_of}
 use Rattle.hashlink_map.proofs.PutLast.{puts_last}
 use Rattle.hashlink_map.specs.contracts.raw_entry.RawEntryMut.or_insert as f
 use Rattle.hashlink_map.proofs.raw_entry.RawEntryMut.or_insert_entry.Met as entered

@@ -5,10 +5,8 @@ use Rattle.hashlink_map.proofs.Names.{sets, lands_as, ◌⊑◌, Lfts, fact, tab
 use Rattle.hashlink_map.proofs.Names.{param_laws, plain, nothing, calls_from, framed, stay_dropped}
 use Rattle.hashlink_map.proofs.Names.{Goes-dropped, IfOk, MatchOption, raw_map, raw_state, raw_pair}
 use Rattle.hashlink_map.specs.declared.raw_entry.RawEntryMut.TheVariants as found
-use Rattle.hashlink_map.proofs.EnterAndLend.{but_last, entered_and_lent, returned}
-use Rattle.hashlink_map.proofs.PairRows.{Answer, Entered, Found, found_laws}
-use Rattle.hashlink_map.proofs.PairValues.{value_of}
-use Rattle.hashlink_map.proofs.PutLast.{puts_last}
+use Rattle.hashlink_map.proofs.{EnterAndLend.{but_last, entered_and_lent, returned}, PairValues.value_of}
+use Rattle.hashlink_map.proofs.{PairRows.{Answer, Entered, Found, found_laws}, PutLast.puts_last}
 use Rattle.hashlink_map.specs.contracts.raw_entry.RawEntryMut.or_insert_with as f
 use Rattle.hashlink_map.proofs.raw_entry.RawEntryMut.or_insert_entry_with.Met as entered
 use Rattle.hashlink_map.proofs.raw_entry.occupied.RawOccupiedEntryMut+K+V+S.pair_of.Met as lent

@@ -1,10 +1,9 @@
 -- `links` lends the links of one block.
-use Rattle.hashlink_nodes.proofs.Names.{[], ◌∷◌, refl, ap, IsSome, lookup, a_type, emp, id⊢, ‵, ◌$◌, ◌∵◌, ! }
+use Rattle.hashlink_nodes.proofs.Names.{[], ◌∷◌, refl, ap, IsSome, lookup, a_type, emp, id⊢, ‵, ◌$◌, ◌∵◌, !}
 use Rattle.hashlink_nodes.proofs.Names.{qed, move, keep, join, fsplit3, use1, done, fact_i, RattleType, param}
 use Rattle.hashlink_nodes.proofs.Names.{layouts, option_map, Kept, Links, block_lent, blocks_lent}
-use Rattle.hashlink_nodes.proofs.Names.{links_offset, same_node, imm}
-use Rattle.hashlink_nodes.proofs.{ArenaBlocks.found, ArenaBlocks.block_seen, ArenaSteps.states}
-use Rattle.hashlink_nodes.proofs.{ArenaLends.shared, arena.Arena.links.Statement.statement}
+use Rattle.hashlink_nodes.proofs.{Names.{links_offset, same_node, imm}, ArenaBlocks.{found, block_seen}}
+use Rattle.hashlink_nodes.proofs.{ArenaSteps.states, ArenaLends.shared, arena.Arena.links.Statement.statement}
 use Rattle.hashlink_nodes.specs.contracts.arena.Arena.links as F
 use Rattle.hashlink_nodes.proofs.arena.Arena.links.Code as code
 

@@ -4,8 +4,7 @@ use Rattle.hashlink_nodes.proofs.Names.{raw, ◌⊛◌, ◌$◌, ◌∵◌, !, q
 use Rattle.hashlink_nodes.proofs.Names.{no_more, and_then, returns, enter, alloc_all, pass_all, free_all}
 use Rattle.hashlink_nodes.proofs.Names.{look_at, get, sets, agg, fact, fact_i, tables, RattleType, param}
 use Rattle.hashlink_nodes.proofs.Names.{layouts, nothing, walk_of, proved_at, leaves}
-use Rattle.hashlink_nodes.proofs.ArenaSteps.{Mark, mark, mark_made}
-use Rattle.hashlink_nodes.specs.declared.arena.Arena.{Arena}
+use Rattle.hashlink_nodes.{proofs.ArenaSteps.{Mark, mark, mark_made}, specs.declared.arena.Arena.Arena}
 use Rattle.hashlink_nodes.specs.contracts.arena.Arena.new as F
 use Rattle.hashlink_nodes.proofs.arena.Arena.new.Statement.{statement}
 use Rattle.hashlink_nodes.proofs.arena.Arena.new.Code as code

@@ -1,10 +1,9 @@
 -- `pair` lends the pair of one block.
-use Rattle.hashlink_nodes.proofs.Names.{rewrite, [], ◌∷◌, refl, IsSome, lookup, a_type}
-use Rattle.hashlink_nodes.proofs.Names.{emp, id⊢, ‵, ◌$◌, ◌∵◌, !, qed, move, keep, join, fsplit, use1, done}
-use Rattle.hashlink_nodes.proofs.Names.{fact_i, RattleType, param, layouts, entry_in}
-use Rattle.hashlink_nodes.proofs.Names.{block_lent, blocks_lent, pair_lent, pair_offset, same_node, imm}
-use Rattle.hashlink_nodes.proofs.{ArenaBlocks.found_entry, ArenaBlocks.block_seen, ArenaSteps.states}
-use Rattle.hashlink_nodes.proofs.{ArenaLends.shared, arena.Arena.pair.Statement.statement}
+use Rattle.hashlink_nodes.proofs.Names.{rewrite, [], ◌∷◌, refl, IsSome, lookup, a_type, emp, id⊢, ‵, ◌$◌, ◌∵◌}
+use Rattle.hashlink_nodes.proofs.Names.{!, qed, move, keep, join, fsplit, use1, done, fact_i, RattleType}
+use Rattle.hashlink_nodes.proofs.Names.{param, layouts, entry_in, block_lent, blocks_lent, pair_lent}
+use Rattle.hashlink_nodes.proofs.{Names.{pair_offset, same_node, imm}, ArenaBlocks.{found_entry, block_seen}}
+use Rattle.hashlink_nodes.proofs.{ArenaSteps.states, ArenaLends.shared, arena.Arena.pair.Statement.statement}
 use Rattle.hashlink_nodes.specs.contracts.arena.Arena.pair as F
 use Rattle.hashlink_nodes.proofs.arena.Arena.pair.Code as code
 

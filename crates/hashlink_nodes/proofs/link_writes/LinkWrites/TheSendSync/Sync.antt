@@ -1,5 +1,4 @@
-use denote.Struct.Owning.{shape, to}
-use denote.Param.Send.{IsSync, struct_sync, sendable}
+use denote.{Struct.Owning.{shape, to}, Param.Send.{IsSync, struct_sync, sendable}}
 use Rattle.hashlink_nodes.specs.contracts.link_writes.LinkWrites.{the_row, the_type}
 
 pub sync : IsSync the_row

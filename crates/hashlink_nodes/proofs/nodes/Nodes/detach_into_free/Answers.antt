@@ -1,6 +1,5 @@
-use Rattle.hashlink_nodes.proofs.Names.{ap, ◌∙◌, sym, arith, option_map, pair_of}
-use Rattle.hashlink_nodes.proofs.{Calls.removed, Rings.held_out}
-use Rattle.hashlink_nodes.proofs.Opening.{fits, node_in, seal}
+use Rattle.hashlink_nodes.proofs.{Names.{ap, ◌∙◌, sym, arith, option_map, pair_of}, Calls.removed}
+use Rattle.hashlink_nodes.proofs.{Rings.held_out, Opening.{fits, node_in, seal}}
 use Rattle.hashlink_nodes.proofs.nodes.Nodes.detach_into_free.Goals as goal
 
 pub detach-requires : goal.detach-requires

@@ -1,7 +1,5 @@
-use Rattle.hashlink_nodes.proofs.Names.{option_map, Some, ap, sym, ◌∙◌, Held, held, pair_of}
-use Rattle.hashlink_nodes.proofs.{Calls.gone, Cuts.same_some}
-use Rattle.hashlink_nodes.proofs.Opening.{fits, node_in, seal}
-use Rattle.hashlink_nodes.proofs.Rings.{held_out}
+use Rattle.hashlink_nodes.proofs.{Names.{option_map, Some, ap, sym, ◌∙◌, Held, held, pair_of}, Calls.gone}
+use Rattle.hashlink_nodes.proofs.{Cuts.same_some, Opening.{fits, node_in, seal}, Rings.held_out}
 use Rattle.hashlink_nodes.proofs.nodes.Nodes.give_back.Goals as goal
 
 pub detach-requires : goal.detach-requires

@@ -1,6 +1,5 @@
 use Rattle.std.proofs.Common.{arith, ◌∙◌}
-use Rattle.hashlink_nodes.proofs.{Calls.into_after, Calls.ready_moved}
-use Rattle.hashlink_nodes.proofs.Opening.{fits, if_some, node_at, seal}
+use Rattle.hashlink_nodes.proofs.{Calls.{into_after, ready_moved}, Opening.{fits, if_some, node_at, seal}}
 use Rattle.hashlink_nodes.proofs.nodes.Nodes.move_after.Goals as goal
 
 pub detach-requires : goal.detach-requires

@@ -1,6 +1,4 @@
-use Rattle.hashlink_nodes.proofs.Names.{refl, arith}
-use Rattle.hashlink_nodes.proofs.Calls.{ready_spare, into_before}
-use Rattle.hashlink_nodes.proofs.Opening.{seal}
+use Rattle.hashlink_nodes.proofs.{Names.{refl, arith}, Calls.{ready_spare, into_before}, Opening.seal}
 use Rattle.hashlink_nodes.proofs.nodes.Nodes.push_before.Goals as goal
 
 pub attach_before-requires : goal.attach_before-requires

@@ -1,5 +1,4 @@
-use Rattle.hashlink_nodes.proofs.Names.{ap, ◌∙◌, option_map, Held, with_key}
-use Rattle.hashlink_nodes.proofs.Calls.{renewed}
+use Rattle.hashlink_nodes.proofs.{Names.{ap, ◌∙◌, option_map, Held, with_key}, Calls.renewed}
 use Rattle.hashlink_nodes.proofs.Opening.{if_some, node_in, seal}
 use Rattle.hashlink_nodes.proofs.nodes.Nodes.set_key.Goals as goal
 

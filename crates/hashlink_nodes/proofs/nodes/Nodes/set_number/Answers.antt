@@ -1,5 +1,4 @@
-use Rattle.hashlink_nodes.proofs.{Calls.renumbered}
-use Rattle.hashlink_nodes.proofs.Opening.{if_some, node_in, seal}
+use Rattle.hashlink_nodes.proofs.{Calls.renumbered, Opening.{if_some, node_in, seal}}
 use Rattle.hashlink_nodes.proofs.nodes.Nodes.set_number.Goals as goal
 
 pub invariant_of-self : goal.invariant_of-self

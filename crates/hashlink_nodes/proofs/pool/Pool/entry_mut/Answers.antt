@@ -1,5 +1,4 @@
-use Rattle.hashlink_nodes.proofs.Names.{ap, refl, option_map, Held, pair_of}
-use Rattle.hashlink_nodes.proofs.StateLemmas.{pair_at}
+use Rattle.hashlink_nodes.proofs.{Names.{ap, refl, option_map, Held, pair_of}, StateLemmas.pair_at}
 use Rattle.hashlink_nodes.proofs.pool.Pool.entry_mut.Goals as goal
 
 pub returns : goal.returns

@@ -1,5 +1,4 @@
-use Rattle.hashlink_nodes.proofs.Names.{refl, state_of}
-use Rattle.hashlink_nodes.proofs.StateLemmas.{links_at, looped}
+use Rattle.hashlink_nodes.proofs.{Names.{refl, state_of}, StateLemmas.{links_at, looped}}
 use Rattle.hashlink_nodes.proofs.pool.Pool.make_guard.Goals as goal
 
 pub links_mut-links-requires : goal.links_mut-links-requires

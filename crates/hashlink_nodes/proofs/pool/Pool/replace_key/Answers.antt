@@ -1,5 +1,4 @@
-use Rattle.hashlink_nodes.proofs.Names.{ap, sym, held, with_key}
-use Rattle.hashlink_nodes.proofs.StateLemmas.{pair_at, pair_anew}
+use Rattle.hashlink_nodes.proofs.{Names.{ap, sym, held, with_key}, StateLemmas.{pair_at, pair_anew}}
 use Rattle.hashlink_nodes.proofs.pool.Pool.replace_key.Goals as goal
 
 pub returns-clause-is : goal.returns-clause-is

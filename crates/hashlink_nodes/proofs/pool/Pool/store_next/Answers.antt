@@ -1,5 +1,4 @@
-use Rattle.hashlink_nodes.proofs.Names.{ap, store_next, State}
-use Rattle.hashlink_nodes.proofs.StateLemmas.{links_at, stored_next}
+use Rattle.hashlink_nodes.proofs.{Names.{ap, store_next, State}, StateLemmas.{links_at, stored_next}}
 use Rattle.hashlink_nodes.proofs.pool.Pool.store_next.Goals as goal
 
 pub returns-clause-stored : goal.returns-clause-stored

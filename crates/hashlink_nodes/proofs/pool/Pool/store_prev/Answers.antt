@@ -1,5 +1,4 @@
-use Rattle.hashlink_nodes.proofs.Names.{ap, store_prev, State}
-use Rattle.hashlink_nodes.proofs.StateLemmas.{links_at, stored_prev}
+use Rattle.hashlink_nodes.proofs.{Names.{ap, store_prev, State}, StateLemmas.{links_at, stored_prev}}
 use Rattle.hashlink_nodes.proofs.pool.Pool.store_prev.Goals as goal
 
 pub returns-clause-stored : goal.returns-clause-stored

@@ -1,5 +1,4 @@
-use Rattle.hashlink_set.specs.Walks.{intersection_rest, IntersectionSteps}
-use Rattle.hashlink_set.proofs.OfClones.{clones_by_answer}
+use Rattle.hashlink_set.{specs.Walks.{intersection_rest, IntersectionSteps}, proofs.OfClones.clones_by_answer}
 use Rattle.hashlink_set.proofs.building.RefLinkedHashSetBitAnd.bitand.Goals as goal
 
 pub returns : goal.returns

@@ -1,5 +1,4 @@
-use Rattle.hashlink_set.specs.Walks.{union_rest, UnionSteps}
-use Rattle.hashlink_set.proofs.OfClones.{clones_by_answer}
+use Rattle.hashlink_set.{specs.Walks.{union_rest, UnionSteps}, proofs.OfClones.clones_by_answer}
 use Rattle.hashlink_set.proofs.building.RefLinkedHashSetBitOr.bitor.Goals as goal
 
 pub returns : goal.returns

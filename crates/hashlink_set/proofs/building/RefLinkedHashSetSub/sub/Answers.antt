@@ -1,5 +1,4 @@
-use Rattle.hashlink_set.specs.Walks.{difference_rest, DifferenceSteps}
-use Rattle.hashlink_set.proofs.OfClones.{clones_by_answer}
+use Rattle.hashlink_set.{specs.Walks.{difference_rest, DifferenceSteps}, proofs.OfClones.clones_by_answer}
 use Rattle.hashlink_set.proofs.building.RefLinkedHashSetSub.sub.Goals as goal
 
 pub returns : goal.returns

@@ -1,7 +1,6 @@
 use Rattle.hashlink_set.proofs.Names.{Some, [], ◌∷◌, ap, refl, ◌∙◌, keys_of}
 use Rattle.std.proofs.lemmas.List.{map-append}
-use Rattle.hashlink_core.proofs.Draining.{pops-back}
-use Rattle.hashlink_core.specs.Drained.{state_with}
+use Rattle.hashlink_core.{proofs.Draining.pops-back, specs.Drained.state_with}
 use Rattle.hashlink_map.proofs.Taking.{pop-takes_last}
 use Rattle.hashlink_set.proofs.drain.DrainDoubleEndedIterator.next_back.Goals as goal
 

@@ -1,5 +1,4 @@
-use Rattle.hashlink_set.proofs.Names.{option_copied, ap, ◌∙◌, option_map, entries_of}
-use Rattle.hashlink_set.proofs.Lookups.{element-found}
+use Rattle.hashlink_set.proofs.{Names.{option_copied, ap, ◌∙◌, option_map, entries_of}, Lookups.element-found}
 use Rattle.hashlink_set.proofs.set.LinkedHashSet.get.Goals as goal
 
 pub returns-in_err-stored-clause-found : goal.returns-in_err-stored-clause-found

@@ -14,10 +14,8 @@ use Rattle.hashlink_set.proofs.Names.{lasts, Lasts, alive, on_entry, triple_of, 
 use Rattle.hashlink_set.proofs.Names.{walk_of, Goes-spent_ref, Goes-dropped, proved_at, leaves, IfOk, IfErr}
 use Rattle.hashlink_set.proofs.Names.{IsSome, None, Some, option_copied, value_of, valued, elements_of}
 use Rattle.hashlink_set.proofs.Names.{stored_element, GetsOrInserts, last_of, as_seen, PutsElement}
-use Rattle.hashlink_set.proofs.Names.{StaysAsItWas}
-use Rattle.hashlink_set.specs.SetLends.{EndsInserted}
 use Rattle.hashlink_set.proofs.LentLast.{Asks, asked, ends_so, there_is_last, answers_insert, is_stored}
-use Rattle.hashlink_set.proofs.LentLast.{is_given}
+use Rattle.hashlink_set.{proofs.Names.StaysAsItWas, specs.SetLends.EndsInserted, proofs.LentLast.is_given}
 use Rattle.hashlink_set.proofs.set.LinkedHashSet.get_or_insert.Statement.{statement}
 use Rattle.std.proofs.option.Option.TheLaws as option_laws
 use Rattle.std.proofs.result.Result.TheLaws as result_laws

@@ -14,16 +14,12 @@ use Rattle.hashlink_set.proofs.Names.{calls_at, lasts, Lasts, alive, on_entry, t
 use Rattle.hashlink_set.proofs.Names.{stay_dropped, walk_of, Goes-spent_ref, Goes-dropped, proved_at, leaves}
 use Rattle.hashlink_set.proofs.Names.{IfOk, IfErr, IsSome, None, Some, option_copied, FnOnceReturnsAt, find}
 use Rattle.hashlink_set.proofs.Names.{UnwrapsOrElse, value_of, valued, elements_of, last_of, GetsOrMakes}
-use Rattle.hashlink_set.proofs.Names.{as_seen, MakesElement, StaysAsItWas}
-use denote.Exit.{yes}
-use denote.Ref.{shr_vals, shr_Tells}
-use denote.Signature.{shr_ref_to}
-use Rattle.hashlink_set.specs.Made.{CanMakeAbsent}
-use Rattle.hashlink_set.specs.SetLends.{EndsMade}
 use Rattle.hashlink_set.proofs.LentLast.{Asks, asked, ends_so, there_is_made, answers_made, is_lent, is_made}
 use Rattle.hashlink_set.proofs.LentLast.{lifetimes_left, shares_left, Left as TokensLeft, Aside, set_aside}
-use Rattle.hashlink_set.proofs.LentLast.{taken_back}
-use Rattle.hashlink_set.proofs.set.LinkedHashSet.get_or_insert_with.Statement.{statement, statement}
+use Rattle.hashlink_set.{proofs.Names.{as_seen, MakesElement, StaysAsItWas}, specs.Made.CanMakeAbsent}
+use Rattle.hashlink_set.{specs.SetLends.EndsMade, proofs.LentLast.taken_back}
+use Rattle.hashlink_set.proofs.set.LinkedHashSet.get_or_insert_with.Statement.{statement}
+use denote.{Exit.yes, Ref.{shr_vals, shr_Tells}, Signature.shr_ref_to}
 use Rattle.std.proofs.option.Option.TheLaws as option_laws
 use Rattle.std.proofs.result.Result.TheLaws as result_laws
 use Rattle.std.specs.contracts.option.Option as option

@@ -1,5 +1,4 @@
-use Rattle.std.proofs.Common.{rules, Result, Ok, Err, Some}
-use Rattle.std.specs.Prelude.{OnOk}
+use Rattle.std.{proofs.Common.{rules, Result, Ok, Err, Some}, specs.Prelude.OnOk}
 use Rattle.hashlink_core.specs.Keyed.{entries_of}
 use Rattle.hashlink_model.proofs.SetUpdates.{set_updates}
 use Rattle.hashlink_set.proofs.Entering.{inserts_by_answer}

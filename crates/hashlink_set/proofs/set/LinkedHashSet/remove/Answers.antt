@@ -1,7 +1,6 @@
-use Rattle.hashlink_set.proofs.Names.{None, is_some, ap, ◌∙◌, entries_of, state_of}
-use Rattle.hashlink_model.proofs.SetUpdates.{set_updates}
-use Rattle.hashlink_set.proofs.Lookups.{member-entry}
+use Rattle.hashlink_set.proofs.{Names.{None, is_some, ap, ◌∙◌, entries_of, state_of}, Lookups.member-entry}
 use Rattle.hashlink_set.proofs.Leaving.{removes_match_elements}
+use Rattle.hashlink_model.proofs.SetUpdates.{set_updates}
 use Rattle.hashlink_set.proofs.set.LinkedHashSet.remove.Goals as goal
 
 pub returns-clause-answer : goal.returns-clause-answer

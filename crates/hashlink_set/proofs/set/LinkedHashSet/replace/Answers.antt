@@ -1,8 +1,7 @@
 use Rattle.hashlink_set.proofs.Names.{rules, state_of, subst, SetState, elements_of}
-use Rattle.std.specs.List.{IsDistinct}
-use Rattle.hashlink_set.proofs.Entering.{replaces_by_answer}
-use Rattle.hashlink_set.proofs.Stored.{replaces_distinct}
+use Rattle.hashlink_set.proofs.{Entering.replaces_by_answer, Stored.replaces_distinct}
 use Rattle.hashlink_set.proofs.Updated.{updates_replaced}
+use Rattle.std.specs.List.{IsDistinct}
 use Rattle.hashlink_set.proofs.set.LinkedHashSet.replace.Goals as goal
 
 pub returns-clause-replaces : goal.returns-clause-replaces

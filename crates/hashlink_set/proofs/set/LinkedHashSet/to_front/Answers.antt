@@ -1,7 +1,5 @@
 use Rattle.hashlink_core.specs.Keyed.{state_of}
-use Rattle.hashlink_set.proofs.Moved.{moved-element}
-use Rattle.hashlink_set.proofs.Names.{Some}
-use Rattle.hashlink_set.proofs.Updated.{keeps_moved, keeps_same}
+use Rattle.hashlink_set.proofs.{Moved.moved-element, Names.Some, Updated.{keeps_moved, keeps_same}}
 use Rattle.hashlink_set.proofs.set.LinkedHashSet.to_front.Goals as goal
 
 pub returns : goal.returns

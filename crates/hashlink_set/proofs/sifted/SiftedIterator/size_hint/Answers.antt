@@ -1,6 +1,5 @@
-use Rattle.hashlink_set.proofs.Names.{◌≤◌, length, not, sym, subst, eqb}
+use Rattle.hashlink_set.{proofs.Names.{◌≤◌, length, not, sym, subst, eqb}, specs.Walks.sifted_rest}
 use Rattle.hashlink_model.proofs.LazyWalks.{length-filter-le}
-use Rattle.hashlink_set.specs.Walks.{sifted_rest}
 use Rattle.hashlink_set.proofs.sifted.SiftedIterator.size_hint.Goals as goal
 
 pub returns-clause-upper : goal.returns-clause-upper

@@ -1,7 +1,6 @@
 use Rattle.hashlink_set.proofs.Names.{◌≡◌, length, sym, subst, rules, IfSome, at_most, UpTo, at_most_both}
 use Rattle.hashlink_set.proofs.Names.{left_to_give-at_most, elements_in, lacks, symmetric_difference_rest}
-use Rattle.hashlink_set.specs.Walks.{symmetric_difference_walk}
-use Rattle.hashlink_set.proofs.Looking.{bounds_both}
+use Rattle.hashlink_set.{specs.Walks.symmetric_difference_walk, proofs.Looking.bounds_both}
 use Rattle.hashlink_set.proofs.symmetric_difference.SymmetricDifferenceIterator.size_hint.Goals
     as goal
 

@@ -1,7 +1,6 @@
 use Rattle.hashlink_set.proofs.Names.{◌++◌, sym, ap₂, ◌∙◌, subst, elements_in}
 use Rattle.std.specs.List.{IsDistinct}
-use Rattle.hashlink_model.proofs.LazyWalks.{filter-all}
-use Rattle.hashlink_model.proofs.Members.{IsDistinct-union}
+use Rattle.hashlink_model.proofs.{LazyWalks.filter-all, Members.IsDistinct-union}
 use Rattle.hashlink_set.proofs.union.Union.of.Goals as goal
 
 pub returns-clause-rest : goal.returns-clause-rest

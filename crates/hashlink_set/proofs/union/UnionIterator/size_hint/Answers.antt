@@ -1,8 +1,7 @@
 use Rattle.hashlink_set.proofs.Names.{true, ◌≡◌, ◌≤◌, length, sym, subst, rules, IfSome, at_most, UpTo}
 use Rattle.hashlink_set.proofs.Names.{at_most_both, left_to_give-at_most, elements_in, lacks, union_rest}
+use Rattle.hashlink_set.{specs.Walks.union_walk, proofs.Looking.bounds_both}
 use Rattle.hashlink_model.proofs.LazyWalks.{union-at_least}
-use Rattle.hashlink_set.specs.Walks.{union_walk}
-use Rattle.hashlink_set.proofs.Looking.{bounds_both}
 use Rattle.hashlink_set.proofs.union.UnionIterator.size_hint.Goals as goal
 
 pub returns-clause-lower : goal.returns-clause-lower

@@ -1,7 +1,6 @@
 -- A power of two minus sixteen is a mask of the bits above the lowest four.
 use Rattle.hashlink_table.proofs.Names.{◌≡◌, ℕ, ◌+◌, ◌-◌, ◌%◌, ◌^◌, bit_and, sym, subst, arith, pow_pos}
-use Rattle.hashlink_table.proofs.Names.{and_high, mod-pow-add}
-use Rattle.hashlink_table.proofs.Groups.{groups_of}
+use Rattle.hashlink_table.proofs.{Names.{and_high, mod-pow-add}, Groups.groups_of}
 use Rattle.hashlink_table.proofs.store.bucket.base_of.Goals as goal
 
 masked : (hash k : ℕ) → bit_and hash (2 ^ (k + 4) - 16) ≡ hash % 2 ^ (k + 4) - hash % 2 ^ (k + 4) % 16

@@ -1,7 +1,6 @@
 -- Twice a power of two is a power of two, and from 16 on a power of two is a multiple of 16.
 use Rattle.std.proofs.Common.{◌*◌, refl, arith}
-use Rattle.hashlink_table.proofs.Groups.{whole_power}
-use Rattle.hashlink_table.proofs.Doubling.{twice_power}
+use Rattle.hashlink_table.proofs.{Groups.whole_power, Doubling.twice_power}
 use Rattle.hashlink_table.proofs.store.bucket.buckets_for.Goals as goal
 
 pub returns-then-room-clause-power : goal.returns-then-room-clause-power

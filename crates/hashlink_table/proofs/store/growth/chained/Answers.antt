@@ -1,9 +1,8 @@
 use Rattle.hashlink_table.proofs.Names.{◌≡◌, ℕ, ◌+◌, ◌<◌, List, [], ◌++◌, length, take, Option, None, Some}
 use Rattle.hashlink_table.proofs.Names.{Global, Vec, vec_capacity, vec_len, ap, ◌∙◌, sym, arith, append-nil}
-use Rattle.std.proofs.Common.{take_all}
-use Rattle.hashlink_table.proofs.Names.{Hashed, Cell, kept_at, nodes_in, with_node}
-use Rattle.hashlink_table.proofs.Linking.{kept_at_read}
+use Rattle.hashlink_table.proofs.{Names.{Hashed, Cell, kept_at, nodes_in, with_node}, Linking.kept_at_read}
 use Rattle.hashlink_table.proofs.Nodes.{next_in}
+use Rattle.std.proofs.Common.{take_all}
 use Rattle.hashlink_table.proofs.store.growth.chained.Goals as goal
 use Rattle.hashlink_table.proofs.store.growth.chained.Goals.{in-Some, in_default}
 

@@ -1,6 +1,5 @@
 use Rattle.hashlink_table.proofs.Names.{ap, ◌∙◌, arith, List, IsPermutation-append_left, common_steps, Cell}
-use Rattle.hashlink_table.proofs.Names.{nodes_in}
-use Rattle.hashlink_table.proofs.Doubling.{arranged-doubled, nodes_in-doubled}
+use Rattle.hashlink_table.proofs.{Names.nodes_in, Doubling.{arranged-doubled, nodes_in-doubled}}
 use Rattle.hashlink_table.proofs.store.growth.double.Goals as goal
 
 pub returns-clause-arranged : goal.returns-clause-arranged

@@ -1,8 +1,7 @@
 use Rattle.hashlink_table.proofs.Names.{◌≡◌, ◌+◌, ◌-◌, ◌/◌, ◌%◌, ◌≤◌, List, length, inl, None, Some, refl}
 use Rattle.hashlink_table.proofs.Names.{sym, ap, map, ◌∙◌, subst, arith, is_none, same_Some}
 use Rattle.hashlink_table.proofs.Names.{count_trailing_zeros, mask_l, Hashed, Cell, nodes_in, lanes_of}
-use Rattle.hashlink_table.proofs.Groups.{group_within, grouped_in}
-use Rattle.hashlink_table.proofs.Masks.{all_taken, first_free, IsFree}
+use Rattle.hashlink_table.proofs.{Groups.{group_within, grouped_in}, Masks.{all_taken, first_free, IsFree}}
 use Rattle.hashlink_table.proofs.Moving.{arranged-set, set-nodes}
 use Rattle.hashlink_table.proofs.store.insertion.put.Given as given
 use Rattle.hashlink_table.proofs.store.insertion.put.Goals.{After-free-free_cells}

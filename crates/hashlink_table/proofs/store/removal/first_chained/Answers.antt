@@ -1,6 +1,5 @@
 use Rattle.hashlink_table.proofs.Names.{◌≡◌, ◌≢◌, ◌+◌, ◌<◌, ◌≤◌, sym, ◌∙◌, arith, END, count_trailing_zeros}
-use Rattle.hashlink_table.proofs.Names.{next_at}
-use Rattle.hashlink_table.proofs.Masks.{first_begin, none_begin}
+use Rattle.hashlink_table.proofs.{Names.next_at, Masks.{first_begin, none_begin}}
 use Rattle.hashlink_table.proofs.store.removal.first_chained.Given as given
 use Rattle.hashlink_table.proofs.store.removal.first_chained.Goals.{After-chains-chains}
 use Rattle.hashlink_table.proofs.store.removal.first_chained.Goals as goal

@@ -1,9 +1,7 @@
-use Rattle.hashlink_table.proofs.Names.{◌≡◌, ◌/◌, ◌%◌, ◌<◌, inl, inr, length, Option, None, Some, refl, sym, ap, ◌∙◌}
-use Rattle.hashlink_table.proofs.Names.{arith, same_Some, IsPermutation-trans, common_steps, IfSome, Hashed}
-use Rattle.hashlink_table.proofs.Names.{chain_at}
-use Rattle.hashlink_table.proofs.Names.{nodes_in}
+use Rattle.hashlink_table.proofs.Names.{◌≡◌, ◌/◌, ◌%◌, ◌<◌, inl, inr, length, Option, None, Some, refl, sym}
+use Rattle.hashlink_table.proofs.Names.{ap, ◌∙◌, arith, same_Some, IsPermutation-trans, common_steps, IfSome}
+use Rattle.hashlink_table.proofs.{Names.{Hashed, chain_at, nodes_in}, Groups.{group_within, grouped_in}}
 use Rattle.hashlink_table.proofs.Linking.{within_by_kept, kept-same, on_hash}
-use Rattle.hashlink_table.proofs.Groups.{group_within, grouped_in}
 use Rattle.hashlink_table.proofs.Moving.{arranged-set, follower_on, same_length, set-nodes}
 use Rattle.hashlink_table.proofs.store.removal.take.Given as given
 use Rattle.hashlink_table.proofs.store.removal.take.Goals.{After-next-next, In-Slot}

@@ -1,7 +1,6 @@
 use Rattle.hashlink_table.proofs.Names.{◌≡◌, ◌<◌, IsSome, get_or, length, sym, ap, ◌∙◌, subst, arith, Cell}
-use Rattle.hashlink_table.proofs.Names.{kept_at}
 use Rattle.hashlink_table.proofs.Linking.{kept_at_read, free_small, linked-give, on_within, on_some}
-use Rattle.hashlink_table.proofs.Linking.{taken-nodes, kept-same}
+use Rattle.hashlink_table.proofs.{Names.kept_at, Linking.{taken-nodes, kept-same}}
 use Rattle.hashlink_table.proofs.Moving.{arranged-same, overflow-taken}
 use Rattle.hashlink_table.proofs.store.removal.take_out.Given as given
 use Rattle.hashlink_table.proofs.store.removal.take_out.Goals.{After-unlink}

@@ -1,10 +1,8 @@
 use Rattle.hashlink_table.proofs.Names.{◌<◌, length, sym, ap, ◌∙◌, subst, inl, inr, arith, map-set_same, Cell}
-use Rattle.hashlink_table.proofs.Names.{next_at, SameNodes, stored_in}
 use Rattle.hashlink_table.proofs.Linking.{on_within, kept_at_read, next_at_read, unlinked_first}
-use Rattle.hashlink_table.proofs.Linking.{unlinked_next}
-use Rattle.hashlink_table.proofs.Moving.{next-same, next-begun}
 use Rattle.hashlink_table.proofs.Walks.{rank, to_come, walk_of, walk_on, walk_goes, steps_left}
-use Rattle.hashlink_table.proofs.Walks.{steps_left-falls}
+use Rattle.hashlink_table.proofs.{Names.{next_at, SameNodes, stored_in}, Linking.unlinked_next}
+use Rattle.hashlink_table.proofs.{Moving.{next-same, next-begun}, Walks.steps_left-falls}
 use Rattle.hashlink_table.proofs.store.removal.unlink.Given as given
 use Rattle.hashlink_table.proofs.store.removal.unlink.Goals.{Start}
 use Rattle.hashlink_table.proofs.store.removal.unlink.Goals as goal

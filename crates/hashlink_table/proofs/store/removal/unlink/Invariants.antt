@@ -1,5 +1,4 @@
-use Rattle.hashlink_table.proofs.Names.{◌≢◌, ◌<◌, length, next_at}
-use Rattle.hashlink_table.proofs.Walks.{IsWalk, rank, steps_left}
+use Rattle.hashlink_table.proofs.{Names.{◌≢◌, ◌<◌, length, next_at}, Walks.{IsWalk, rank, steps_left}}
 use Rattle.hashlink_table.proofs.store.removal.unlink.Given as goal
 
 -- the cell was not passed

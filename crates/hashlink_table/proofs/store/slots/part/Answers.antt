@@ -1,8 +1,6 @@
 -- Both halves of a cell are in their lists, and are as the contract states.
 use Rattle.hashlink_table.proofs.Names.{slice_index_or, true, false, refl, arith, lt-ltb, le-ltb, length-set}
-use Rattle.hashlink_table.proofs.Names.{Rest}
-use Rattle.hashlink_table.proofs.Storing.{sizes}
-use Rattle.hashlink_table.proofs.Doubling.{IsApart, parted_in}
+use Rattle.hashlink_table.proofs.{Names.Rest, Storing.sizes, Doubling.{IsApart, parted_in}}
 use Rattle.hashlink_table.proofs.store.slots.part.Given as given
 use Rattle.hashlink_table.proofs.store.slots.part.Goals.{then-bucket_of-count, else-bucket_of-count}
 use Rattle.hashlink_table.proofs.store.slots.part.Goals as goal

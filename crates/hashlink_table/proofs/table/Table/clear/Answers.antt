@@ -1,5 +1,4 @@
-use Rattle.hashlink_table.proofs.Names.{[], length, ap, ◌∙◌, Contents}
-use Rattle.hashlink_table.proofs.Sound.{sound-bare, contents-bare}
+use Rattle.hashlink_table.proofs.{Names.{[], length, ap, ◌∙◌, Contents}, Sound.{sound-bare, contents-bare}}
 use Rattle.hashlink_table.proofs.table.Table.clear.Goals as goal
 
 pub invariant_of-self : goal.invariant_of-self

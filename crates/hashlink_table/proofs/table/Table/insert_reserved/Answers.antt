@@ -1,6 +1,5 @@
 use Rattle.hashlink_table.proofs.Names.{◌∷◌, ◌++◌, ap, subst, arith, IsPermutation, Hashed, nodes_in}
-use Rattle.hashlink_table.proofs.Names.{Contents, len_of}
-use Rattle.hashlink_table.proofs.Sound.{full_overflow, sound-put}
+use Rattle.hashlink_table.proofs.{Names.{Contents, len_of}, Sound.{full_overflow, sound-put}}
 use Rattle.hashlink_table.proofs.table.Table.insert_reserved.Goals as goal
 
 pub put-requires-clause-reserved : goal.put-requires-clause-reserved

@@ -1,5 +1,4 @@
-use Rattle.hashlink_table.proofs.Names.{take, nodes_in}
-use Rattle.hashlink_table.proofs.Nodes.{IsCopied}
+use Rattle.hashlink_table.proofs.{Names.{take, nodes_in}, Nodes.IsCopied}
 use Rattle.hashlink_table.proofs.table.Table.insert_slots.Given as goal
 
 abbrev pub invariant-loop-at : goal.invariant-loop-at

@@ -1,6 +1,5 @@
-use Rattle.hashlink_table.proofs.Names.{◌∷◌, ◌++◌, length, sym, ap, ◌∙◌, subst, IsPermutation}
-use Rattle.hashlink_table.proofs.Names.{with_items_is, Contents, nodes_in}
-use Rattle.hashlink_table.proofs.Sound.{sound-take}
+use Rattle.hashlink_table.proofs.Names.{◌∷◌, ◌++◌, length, sym, ap, ◌∙◌, subst, IsPermutation, with_items_is}
+use Rattle.hashlink_table.proofs.{Names.{Contents, nodes_in}, Sound.sound-take}
 use Rattle.hashlink_table.proofs.Views.{can_ask, no_cost, search_cost}
 use Rattle.hashlink_table.proofs.table.Table.remove_counted.Given as given
 use Rattle.hashlink_table.proofs.table.Table.remove_counted.Goals.{After-take}

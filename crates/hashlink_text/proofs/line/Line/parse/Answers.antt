@@ -1,6 +1,5 @@
 use Rattle.std.proofs.lemmas.Result.{IfOk-weaker}
-use Rattle.hashlink_text.proofs.Grammar.{says_as}
-use Rattle.hashlink_text.proofs.Readers.{reads_line}
+use Rattle.hashlink_text.proofs.{Grammar.says_as, Readers.reads_line}
 use Rattle.hashlink_text.proofs.line.Line.parse.Goals as goal
 
 pub returns-clause-said : goal.returns-clause-said

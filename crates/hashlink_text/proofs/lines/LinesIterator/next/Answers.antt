@@ -1,7 +1,5 @@
-use Rattle.std.proofs.Common.{◌<◌, length, arith, rules, refl, ap}
-use Rattle.std.proofs.lemmas.Bool.Decides.{nat_tests}
-use Rattle.hashlink_text.specs.Lines.{lines_of}
-use Rattle.hashlink_text.proofs.Cutting.{lines_of-cut}
+use Rattle.std.proofs.{Common.{◌<◌, length, arith, rules, refl, ap}, lemmas.Bool.Decides.nat_tests}
+use Rattle.hashlink_text.{specs.Lines.lines_of, proofs.Cutting.lines_of-cut}
 use Rattle.hashlink_text.proofs.lines.LinesIterator.next.Goals as goal
 
 pub returns-clause-steps : goal.returns-clause-steps

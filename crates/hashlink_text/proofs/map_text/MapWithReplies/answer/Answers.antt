@@ -1,17 +1,12 @@
 use Rattle.std.proofs.Common.{◌≡◌, ◌++◌, ◌%◌, ℕ, List, Some, codes, nat_eq, refl, ap, ap₂, ◌∙◌, rules}
-use Rattle.std.proofs.Common.{string_bytes}
-use Rattle.std.proofs.lemmas.Result.{on_ok_weaker}
+use Rattle.std.proofs.{Common.string_bytes, lemmas.Result.on_ok_weaker}
 use Rattle.hashlink_core.specs.Keyed.{state_of}
 use Rattle.hashlink_model.specs.MapState.{MapState}
-use Rattle.hashlink_run.specs.declared.commands.Command.{Command}
-use Rattle.hashlink_run.specs.declared.commands.Command.TheVariants.{Cursor}
-use Rattle.hashlink_run.specs.declared.replies.Reply.{Reply}
-use Rattle.hashlink_run.specs.Keeps.{IsEven}
-use Rattle.hashlink_run.specs.Step.{Step}
-use Rattle.hashlink_text.specs.declared.line.Line.TheVariants.{Do}
-use Rattle.hashlink_text.specs.Spelling.{said}
-use Rattle.hashlink_text.specs.Transcript.{Shows, Itself, ended, form_of, replies_shown}
+use Rattle.hashlink_run.specs.declared.commands.{Command.Command, Command.TheVariants.Cursor}
+use Rattle.hashlink_run.specs.{declared.replies.Reply.Reply, Keeps.IsEven, Step.Step}
 use Rattle.hashlink_run.proofs.AnyCommand.{step-wider}
+use Rattle.hashlink_text.specs.{declared.line.Line.TheVariants.Do, Spelling.said}
+use Rattle.hashlink_text.specs.Transcript.{Shows, Itself, ended, form_of, replies_shown}
 use Rattle.hashlink_text.proofs.map_text.MapWithReplies.answer.Goals as goal
 
 -- the answer to a command that was read is its replies, including the replies to a cursor's steps

@@ -1,5 +1,4 @@
-use Rattle.hashlink.proofs.Taking.{Kept}
-use Rattle.hashlink.specs.MapDrain.{drained_map}
+use Rattle.hashlink.{proofs.Taking.Kept, specs.MapDrain.drained_map}
 use Rattle.hashlink_uses.proofs.Common.{◌≡◌, state_of}
 use Rattle.hashlink_uses.proofs.maps.drains.take_ends.Given as goal
 

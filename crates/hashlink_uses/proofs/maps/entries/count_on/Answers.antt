@@ -1,11 +1,7 @@
 use Rattle.std.proofs.Common.{◌≡◌, ◌+◌, ℕ, Option, Some, None, ap, refl, subst, is_ok, rules}
-use Rattle.std.specs.Prelude.{unwrap_or, option_map, IsOk, OnErr, IfErr}
-use Rattle.hashlink.specs.Keyed.{state_of, entries_of}
-use Rattle.std.specs.Map.{lookup}
-use Rattle.hashlink.specs.MapEntry.{entry_state}
-use Rattle.hashlink.specs.MapEntryLends.{PutsLast}
-use Rattle.hashlink.specs.MapState.{RefusesEntry}
-use Rattle.hashlink.proofs.Modified.{inserts_modified, refuses_modified}
+use Rattle.std.specs.{Prelude.{unwrap_or, option_map, IsOk, OnErr, IfErr}, Map.lookup}
+use Rattle.hashlink.specs.{Keyed.{state_of, entries_of}, MapEntry.entry_state, MapEntryLends.PutsLast}
+use Rattle.hashlink.{specs.MapState.RefusesEntry, proofs.Modified.{inserts_modified, refuses_modified}}
 use Rattle.hashlink_uses.proofs.maps.entries.count_on.Goals as goal
 
 one_more : (o : Option ℕ) → unwrap_or (option_map (λ n. n + 1) o) 1 ≡ unwrap_or o 0 + 1

@@ -1,5 +1,4 @@
-use Rattle.hashlink.specs.Steps.{RemovesKey}
-use Rattle.hashlink.proofs.AtKey.{taken-key, absent-taken}
+use Rattle.hashlink.{specs.Steps.RemovesKey, proofs.AtKey.{taken-key, absent-taken}}
 use Rattle.hashlink_uses.proofs.Common.{◌≡◌, None, sym, subst, rules, state_of, occupied_place}
 use Rattle.hashlink_uses.proofs.maps.entries.take.Goals as goal
 

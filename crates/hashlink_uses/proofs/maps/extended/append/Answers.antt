@@ -1,5 +1,4 @@
-use Rattle.std.specs.Iterator.{Yields}
-use Rattle.std.specs.Map.Iter.{TakesFirst}
+use Rattle.std.specs.{Iterator.Yields, Map.Iter.TakesFirst}
 use Rattle.hashlink_uses.proofs.Common.{subst, on_ok_weaker, IfErr-weaker, state_of, InsertsPair}
 use Rattle.hashlink_uses.proofs.Common.{extended_by_all, extended_until}
 use Rattle.hashlink_uses.proofs.maps.extended.append.Goals as goal

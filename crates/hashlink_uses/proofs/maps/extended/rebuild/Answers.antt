@@ -1,6 +1,4 @@
-use Rattle.hashlink.specs.MapState.{empty_map}
-use Rattle.hashlink.proofs.Extends.{extended-own}
-use Rattle.hashlink.proofs.InTurn.{accepts_entries}
+use Rattle.hashlink.{specs.MapState.empty_map, proofs.Extends.extended-own, proofs.InTurn.accepts_entries}
 use Rattle.hashlink_uses.proofs.Common.{◌∙◌, IfOk-weaker, entries_of, state_of, InsertsPair, extended_by_all}
 use Rattle.hashlink_uses.proofs.maps.extended.rebuild.Goals as goal
 

@@ -1,7 +1,5 @@
 use Rattle.std.proofs.Common.{◌≡◌, ◌+◌, ◌-◌, rules, ap, arith, length, ◌∙◌}
-use Rattle.hashlink.specs.MapState.{with_value}
-use Rattle.hashlink.specs.Keyed.{state_of, entries_of}
-use Rattle.hashlink.specs.WritingWalk.{last_place}
+use Rattle.hashlink.specs.{MapState.with_value, Keyed.{state_of, entries_of}, WritingWalk.last_place}
 use Rattle.hashlink.proofs.Walking.{on-some, walk-ends}
 use Rattle.hashlink_uses.proofs.maps.writing_walks.write_last.Goals as goal
 

@@ -1,7 +1,5 @@
-use Rattle.std.proofs.Common.{All, Option, ℕ, ◌<◌, ◌^◌, ◌≤◌, arith}
-use Rattle.std.proofs.lemmas.Bool.{eqb-true}
-use Rattle.hashlink.proofs.CallerLemmas.{All-found, All-found_or_made, All-used}
-use Rattle.hashlink.specs.Cached.{entries_of}
+use Rattle.std.proofs.{Common.{All, Option, ℕ, ◌<◌, ◌^◌, ◌≤◌, arith}, lemmas.Bool.eqb-true}
+use Rattle.hashlink.{proofs.CallerLemmas.{All-found, All-found_or_made, All-used}, specs.Cached.entries_of}
 use Rattle.hashlink_uses.proofs.Common.{List, None, Some, ap, is_ok, lookup, nat_eq, nat_eq_equiv, refl}
 use Rattle.hashlink_uses.proofs.Common.{rules, ◌∙◌, ◌≡◌}
 use Rattle.hashlink_uses.proofs.memo.Cubes.get.Goals as goal

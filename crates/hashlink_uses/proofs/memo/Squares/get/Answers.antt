@@ -1,7 +1,5 @@
-use Rattle.std.proofs.Common.{ℕ, ◌*◌}
-use Rattle.std.proofs.lemmas.Bool.{eqb-true}
-use Rattle.hashlink.proofs.CallerLemmas.{All-found_or_made, All-used}
-use Rattle.hashlink.specs.Cached.{entries_of}
+use Rattle.std.proofs.{Common.{ℕ, ◌*◌}, lemmas.Bool.eqb-true}
+use Rattle.hashlink.{proofs.CallerLemmas.{All-found_or_made, All-used}, specs.Cached.entries_of}
 use Rattle.hashlink_uses.proofs.Common.{ap, is_ok, nat_eq, nat_eq_equiv, rules, ◌∙◌, ◌≡◌}
 use Rattle.hashlink_uses.proofs.memo.Squares.get.Goals as goal
 

@@ -1,11 +1,8 @@
-use Rattle.std.proofs.Common.{◌-◌, arith, false, filter, not, rules}
-use Rattle.std.specs.Prelude.{unwrap_or}
+use Rattle.std.{proofs.Common.{◌-◌, arith, false, filter, not, rules}, specs.Prelude.unwrap_or}
 use Rattle.std.specs.String.{string_eq}
-use Rattle.hashlink.specs.Entries.{put}
-use Rattle.hashlink.specs.WithoutFirst.{without_first}
+use Rattle.hashlink.specs.{Entries.put, WithoutFirst.without_first}
 use Rattle.hashlink.proofs.Counting.{filter-without_first, removes_first}
-use Rattle.hashlink_uses.specs.Recent.{with_last}
-use Rattle.hashlink_uses.proofs.Common.{ap, entries_of, length, ◌∙◌, ◌≡◌}
+use Rattle.hashlink_uses.{specs.Recent.with_last, proofs.Common.{ap, entries_of, length, ◌∙◌, ◌≡◌}}
 use Rattle.hashlink_uses.proofs.recent.RecentFiles.open.Goals as goal
 
 pub returns : goal.returns

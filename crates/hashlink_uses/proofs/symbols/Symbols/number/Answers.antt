@@ -1,13 +1,10 @@
 use Rattle.std.proofs.Common.{String, inl, inr, is_some, map, option_map, slice_get, string_bytes, ℕ}
-use Rattle.std.specs.String.{string_eq}
-use Rattle.std.proofs.lemmas.List.{length-map, map_push}
+use Rattle.std.{specs.String.string_eq, proofs.lemmas.List.{length-map, map_push}}
 use Rattle.std.proofs.lemmas.Option.{slice_get-map}
-use Rattle.hashlink.specs.Texts.{is_text}
 use Rattle.hashlink.proofs.CallerLemmas.{is_some-lookup_text, place-from_text, slice_get-push}
-use Rattle.hashlink.proofs.CallerLemmas.{slice_get-pushed}
-use Rattle.hashlink_uses.proofs.Common.{List, None, Some, [], ap, entries_of, keys_of, length, lookup, refl, subst}
-use Rattle.hashlink_uses.proofs.Common.{sym, ◌++◌, ◌∙◌, ◌∷◌, ◌≡◌}
-use Rattle.hashlink_uses.specs.Numbered.{AreNumbered}
+use Rattle.hashlink.{specs.Texts.is_text, proofs.CallerLemmas.slice_get-pushed}
+use Rattle.hashlink_uses.proofs.Common.{List, None, Some, [], ap, entries_of, keys_of, length, lookup, refl}
+use Rattle.hashlink_uses.{proofs.Common.{subst, sym, ◌++◌, ◌∙◌, ◌∷◌, ◌≡◌}, specs.Numbered.AreNumbered}
 use Rattle.hashlink_uses.proofs.symbols.Symbols.number.Goals as goal
 
 module _ {A : Type 0} (text : List ℕ) (es : List (String A × ℕ)) (numbered : AreNumbered es) where

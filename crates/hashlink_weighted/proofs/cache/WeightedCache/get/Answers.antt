@@ -1,8 +1,6 @@
 use Rattle.std.proofs.Common.{◌≡◌, ℕ, Option, None, Some, false, refl, ap, sym, ◌∙◌, is_some, true≢false}
-use Rattle.std.specs.Option.{option_map}
-use Rattle.std.specs.Map.Iter.{deref_pair}
-use Rattle.hashlink_weighted.specs.Answers.{without_weight}
-use Rattle.hashlink_weighted.proofs.Moved.{last_value_match}
+use Rattle.std.specs.{Option.option_map, Map.Iter.deref_pair}
+use Rattle.hashlink_weighted.{specs.Answers.without_weight, proofs.Moved.last_value_match}
 use Rattle.hashlink_weighted.proofs.Totals.{moves_total}
 use Rattle.hashlink_weighted.proofs.cache.WeightedCache.get.Goals as goal
 

@@ -1,6 +1,5 @@
 use Rattle.std.proofs.Common.{refl, ap, sym, ◌∙◌}
-use Rattle.hashlink_weighted.specs.Answers.{without_weight}
-use Rattle.hashlink_weighted.proofs.Totals.{removes_weight, removes_none}
+use Rattle.hashlink_weighted.{specs.Answers.without_weight, proofs.Totals.{removes_weight, removes_none}}
 use Rattle.hashlink_weighted.proofs.cache.WeightedCache.remove.Goals as goal
 
 pub invariant_of-self : goal.invariant_of-self

@@ -1,8 +1,7 @@
 use Rattle.std.proofs.Common.{◌≡◌, ◌-◌, length}
 use Rattle.hashlink_core.specs.Keyed.{state_of, entries_of}
 use Rattle.hashlink_model.specs.Entries.{IsEntries}
-use Rattle.hashlink_weighted.proofs.Dropping.{HasDropped}
-use Rattle.hashlink_weighted.proofs.Evicting.{Evicting}
+use Rattle.hashlink_weighted.proofs.{Dropping.HasDropped, Evicting.Evicting}
 use Rattle.hashlink_weighted.proofs.cache.eviction.evict_until_fitting.Given as goal
 
 abbrev pub invariant-loop-others : goal.invariant-loop-others

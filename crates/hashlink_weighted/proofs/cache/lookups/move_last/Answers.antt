@@ -1,8 +1,6 @@
-use Rattle.std.proofs.Common.{ap, sym, subst, ◌∙◌}
-use Rattle.std.specs.Option.{option_copied_mut}
+use Rattle.std.{proofs.Common.{ap, sym, subst, ◌∙◌}, specs.Option.option_copied_mut}
 use Rattle.hashlink_core.specs.Keyed.{state_of}
-use Rattle.hashlink_model.specs.Steps.{MovesMatch}
-use Rattle.hashlink_model.proofs.MovedLast.{moved_match_last}
+use Rattle.hashlink_model.{specs.Steps.MovesMatch, proofs.MovedLast.moved_match_last}
 use Rattle.hashlink_weighted.proofs.cache.lookups.move_last.Goals as goal
 
 pub returns-in-Some-clause-moves : goal.returns-in-Some-clause-moves

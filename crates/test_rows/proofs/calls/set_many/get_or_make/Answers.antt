@@ -1,9 +1,6 @@
 -- An element that is made for an absent one is equal to it, and so absent.
 use Rattle.std.proofs.Common.{◌≡◌, nat_eq, Bool, true, false, List, [], ◌∷◌, Option, Some, None, cond, ◌||◌}
-use Rattle.std.proofs.Common.{ℕ}
-use Rattle.std.proofs.Common.{is_some, refl, sym, ap, ◌∙◌}
-use Rattle.std.specs.List.{find}
-use Rattle.std.specs.Map.{keys_of}
+use Rattle.std.{proofs.Common.{ℕ, is_some, refl, sym, ap, ◌∙◌}, specs.List.find, specs.Map.keys_of}
 use Rattle.std.specs.Set.{is_member}
 use Rattle.test_rows.specs.declared.items.items.Item.{Item}
 use Rattle.test_rows.proofs.calls.set_many.get_or_make.Goals as goal

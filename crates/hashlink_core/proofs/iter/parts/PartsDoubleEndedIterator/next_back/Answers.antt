@@ -1,6 +1,5 @@
-use Rattle.hashlink_core.proofs.Names.{[], ◌∷◌, ◌++◌, map, map-append, ap, sym, ◌∙◌}
+use Rattle.hashlink_core.proofs.{Names.{[], ◌∷◌, ◌++◌, map, map-append, ap, sym, ◌∙◌}, Walk.progress-back}
 use Rattle.std.specs.Map.Iter.{deref}
-use Rattle.hashlink_core.proofs.Walk.{progress-back}
 use Rattle.hashlink_core.proofs.iter.parts.PartsDoubleEndedIterator.next_back.Goals as goal
 
 pub returns-clause-steps : goal.returns-clause-steps

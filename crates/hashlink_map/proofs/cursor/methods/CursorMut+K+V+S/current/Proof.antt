@@ -1,7 +1,6 @@
 -- `current` lends the pair at its place, if there is one, and the cursor follows it.
 use Rattle.hashlink_map.specs.contracts.cursor.methods.CursorMut+K+V+S.current as f
-use Rattle.hashlink_map.proofs.CursorPairs.{Cursor, at_place}
-use Rattle.hashlink_map.proofs.LendAtPlace.{steps_and_lends}
+use Rattle.hashlink_map.proofs.{CursorPairs.{Cursor, at_place}, LendAtPlace.steps_and_lends}
 use Rattle.hashlink_map.proofs.cursor.methods.CursorMut+K+V+S.with_place.Met as step
 use Rattle.hashlink_map.proofs.cursor.methods.CursorMut+K+V+S.pair_at.Met as lent
 use Rattle.hashlink_map.proofs.cursor.methods.CursorMut+K+V+S.current.Statement.{statement}

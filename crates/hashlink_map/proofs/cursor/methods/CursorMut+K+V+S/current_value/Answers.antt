@@ -1,6 +1,5 @@
 use Rattle.hashlink_map.proofs.Names.{refl, sym, ap, ◌∙◌, option_map, value_at, entries_of, place_number}
-use Rattle.hashlink_map.proofs.Names.{cursor_node, still_placed, at-guard}
-use Rattle.hashlink_map.proofs.Written.{cursor_written}
+use Rattle.hashlink_map.proofs.{Names.{cursor_node, still_placed, at-guard}, Written.cursor_written}
 use Rattle.hashlink_map.proofs.cursor.methods.CursorMut+K+V+S.current_value.Goals as goal
 
 pub invariant_of-self-lent : goal.invariant_of-self-lent

@@ -1,5 +1,4 @@
-use Rattle.hashlink_map.proofs.Names.{cursor_node}
-use Rattle.hashlink_map.proofs.Walking.{same-place}
+use Rattle.hashlink_map.proofs.{Names.cursor_node, Walking.same-place}
 use Rattle.hashlink_map.proofs.cursor.methods.CursorMut+K+V+S.insert_before.Goals as goal
 
 pub invariant_of-self : goal.invariant_of-self

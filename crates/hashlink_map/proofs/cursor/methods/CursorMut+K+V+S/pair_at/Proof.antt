@@ -1,7 +1,6 @@
 -- `pair_at` lends the value beside the key, if there is one, and the cursor follows it.
 use Rattle.hashlink_map.specs.contracts.cursor.methods.CursorMut+K+V+S.pair_at as f
-use Rattle.hashlink_map.proofs.CursorPairs.{Cursor, at_node}
-use Rattle.hashlink_map.proofs.LendAtPlace.{lends_at_place}
+use Rattle.hashlink_map.proofs.{CursorPairs.{Cursor, at_node}, LendAtPlace.lends_at_place}
 use Rattle.hashlink_map.proofs.cursor.methods.CursorMut+K+V+S.pair_at_node.Met.{met}
 use Rattle.hashlink_map.proofs.cursor.methods.CursorMut+K+V+S.pair_at.Statement.{statement}
 use Rattle.hashlink_map.proofs.cursor.methods.CursorMut+K+V+S.pair_at.Code as code

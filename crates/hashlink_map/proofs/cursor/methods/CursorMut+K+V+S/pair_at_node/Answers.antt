@@ -1,5 +1,4 @@
-use Rattle.hashlink_map.proofs.Names.{refl, still_placed}
-use Rattle.hashlink_map.proofs.CursorPairs.{cursor_with-is}
+use Rattle.hashlink_map.proofs.{Names.{refl, still_placed}, CursorPairs.cursor_with-is}
 use Rattle.hashlink_map.proofs.cursor.methods.CursorMut+K+V+S.pair_at_node.Goals as goal
 
 pub invariant_of-self-lent : goal.invariant_of-self-lent

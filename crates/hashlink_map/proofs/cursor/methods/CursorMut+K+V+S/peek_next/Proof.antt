@@ -1,8 +1,7 @@
 -- `peek_next` lends the pair at the next place, if there is one, and the cursor follows it.
 use Rattle.hashlink_model.specs.Cursor.{place_next}
 use Rattle.hashlink_map.specs.contracts.cursor.methods.CursorMut+K+V+S.peek_next as f
-use Rattle.hashlink_map.proofs.CursorPairs.{Cursor, at_place}
-use Rattle.hashlink_map.proofs.LendAtPlace.{steps_and_lends}
+use Rattle.hashlink_map.proofs.{CursorPairs.{Cursor, at_place}, LendAtPlace.steps_and_lends}
 use Rattle.hashlink_map.proofs.cursor.methods.CursorMut+K+V+S.with_next.Met as step
 use Rattle.hashlink_map.proofs.cursor.methods.CursorMut+K+V+S.pair_at.Met as lent
 use Rattle.hashlink_map.proofs.cursor.methods.CursorMut+K+V+S.peek_next.Statement.{statement}

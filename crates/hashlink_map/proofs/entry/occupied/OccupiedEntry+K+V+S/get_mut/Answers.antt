@@ -1,5 +1,4 @@
-use Rattle.hashlink_map.proofs.Names.{refl, still_holds_match}
-use Rattle.hashlink_map.proofs.Written.{is_written, occupied_with-is}
+use Rattle.hashlink_map.proofs.{Names.{refl, still_holds_match}, Written.{is_written, occupied_with-is}}
 use Rattle.hashlink_map.proofs.entry.occupied.OccupiedEntry+K+V+S.get_mut.Goals as goal
 
 pub invariant_of-self-lent : goal.invariant_of-self-lent

@@ -1,5 +1,4 @@
-use Rattle.hashlink_core.proofs.Holding.{holds-equal}
-use Rattle.hashlink_core.specs.Keyed.{state_of}
+use Rattle.hashlink_core.{proofs.Holding.holds-equal, specs.Keyed.state_of}
 use Rattle.hashlink_map.proofs.EntryUpdates.{keeps-key}
 use Rattle.hashlink_map.proofs.entry.occupied.OccupiedEntry+K+V+S.replace_key.Goals as goal
 

@@ -1,5 +1,4 @@
-use Rattle.hashlink_map.proofs.Names.{refl, still_holds}
-use Rattle.hashlink_map.proofs.Written.{raw_is_written, raw_with-is}
+use Rattle.hashlink_map.proofs.{Names.{refl, still_holds}, Written.{raw_is_written, raw_with-is}}
 use Rattle.hashlink_map.proofs.raw_entry.occupied.RawOccupiedEntryMut+K+V+S.get_mut.Goals as goal
 
 pub invariant_of-self-lent : goal.invariant_of-self-lent

@@ -1,10 +1,9 @@
 -- `into_key` lends the key, and the entry's map ends as it was.
 use Rattle.hashlink_map.proofs.Names.{◌≡◌, [], ◌∷◌, Some, sep, sem, fact, layout, param, named, ShrRef}
-use Rattle.hashlink_map.proofs.Names.{place_number, entries_of, key_at, ⊤}
+use Rattle.hashlink_map.proofs.{Names.{place_number, entries_of, key_at, ⊤}, PairRows.key_laws}
+use Rattle.hashlink_map.proofs.LendForGood.{Map, lends_for_good}
 use Rattle.std.specs.Borrow.{follows_so}
 use mathlib.Core.Option.{none}
-use Rattle.hashlink_map.proofs.LendForGood.{Map, lends_for_good}
-use Rattle.hashlink_map.proofs.PairRows.{key_laws}
 use Rattle.hashlink_map.specs.contracts.raw_entry.occupied.RawOccupiedEntryMut+K+V+S.into_key as f
 use Rattle.hashlink_map.proofs.map.LinkedHashMap.key_for_good.Met.{met}
 use Rattle.hashlink_map.proofs.raw_entry.occupied.RawOccupiedEntryMut+K+V+S.into_key.Statement.{statement}

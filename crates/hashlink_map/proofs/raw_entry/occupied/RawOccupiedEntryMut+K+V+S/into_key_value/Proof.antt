@@ -1,9 +1,8 @@
 -- `into_key_value` lends the value beside the key, and the entry's map follows it.
 use Rattle.hashlink_map.proofs.Names.{◌≡◌, [], ◌∷◌, Some, sep, sem, fact, layout, param, slice_get}
-use Rattle.hashlink_map.proofs.Names.{place_number, entries_of, with_value_at}
-use Rattle.std.specs.Borrow.{Lends}
+use Rattle.hashlink_map.proofs.{Names.{place_number, entries_of, with_value_at}, PairRows.{Lent, lent_laws}}
 use Rattle.hashlink_map.proofs.LendForGood.{Map, lends_for_good}
-use Rattle.hashlink_map.proofs.PairRows.{Lent, lent_laws}
+use Rattle.std.specs.Borrow.{Lends}
 use Rattle.hashlink_map.specs.contracts.raw_entry.occupied.RawOccupiedEntryMut+K+V+S.into_key_value as f
 use Rattle.hashlink_map.proofs.map.LinkedHashMap.pair_at_mut.Met.{met}
 use Rattle.hashlink_map.proofs.raw_entry.occupied.RawOccupiedEntryMut+K+V+S.into_key_value.Statement

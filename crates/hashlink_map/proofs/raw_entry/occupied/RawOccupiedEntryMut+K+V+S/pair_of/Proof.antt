@@ -10,8 +10,7 @@ use Names.{calls_at, lasts, Lasts, triple_of, framed, Stays, stay_dropped, walk_
 use Names.{proved_at, leaves, Ok, Err, slice_get, raw_occupied_state, raw_place, RawLendsForGood}
 use Rattle.std.specs.Prelude.{Some}
 use Rattle.hashlink_map.proofs.PairRows.{Given, given_laws, Lent, Answer, Held, held_laws, Entered}
-use Rattle.hashlink_map.proofs.PairRows.{entered_laws}
-use Rattle.hashlink_map.proofs.PairValues.{valued, ok_had, err_had}
+use Rattle.hashlink_map.proofs.{PairRows.entered_laws, PairValues.{valued, ok_had, err_had}}
 use Rattle.hashlink_map.specs.contracts.raw_entry.occupied.RawOccupiedEntryMut+K+V+S.pair_of as f
 use Rattle.hashlink_map.specs.contracts.raw_entry.occupied.RawOccupiedEntryMut+K+V+S.into_key_value as g
 use Rattle.hashlink_map.proofs.raw_entry.occupied.RawOccupiedEntryMut+K+V+S.into_key_value.Met.{met}

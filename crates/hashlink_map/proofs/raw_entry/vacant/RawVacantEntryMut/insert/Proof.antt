@@ -2,11 +2,9 @@
 use Rattle.hashlink_map.proofs.Names.{[], ◌∷◌, refl, ftrue, fsep, via, sem, of_opd, and_then, no_more}
 use Rattle.hashlink_map.proofs.Names.{returns, enter, alloc_all, pass_all, free_all, look_at, get, sets}
 use Rattle.hashlink_map.proofs.Names.{lands_as, Lfts, tables, no, param, param_laws, plain, nothing}
-use Rattle.hashlink_map.proofs.Names.{calls_from, framed, stay_dropped, Goes-dropped}
-use Rattle.hashlink_map.proofs.EnterAndLend.{all_five, entered_and_lent, returned}
+use Rattle.hashlink_map.proofs.{Names.{calls_from, framed, stay_dropped, Goes-dropped}, PairValues.value_of}
+use Rattle.hashlink_map.proofs.{EnterAndLend.{all_five, entered_and_lent, returned}, PutLast.puts_new}
 use Rattle.hashlink_map.proofs.PairRows.{Answer, Entered, Vacant, vacant_laws}
-use Rattle.hashlink_map.proofs.PairValues.{value_of}
-use Rattle.hashlink_map.proofs.PutLast.{puts_new}
 use Rattle.hashlink_map.specs.contracts.raw_entry.vacant.RawVacantEntryMut.insert as f
 use Rattle.hashlink_map.proofs.raw_entry.vacant.RawVacantEntryMut.insert_entry.Met as entered
 use Rattle.hashlink_map.proofs.raw_entry.occupied.RawOccupiedEntryMut+K+V+S.pair_of.Met as lent

@@ -3,10 +3,8 @@ use Rattle.hashlink_map.proofs.Names.{[], ◌∷◌, refl, ftrue, fsep, sep, via
 use Rattle.hashlink_map.proofs.Names.{no_more, returns, enter, alloc_all, pass_all, free_all, look_at, get}
 use Rattle.hashlink_map.proofs.Names.{sets, lands_as, Lfts, tables, u64, no, yes, param, param_laws, plain}
 use Rattle.hashlink_map.proofs.Names.{nothing, calls_from, framed, stay_dropped, Goes-dropped}
-use Rattle.hashlink_map.proofs.EnterAndLend.{all_five, entered_and_lent, returned}
-use Rattle.hashlink_map.proofs.PairRows.{Answer, Entered, Vacant, vacant_laws}
-use Rattle.hashlink_map.proofs.PairValues.{value_of}
-use Rattle.hashlink_map.proofs.PutLast.{puts_new}
+use Rattle.hashlink_map.proofs.{EnterAndLend.{all_five, entered_and_lent, returned}, PairValues.value_of}
+use Rattle.hashlink_map.proofs.{PairRows.{Answer, Entered, Vacant, vacant_laws}, PutLast.puts_new}
 use Rattle.hashlink_map.specs.contracts.raw_entry.vacant.RawVacantEntryMut.insert_hashed_nocheck as f
 use Rattle.hashlink_map.proofs.raw_entry.vacant.RawVacantEntryMut.insert_entry_hashed_nocheck.Met as entered
 use Rattle.hashlink_map.proofs.raw_entry.occupied.RawOccupiedEntryMut+K+V+S.pair_of.Met as lent

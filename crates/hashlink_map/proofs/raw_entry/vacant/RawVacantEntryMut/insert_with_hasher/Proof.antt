@@ -3,10 +3,8 @@ use Rattle.hashlink_map.proofs.Names
 use Names.{[], ◌∷◌, refl, ftrue, fsep, sep, via, w64, vint, sem, of_opd, and_then, no_more, returns, enter}
 use Names.{alloc_all, pass_all, free_all, look_at, get, sets, lands_as, ◌⊑◌, Lfts, fact, tables, u64, no, yes}
 use Names.{param, param_laws, plain, nothing, calls_from, framed, stay_dropped, Goes-dropped}
-use Rattle.hashlink_map.proofs.EnterAndLend.{but_last, entered_and_lent, returned}
-use Rattle.hashlink_map.proofs.PairRows.{Answer, Entered, Vacant, vacant_laws}
-use Rattle.hashlink_map.proofs.PairValues.{value_of}
-use Rattle.hashlink_map.proofs.PutLast.{puts_new}
+use Rattle.hashlink_map.proofs.{EnterAndLend.{but_last, entered_and_lent, returned}, PairValues.value_of}
+use Rattle.hashlink_map.proofs.{PairRows.{Answer, Entered, Vacant, vacant_laws}, PutLast.puts_new}
 use Rattle.hashlink_map.specs.contracts.raw_entry.vacant.RawVacantEntryMut.insert_with_hasher as f
 use Rattle.hashlink_map.proofs.raw_entry.vacant.RawVacantEntryMut.insert_entry_with_hasher.Met as entered
 use Rattle.hashlink_map.proofs.raw_entry.occupied.RawOccupiedEntryMut+K+V+S.pair_of.Met as lent

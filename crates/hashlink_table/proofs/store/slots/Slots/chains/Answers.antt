@@ -1,5 +1,4 @@
-use Rattle.hashlink_table.proofs.Names.{length, ap, arith}
-use Rattle.hashlink_table.proofs.Begins.{begins_tests, flags_long}
+use Rattle.hashlink_table.proofs.{Names.{length, ap, arith}, Begins.{begins_tests, flags_long}}
 use Rattle.hashlink_table.proofs.store.slots.Slots.chains.Goals as goal
 
 pub lanes_with-requires : goal.lanes_with-requires

@@ -1,6 +1,5 @@
 use Rattle.std.proofs.Common.{◌∙◌, ap}
-use Rattle.hashlink_table.proofs.Names.{replicate}
-use Rattle.hashlink_table.proofs.Begins.{flags-bare, flags_long, stored_with}
+use Rattle.hashlink_table.proofs.{Names.replicate, Begins.{flags-bare, flags_long, stored_with}}
 use Rattle.hashlink_table.proofs.Storing.{bare_cells, sizes}
 use Rattle.hashlink_table.proofs.store.slots.Slots.clear.Goals as goal
 

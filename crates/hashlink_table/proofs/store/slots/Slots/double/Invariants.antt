@@ -1,5 +1,4 @@
-use Rattle.hashlink_table.proofs.Names.{cells_in, IsTagged}
-use Rattle.hashlink_table.proofs.Doubling.{IsDoubledTo}
+use Rattle.hashlink_table.proofs.{Names.{cells_in, IsTagged}, Doubling.IsDoubledTo}
 use Rattle.hashlink_table.proofs.store.slots.Slots.double.Given as goal
 
 -- the cells so far are doubled

@@ -1,6 +1,5 @@
 use Rattle.std.proofs.Common.{arith}
-use Rattle.hashlink_table.proofs.Linking.{within_by_kept}
-use Rattle.hashlink_table.proofs.Storing.{node_read, sizes}
+use Rattle.hashlink_table.proofs.{Linking.within_by_kept, Storing.{node_read, sizes}}
 use Rattle.hashlink_table.proofs.store.slots.Slots.look.Goals as goal
 
 pub index-requires : goal.index-requires

@@ -1,6 +1,5 @@
 use Rattle.std.proofs.Common.{arith, refl}
-use Rattle.hashlink_table.proofs.Begins.{flags-kept, stored_with}
-use Rattle.hashlink_table.proofs.Storing.{freed, sizes}
+use Rattle.hashlink_table.proofs.{Begins.{flags-kept, stored_with}, Storing.{freed, sizes}}
 use Rattle.hashlink_table.proofs.store.slots.Slots.set_free.Goals as goal
 
 pub index_mut-requires : goal.index_mut-requires

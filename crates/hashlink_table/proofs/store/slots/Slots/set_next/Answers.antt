@@ -1,7 +1,6 @@
 use mir.Val.{bool_byte}
 use Rattle.hashlink_table.proofs.Names.{◌≡◌, ℕ, Bool, true, false, cond, eqb, not, set, refl, ap, ◌∙◌, arith}
-use Rattle.hashlink_table.proofs.Names.{END}
-use Rattle.hashlink_table.proofs.Begins.{flags-set, flags_long, stored_with}
+use Rattle.hashlink_table.proofs.{Names.END, Begins.{flags-set, flags_long, stored_with}}
 use Rattle.hashlink_table.proofs.Storing.{linked_on, sizes}
 use Rattle.hashlink_table.proofs.store.slots.Slots.set_next.Goals as goal
 

@@ -1,6 +1,5 @@
-use Rattle.hashlink_table.proofs.Names.{length, ap, refl, ◌∙◌, length-replicate}
+use Rattle.hashlink_table.proofs.{Names.{length, ap, refl, ◌∙◌, length-replicate}, Storing.bare_cells}
 use Rattle.hashlink_table.proofs.Begins.{flags-bare, stored_with}
-use Rattle.hashlink_table.proofs.Storing.{bare_cells}
 use Rattle.hashlink_table.proofs.store.slots.Slots.with_cells.Goals as goal
 
 pub invariant_of-result : goal.invariant_of-result

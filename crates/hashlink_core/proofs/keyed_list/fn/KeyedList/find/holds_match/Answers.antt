@@ -1,5 +1,4 @@
-use Rattle.hashlink_core.proofs.Names.{◌≡◌, lookup, same_node}
-use Rattle.hashlink_core.proofs.Finding.{answered-at}
+use Rattle.hashlink_core.proofs.{Names.{◌≡◌, lookup, same_node}, Finding.answered-at}
 use Rattle.hashlink_core.proofs.keyed_list.fn.KeyedList.find.holds_match.Goals as goal
 
 pub returns : goal.returns

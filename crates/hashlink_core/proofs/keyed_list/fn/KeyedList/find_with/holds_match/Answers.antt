@@ -1,5 +1,4 @@
-use Rattle.hashlink_core.proofs.Names.{refl, FnReturnsAt, lookup, same_node}
-use Rattle.hashlink_core.proofs.Finding.{answered-at}
+use Rattle.hashlink_core.proofs.{Names.{refl, FnReturnsAt, lookup, same_node}, Finding.answered-at}
 use Rattle.hashlink_core.proofs.keyed_list.fn.KeyedList.find_with.holds_match.Goals as goal
 
 pub returns : goal.returns
