@@ -1,5 +1,5 @@
--- Finding a key's node by the table. A node is marked by a number that is no short hash. So the table finds
--- it, and it can be distinguished from another node.
+-- Finding nodes by the table: a key's, and one that left the ring. A node with a number that is no short hash,
+-- its mark, can be distinguished from another one.
 use Rattle.hashlink_core.proofs.Names.{◌++◌, ◌≡◌, ℕ, ◌^◌, ◌<◌, ◌≤◌, Bool, true, false, cond, eqb, eqb-true}
 use Rattle.hashlink_core.proofs.Names.{eq-eqb, List, ◌∷◌, Option, None, Some, refl, ap, sym, subst, ◌∙◌}
 use Rattle.hashlink_core.proofs.Names.{arith, ◌⊎◌, inl, inr, length, Bor, IsEquivalence, Shared, FnReturnsAt}
@@ -13,12 +13,11 @@ use Rattle.hashlink_core.proofs.Names.{HoldsMatch, place_number, Tells, IsInStep
 use Rattle.hashlink_core.proofs.Names.{from_part, element-at, at-element, lookup-map_values, node-at}
 use Rattle.hashlink_core.proofs.Mapped.{place_number-mapped}
 use Rattle.hashlink_core.proofs.Stepping.{pair-at, held-at, kept, listed, in-table, number-of, was-kept}
-use Rattle.std.{specs.Option.{is_some, IfSome, IfNone, MatchOption}, proofs.Math.Path.fun_ext}
-use Rattle.std.proofs.lemmas.Map.Steps.{set_value_same}
+use Rattle.std.{specs.Option.{is_some, IfSome, IfNone, MatchOption}, proofs.{Common.not, Math.Path.fun_ext}}
+use Rattle.std.proofs.lemmas.Map.{lookup-remove_entry, Steps.set_value_same}
 use Rattle.hashlink_model.proofs.Splits.{Stands, splits, place_of-none, stands_from_lookup, set_value-here}
-use Rattle.hashlink_model.proofs.Splits.{remove_entry-here}
 
--- an entry with a new value, which is then taken out or gets another value
+-- an entry with a new value, which then gets another value
 module _ {X : Type 0} (test : Node → Bool) (es : List (Node × X)) (x : X) (found : lookup test es ≡ Some x)
     (w : X) where
   s : Stands test es
@@ -26,11 +25,6 @@ module _ {X : Type 0} (test : Node → Bool) (es : List (Node × X)) (x : X) (fo
 
   was-written : set_value test es w ≡ s.0 ++ (s.1.0, w) ∷ s.2
   was-written = ap (λ l. set_value test l w) s.3.is ∙ set_value-here test s.1 s.2 s.3.passes w s.0 s.3.before
-
-  remove_entry-set_value : remove_entry test (set_value test es w) ≡ remove_entry test es
-  remove_entry-set_value = ap (remove_entry test) was-written
-      ∙ remove_entry-here test (s.1.0, w) s.2 s.3.passes s.0 s.3.before
-      ∙ sym (ap (remove_entry test) s.3.is ∙ remove_entry-here test s.1 s.2 s.3.passes s.0 s.3.before)
 
   set_value_twice : (v : X) → set_value test (set_value test es w) v ≡ set_value test es v
   set_value_twice v = ap (λ l. set_value test l v) was-written
@@ -46,6 +40,13 @@ pub record Marked {K V : Type 0} (r : Ring K V) (n : Node) (number : ℕ)
   pub is : option_map (λ h. h.number) (lookup (same_node n) r.entries) ≡ Some number
   pub renumbered : IfSome (lookup (same_node n) r.entries)
       (λ h. fs ≡ set_value (same_node n) r.entries (with_number h mark))
+
+-- the node n, whose entry had this number, was detached, which left the ring s
+pub record Detached {K V : Type 0} (r : Ring K V) (n : Node) (number : ℕ) (s : Ring K V) : Type 0 where
+  pub held : Holds r.entries n
+  pub is : option_map (λ h. h.number) (lookup (same_node n) r.entries) ≡ Some number
+  pub entries : s.entries ≡ remove_entry (same_node n) r.entries
+  pub free : s.free ≡ n ∷ r.free
 
 module _ {K V : Type 0} {eq : K → K → Bool} {hash : K → ℕ} {r : Ring K V} {t : Contents Node}
     (step : IsInStep eq hash r t) where
@@ -89,14 +90,6 @@ module _ {K V : Type 0} {eq : K → K → Bool} {hash : K → ℕ} {r : Ring K V
         ∙ (elim (same_node n m) as (λ b. is_some (cond b (Some (with_number own marked.mark))
         (lookup (same_node m) r.entries)) ≡ true) [ true ↦ refl | false ↦ there ])
 
-    pub left-pair : option_map pair_of (lookup (same_node n) r.entries)
-        ≡ option_map pair_of (lookup (same_node n) fs)
-    left-pair = ap (option_map pair_of) found ∙ sym (ap (option_map pair_of) own-now)
-
-    pub left-removed : remove_entry (same_node n) fs ≡ remove_entry (same_node n) r.entries
-    left-removed = ap (remove_entry (same_node n)) set-at
-        ∙ remove_entry-set_value (same_node n) r.entries own found (with_number own marked.mark)
-
     -- it has its old number again
     restored : (gs : List (Node × Held K V)) → IfSome (lookup (same_node n) fs)
         (λ h. gs ≡ set_value (same_node n) fs (with_number h number)) → gs ≡ r.entries
@@ -115,10 +108,6 @@ module _ {K V : Type 0} {eq : K → K → Bool} {hash : K → ℕ} {r : Ring K V
 
       pub restored-step : IsInStep eq hash s t
       restored-step = subst (λ r. IsInStep eq hash r t) (sym restored-ring) step
-
-    -- ---- the search of the table
-    pub asked-holds : (i : ℕ) (m : Node) → Keeps t i m → Holds fs m
-    asked-holds i m there = marked-holds m (ap is_some (listed step i m there).1)
 
     -- a node of the ring that has the mark is n
     marked-is : (m : Node) → Holds r.entries m → (h : Held K V) → lookup (same_node m) fs ≡ Some h
@@ -141,23 +130,6 @@ module _ {K V : Type 0} {eq : K → K → Bool} {hash : K → ℕ} {r : Ring K V
               ))
         ]) refl
 
-    -- whether a node has the mark
-    abbrev IsMarked : Node → Bool → Type 0
-    IsMarked m b = option_map (λ h. eqb h.number marked.mark) (lookup (same_node m) fs) ≡ Some b
-
-    only : (i : ℕ) (m : Node) → Keeps t i m → IsMarked m true → n ≡ m
-    only i m there answer =
-        let h = from_part (λ h. eqb h.number marked.mark) (lookup (same_node m) fs) true answer in
-        sym (marked-is m (ap is_some (listed step i m there).1) h.0 h.1 (eqb-true _ _ h.2))
-
-    -- a node that has the mark is n, which the table has under its old number
-    pub asked-told : (i : ℕ) (m : Node) → Keeps t i m → IsMarked m true → i ≡ number
-    asked-told i m there answer =
-        let old = listed step i m there in
-        let at = ap (λ k. lookup (same_node k) r.entries) (sym (only i m there answer)) ∙ found in
-        let same : old.0 ≡ own = cc (sym old.1 ∙ at) in
-        sym old.2 ∙ ap (λ (h : Held K V). h.number) same ∙ own-number
-
     -- a node has the mark exactly if it is n
     pub marked-same : (m : Node) → Holds r.entries m → (i : ℕ)
         → option_map (λ h. h.number) (lookup (same_node m) fs) ≡ Some i
@@ -172,16 +144,60 @@ module _ {K V : Type 0} {eq : K → K → Bool} {hash : K → ℕ} {r : Ring K V
               eq-eqb i marked.mark is,
         )
 
+  -- ---- n left the ring, in which its entry had this number, and is free
+  module _ {n : Node} {number : ℕ} {s : Ring K V} (d : Detached r n number s) where
+    -- whether a node has no entry
+    abbrev IsFree : Node → Bool → Type 0
+    IsFree m b = not (is_some (lookup (same_node m) s.entries)) ≡ b
+
+    found-left : (m : Node)
+        → lookup (same_node m) s.entries ≡ cond (same_node n m) None (lookup (same_node m) r.entries)
+    found-left m = ap (lookup (same_node m)) d.entries
+        ∙ lookup-remove_entry same_node_equiv (same_node n) (λ x y e. same_node_equiv.congr n x y e) m r.entries
+        step.apart
+
+    -- a node of the table is n, or has the entry that it had
+    left-or : (i : ℕ) (m : Node) (there : Keeps t i m)
+        → (n ≡ m) ⊎ (lookup (same_node m) s.entries ≡ Some (listed step i m there).0)
+    left-or i m there =
+        (elim (same_node n m) as (λ b. same_node n m ≡ b
+        → (n ≡ m) ⊎ (lookup (same_node m) s.entries ≡ Some (listed step i m there).0)) [
+          | true ↦ λ e. inl (eq-same_node n m e)
+          | false ↦ λ e. inr (found-left m ∙ ap (λ b. cond b None (lookup (same_node m) r.entries)) e
+              ∙ (listed step i m there).1)
+        ]) refl
+
+    pub left-known : (i : ℕ) (m : Node) → Keeps t i m → Holds s.entries m ⊎ Contains s.free m
+    left-known i m kept = (elim (left-or i m kept) as (λ _. Holds s.entries m ⊎ Contains s.free m) [
+      | inl same ↦ inr (rw d.free (0, omega arith, same))
+      | inr there ↦ inl (ap is_some there)
+    ])
+
+    only : (i : ℕ) (m : Node) → Keeps t i m → IsFree m true → n ≡ m
+    only i m kept answer = (elim (left-or i m kept) as (λ _. n ≡ m) [
+      | inl same ↦ same
+      | inr there ↦ absurd (cc (sym answer ∙ ap (λ o. not (is_some o)) there))
+    ])
+
+    pub left-told : (i : ℕ) (m : Node) → Keeps t i m → IsFree m true → i ≡ number
+    left-told i m there answer =
+        let old = listed step i m there in
+        let at = ap (λ k. lookup (same_node k) r.entries) (only i m there answer) ∙ old.1 in
+        let own : old.0.number ≡ number = cc (sym (ap (option_map (λ h. h.number)) at) ∙ d.is) in
+        sym old.2 ∙ own
+
     -- the node that the table took out is n
     pub taken-out : (u : Contents Node) (o : Option Node)
-        → IfSome o (λ m. IsPermutation t.nodes (kept number m ∷ u.nodes) × IsMarked m true)
-        → IfNone o ((m : Node) → Keeps t number m → IsMarked m false)
+        → IfSome o (λ m. IsPermutation t.nodes (kept number m ∷ u.nodes) × IsFree m true)
+        → IfNone o ((m : Node) → Keeps t number m → IsFree m false)
         → IsPermutation t.nodes (kept number n ∷ u.nodes)
     taken-out u None some none =
-        let there : Keeps t number n = subst (λ i. Keeps t i n) own-number (in-table step n own found) in
-        let not : eqb marked.mark marked.mark ≡ false
-        = cc (sym (ap (option_map (λ h. eqb h.number marked.mark)) own-now) ∙ none n there) in
-        absurd (cc (sym (eq-eqb marked.mark marked.mark refl) ∙ not))
+        let x = node-at r.entries n d.held in
+        let own : x.0.number ≡ number = cc (sym (ap (option_map (λ h. h.number)) x.1.found) ∙ d.is) in
+        let there = subst (λ i. Keeps t i n) own (in-table step n x.0 x.1.found) in
+        let gone = found-left n
+        ∙ ap (λ b. cond b None (lookup (same_node n) r.entries)) (same_node_equiv.refl n) in
+        absurd (cc (sym (ap (λ o. not (is_some o)) gone) ∙ none n there))
     taken-out u (Some m) some none =
         subst (λ m. IsPermutation t.nodes (kept number m ∷ u.nodes))
         (sym (only number m (was-kept t u number m some.0) some.1)) some.0

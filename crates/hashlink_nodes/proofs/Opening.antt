@@ -5,8 +5,10 @@ use Names.{arith, true, is_some, IfSome, AllByRecursion, IsDistinct, keys_of, lo
 use Names.{length-append, length-keys_of, IsDistinct-tail, Node, Inside, same_node, state_of, Ring, ring}
 use Names.{Holds, IsRing, IsSound, SoundAt, ring_at, ring_of, walk, entry_of, entries_of, State, IsSome, Held}
 use Names.{AreThere, nil_from_length}
-use Rattle.hashlink_nodes.proofs.{Paths.length-walk, Paths.walk-linked, Paths.walk-chain, Cuts.Cut, Cuts.Gap}
-use Rattle.hashlink_nodes.proofs.{Cuts.cut, Rings.InRing, Rings.in_ring}
+use Rattle.std.proofs.{Common.{false, ◌⊎◌, inl, inr}, lemmas.List.Elements.{All-contains, All-from_recursion}}
+use Rattle.std.specs.List.{Contains}
+use Rattle.hashlink_nodes.proofs.{Paths.{all_right, length-walk, walk-linked, walk-chain}, Cuts.{Cut, Gap, cut}}
+use Rattle.hashlink_nodes.proofs.Rings.{InRing, in_ring}
 
 pub if_some : {X : Type 0} {o : Option X} {x : X} (P : X → Type 0) → o ≡ Some x → P x → IfSome o P
 if_some P e p = subst (λ o. IfSome o P) (sym e) p
@@ -191,6 +193,31 @@ module _ {K V : Type 0} where
     pub shows : (m : Node) → Holds v.entries m → lookup (same_node m) v.entries ≡ s.held m
     shows m there = (node_in m there).shows
 
+    -- a free node has a block, which holds nothing
+    at_free : (m : Node) → Contains v.free m → (s.has m ≡ true) × (s.held m ≡ None)
+    at_free m c =
+        let o = opened (spare_guard (omega (arith, c.1))).1 in
+        let has : Node → Type 0 = λ x. s.has x ≡ true in let bare : Node → Type 0 = λ x. s.held x ≡ None in
+        let there = all_right has (keys_of v.entries) v.free o.there.1 in (
+          All-contains has v.free m (All-from_recursion has v.free there) c,
+          All-contains bare v.free m (All-from_recursion bare v.free o.bare.1) c,
+        )
+
+    -- a node in use or free has a block, which holds its entry if there is one
+    pub has_node : (m : Node) → Holds v.entries m ⊎ Contains v.free m → s.has m ≡ true
+    has_node m (inl there) = has_block m there
+    has_node m (inr c) = (at_free m c).0
+
+    pub shows_entry : (m : Node) → Holds v.entries m ⊎ Contains v.free m
+        → is_some (lookup (same_node m) v.entries) ≡ is_some (s.held m)
+    shows_entry m (inl there) = ap is_some (shows m there)
+    shows_entry m (inr c) =
+        (elim (is_some (lookup (same_node m) v.entries)) as (λ b. is_some (lookup (same_node m) v.entries) ≡ b
+        → is_some (lookup (same_node m) v.entries) ≡ is_some (s.held m)) [
+          | true ↦ λ there. ap is_some (shows m there)
+          | false ↦ λ none. none ∙ sym (ap is_some (at_free m c).1)
+        ]) refl
+
     -- no node comes twice
     pub differ : IsDistinct same_node (keys_of v.entries ++ v.free)
     differ = known.differ
@@ -202,5 +229,7 @@ module _ {K V : Type 0} where
     pub none_free : n.spare ≡ 0 → v.free ≡ []
     none_free none = nil_from_length v.free (known.is_spare ∙ none)
 
-pub ruleset ring_facts =
-    (known, has_block, counted, guard_there, entry_guard, holds, shows, differ, counts_free, none_free)
+-- what each node has
+pub ruleset nodes_have = (has_block, has_node, holds, shows, shows_entry)
+
+pub ruleset ring_facts = (known, nodes_have, counted, guard_there, entry_guard, differ, counts_free, none_free)

@@ -1,12 +1,12 @@
 //! Inserts, moves and removals of entries by their nodes.
-ghost use Rattle.std.specs.Prelude.{◌≡◌, [], length, slice_get, eqb, None, Some, IfOk, IfErr, OnErr};
-ghost use Rattle.std.specs.{Option.option_map, Map.{lookup, remove_entry}};
+ghost use Rattle.std.specs.Prelude.{◌≡◌, ◌⊎◌, [], length, not, slice_get, is_some, None, Some, IfOk, IfErr};
+ghost use Rattle.std.specs.{Prelude.OnErr, List.Contains, Map.{lookup, remove_entry}};
 ghost use Rattle.hashlink_model.specs.{Cursor.following_place, Entries.place_of, Steps.Clears};
 ghost use Rattle.hashlink_nodes.specs.{Node.same_node, Ring.{Holds, IsPlace}};
 ghost use Rattle.hashlink_core.specs.{Keyed.{entries_of, state_of, IsKeyed}, Places.place_number};
 ghost use Rattle.hashlink_core.specs.{Steps.{AddsNode, RemovesNode, MovesNode, GrowsRoom}, Tied.hash_with};
 
-use super::{KeyedList, MARKED, short_hash};
+use super::{KeyedList, short_hash};
 use hashlink_nodes::Node;
 use std::hash::{BuildHasher, Hash};
 
@@ -82,17 +82,16 @@ impl<K: Eq + Hash, V, S: BuildHasher> KeyedList<K, V, S> {
         ensures was_sound { IsKeyed K.eq self.old }
         ensures sound { IsKeyed K.eq self.new }
     {
-        // The table finds the node by its mark, so no key is hashed or compared.
+        // The table finds the node that has no entry any more, so no key is hashed or compared.
         let number = self.nodes.number(node);
-        self.nodes.set_number(node, MARKED);
+        let pair = self.nodes.detach_into_free(node);
         let nodes = &self.nodes;
-        let is_marked = |other: Node| -> bool
-            requires { Holds nodes.now.entries other }
-            ensures { option_map (λ held. eqb held.number MARKED)
-                (lookup (same_node other) nodes.entry.now.entries) ≡ Some result }
-        { nodes.number(other) == MARKED };
-        self.table.remove(number as u32, is_marked);
-        self.nodes.detach_into_free(node)
+        let is_free = |other: Node| -> bool
+            requires { Holds nodes.now.entries other ⊎ Contains nodes.now.free other }
+            ensures { not (is_some (lookup (same_node other) nodes.entry.now.entries)) ≡ result }
+        { !nodes.has_entry(other) };
+        self.table.remove(number as u32, is_free);
+        pair
     }
 
     /// Drops every entry and releases its node. The nodes that were free before and the room stay.

@@ -1,6 +1,6 @@
 //! Reads of a ring.
-ghost use Rattle.std.specs.Prelude.{◌≡◌, ◌+◌, ◌++◌, ◌^◌, ◌<◌, length, None, Some, IfNone, IfSome};
-ghost use Rattle.std.specs.{Option.option_map, List.IsDistinct, Map.{keys_of, lookup}};
+ghost use Rattle.std.specs.Prelude.{◌≡◌, ◌⊎◌, ◌+◌, ◌++◌, ◌^◌, ◌<◌, length, None, Some, IfNone, IfSome, is_some};
+ghost use Rattle.std.specs.{Option.option_map, List.{Contains, IsDistinct}, Map.{keys_of, lookup}};
 ghost use Rattle.hashlink_nodes.specs.Node.{same_node};
 ghost use Rattle.hashlink_nodes.specs.Ring.{pair_of, next_place, prev_place, Holds, IsPlace};
 
@@ -73,6 +73,15 @@ impl<K, V> Nodes<K, V> {
         ensures apart { IsDistinct same_node (keys_of self.now.entries ++ self.now.free) }
     {
         self.pool.prev(node)
+    }
+
+    /// Returns whether the node, in use or free, has an entry.
+    #[inline]
+    pub fn has_entry(&self, node: Node) -> bool
+        requires { Holds self.now.entries node ⊎ Contains self.now.free node }
+        ensures { is_some (lookup (same_node node) self.now.entries) ≡ result }
+    {
+        self.pool.is_full(node)
     }
 
     /// Returns the node's key and value.

@@ -1,5 +1,5 @@
 -- `links` lends the links of one block.
-use Rattle.hashlink_nodes.proofs.Names.{[], ◌∷◌, refl, ap, IsSome, lookup, a_type, emp, id⊢, ‵, ◌$◌, ◌∵◌, !}
+use Rattle.hashlink_nodes.proofs.Names.{[], ◌∷◌, refl, ap, IsSome, lookup, a_type, emp, id⊢, ‵, ◌$◌, ◌∵◌, ! }
 use Rattle.hashlink_nodes.proofs.Names.{qed, move, keep, join, fsplit3, use1, done, fact_i, RattleType, param}
 use Rattle.hashlink_nodes.proofs.Names.{layouts, option_map, Kept, Links, block_lent, blocks_lent}
 use Rattle.hashlink_nodes.proofs.{Names.{links_offset, same_node, imm}, ArenaBlocks.{found, block_seen}}
