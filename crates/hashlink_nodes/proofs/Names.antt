@@ -43,7 +43,7 @@ unfoldable pub use specs.State.{attached, detached, hold, store_next, store_prev
 pub use specs.{contracts.arena.Arena.{the_row as arena_row}, declared.link_writes.LinkWrites.LinkWrites}
 pub use specs.{ArenaLends.altered, Pool.state_of, PoolLends.pool_with, declared.arena.Arena.Arena}
 pub use specs.declared.{node.Node.Node, nodes.Nodes.TheInside.Inside, pool.link.Link.Link}
-pub use types.Kit.{ !, Goal, Item, Seq, Step, assume, at_ret, await, by, done, drop, feq_i, feq_l, fjoin}
+pub use types.Kit.{Goal, !, Item, Seq, Step, assume, at_ret, await, by, done, drop, feq_i, feq_l, fjoin}
 pub use types.Kit.{fjoin3, flt_i, flt_l, fpack, fpick, fsplit, fsplit3, group, join, keep, later, mean, move}
 pub use types.Kit.{now, pick, prop, qed, raw, rewrite, some, split, split3, step, suffices, upd, use0, use1}
 pub use types.Run.{Opd, addr, and_then, assigns, assigns_last, blocks, enter, exec, first, fld, init, load}

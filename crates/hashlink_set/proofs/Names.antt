@@ -30,5 +30,5 @@ pub use Rattle.std.specs.{Iterator.{EndsFrom, UpTo, at_most, items_left}, List.{
 pub use Rattle.std.specs.{Map.Iter.{TakesFirst, deref}, Set.{is_member, remove_key}}
 pub use Rattle.std.specs.Prelude.{IfErr, IfOk, IfSome, IsSome, OnOk, eqb, option_copied}
 pub use denote.Struct.Field.{shr_ref_field}
-pub use types.Kit.{!, await, by, drop, feq_l, fjoin, fpick, fsplit, join, keep, later, move, pick, qed, raw}
+pub use types.Kit.{await, !, by, drop, feq_l, fjoin, fpick, fsplit, join, keep, later, move, pick, qed, raw}
 pub use types.Kit.{rewrite, some, split, use0, use1, ‵, ◌$◌, ◌∵◌, ◌⊛◌}

@@ -1,6 +1,6 @@
 -- `pair` lends the pair of one block.
 use Rattle.hashlink_nodes.proofs.Names.{rewrite, [], ◌∷◌, refl, IsSome, lookup, a_type, emp, id⊢, ‵, ◌$◌, ◌∵◌}
-use Rattle.hashlink_nodes.proofs.Names.{ !, qed, move, keep, join, fsplit, use1, done, fact_i, RattleType}
+use Rattle.hashlink_nodes.proofs.Names.{qed, !, move, keep, join, fsplit, use1, done, fact_i, RattleType}
 use Rattle.hashlink_nodes.proofs.Names.{param, layouts, entry_in, block_lent, blocks_lent, pair_lent}
 use Rattle.hashlink_nodes.proofs.{Names.{pair_offset, same_node, imm}, ArenaBlocks.{found_entry, block_seen}}
 use Rattle.hashlink_nodes.proofs.{ArenaSteps.states, ArenaLends.shared, arena.Arena.pair.Statement.statement}
