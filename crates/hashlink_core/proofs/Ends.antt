@@ -11,48 +11,55 @@ same : (n : Node) → same_node n n ≡ true
 same n = same_node_equiv.refl n
 
 module _ {X : Type 0} where
-  -- ---- the entry of the first node
+  -- ---- the entry of the first node, and what is left without it
   pub record First (n : Node) (es : List (Node × X)) : Type 0 where
     pub value : X
     pub rest : List (Node × X)
     pub is : es ≡ (n, value) ∷ rest
-
-  pub first_entry : (es : List (Node × X)) (n : Node) → IfSome (next_place (keys_of es) None) (λ m. n ≡ m)
-      → 0 < length es → First n es
-  first_entry [] n h some = absurd (omega (arith, some))
-  first_entry (e ∷ es) n h some =
-      record { value = e.1; rest = es; is = ap (λ m. (m, e.1) ∷ es) (sym h) }
+    pub looked : lookup (same_node n) es ≡ Some value
+    pub removed : remove_entry (same_node n) es ≡ rest
+    pub ends : (next last : Node) → IfSome (next_place (keys_of es) (Some n)) (λ m. next ≡ m)
+        → IfSome (prev_place (keys_of es) None) (λ m. last ≡ m) → HasEnds rest next last
 
   later : (n : Node) (P : Node → Type 0) (es : List (Node × X)) → IfSome (last_node (Some n) (keys_of es)) P
       → IfSome (last_node None (keys_of es)) P
   later n P [] l = tt
   later n P (e ∷ es) l = l
 
-  module _ (n : Node) (h : X) (rest : List (Node × X)) where
-    pub found_first : lookup (same_node n) ((n, h) ∷ rest) ≡ Some h
-    found_first = rw (same n) refl
-
-    pub without_first : remove_entry (same_node n) ((n, h) ∷ rest) ≡ rest
-    without_first = rw (same n) refl
-
-    pub ends_without_first : (next last : Node)
-        → IfSome (next_place (keys_of ((n, h) ∷ rest)) (Some n)) (λ m. next ≡ m)
-        → IfSome (prev_place (keys_of ((n, h) ∷ rest)) None) (λ m. last ≡ m) → HasEnds rest next last
-    ends_without_first next last on back = record {
+  pub first_entry : (es : List (Node × X)) (n : Node) → IfSome (next_place (keys_of es) None) (λ m. n ≡ m)
+      → 0 < length es → First n es
+  first_entry [] n h some = absurd (omega (arith, some))
+  first_entry (e ∷ es) n h some = subst (λ m. First n ((m, e.1) ∷ es)) h (record {
+    value = e.1;
+    rest = es;
+    is = refl;
+    looked = rw (same n) refl;
+    removed = rw (same n) refl;
+    ends = λ next last on back. record {
       first_is = subst
-          (λ b. IfSome (cond b (slice_get (keys_of rest) 0) (node_after n (keys_of rest))) (λ m. next ≡ m))
+          (λ b. IfSome (cond b (slice_get (keys_of es) 0) (node_after n (keys_of es))) (λ m. next ≡ m))
           (same n) on;
-      last_is = later n (λ m. last ≡ m) rest back;
-    }
+      last_is = later n (λ m. last ≡ m) es back;
+    };
+  })
 
-  -- ---- the entry of the last node
+  -- ---- the entry of the last node, and what is left without it
+  record Ended (n : Node) (es : List (Node × X)) : Type 0 where
+    before : List (Node × X)
+    value : X
+    is : es ≡ before ++ (n, value) ∷ []
+
   pub record Last (n : Node) (es : List (Node × X)) : Type 0 where
     pub before : List (Node × X)
     pub value : X
     pub is : es ≡ before ++ (n, value) ∷ []
+    pub looked : lookup (same_node n) es ≡ Some value
+    pub removed : remove_entry (same_node n) es ≡ before
+    pub ends : (first prev : Node) → IfSome (next_place (keys_of es) None) (λ m. first ≡ m)
+        → IfSome (prev_place (keys_of es) (Some n)) (λ m. prev ≡ m) → HasEnds before first prev
 
   last_from : (o : Option Node) (es : List (Node × X)) (n : Node)
-      → IfSome (last_node o (keys_of es)) (λ m. n ≡ m) → 0 < length es → Last n es
+      → IfSome (last_node o (keys_of es)) (λ m. n ≡ m) → 0 < length es → Ended n es
   last_from o [] n h some = absurd (omega (arith, some))
   last_from o (e ∷ []) n h some =
       record { before = []; value = e.1; is = ap (λ m. (m, e.1) ∷ []) (sym h) }
@@ -61,10 +68,6 @@ module _ {X : Type 0} where
     value = l.value;
     is = ap (λ xs. e ∷ xs) l.is;
   }
-
-  pub last_entry : (es : List (Node × X)) (n : Node) → IfSome (prev_place (keys_of es) None) (λ m. n ≡ m)
-      → 0 < length es → Last n es
-  last_entry es n h some = last_from None es n h some
 
   module _ (n : Node) (h : X) where
     found_after : (es : List (Node × X)) → NonePasses (same_node n) es
@@ -82,22 +85,23 @@ module _ {X : Type 0} where
     earlier P [] l = tt
     earlier P (e ∷ es) l = l
 
-    module _ (before : List (Node × X)) (d : IsEntries same_node (before ++ (n, h) ∷ [])) where
-      off_before : NonePasses (same_node n) before
-      off_before = each-left _ before [] (none_others same_node same_node_equiv before (n, h) [] d)
+    all_before : (before : List (Node × X)) → IsEntries same_node (before ++ (n, h) ∷ [])
+        → Last n (before ++ (n, h) ∷ [])
+    all_before before d =
+        let off = each-left _ before [] (none_others same_node same_node_equiv before (n, h) [] d) in record {
+          before = before;
+          value = h;
+          is = refl;
+          looked = found_after before off;
+          removed = remove_entry-here (same_node n) (n, h) [] (same n) before off ∙ append-nil before;
+          ends = λ first prev on back. record {
+            first_is = earlier (λ m. first ≡ m) before on;
+            last_is = subst (λ o. IfSome o (λ m. prev ≡ m)) (before_it None before off) back;
+          };
+        }
 
-      pub found_last : lookup (same_node n) (before ++ (n, h) ∷ []) ≡ Some h
-      found_last = found_after before off_before
-
-      pub without_last : remove_entry (same_node n) (before ++ (n, h) ∷ []) ≡ before
-      without_last =
-          remove_entry-here (same_node n) (n, h) [] (same n) before off_before ∙ append-nil before
-
-      pub ends_without_last : (first prev : Node)
-          → IfSome (next_place (keys_of (before ++ (n, h) ∷ [])) None) (λ m. first ≡ m)
-          → IfSome (prev_place (keys_of (before ++ (n, h) ∷ [])) (Some n)) (λ m. prev ≡ m)
-          → HasEnds before first prev
-      ends_without_last first prev on back = record {
-        first_is = earlier (λ m. first ≡ m) before on;
-        last_is = subst (λ o. IfSome o (λ m. prev ≡ m)) (before_it None before off_before) back;
-      }
+  pub last_entry : (es : List (Node × X)) (n : Node) → IsEntries same_node es
+      → IfSome (prev_place (keys_of es) None) (λ m. n ≡ m) → 0 < length es → Last n es
+  last_entry es n d h some =
+      let l = last_from None es n h some in
+      subst (Last n) (sym l.is) (all_before n l.value l.before (subst (IsEntries same_node) l.is d))
