@@ -47,23 +47,6 @@ module _ {It Raw : Type 0} (nexts : It → Option Raw → It → Type 0) where
       stopped_at_last r taken back read =
           on_err r _ (read.0, read.1, read.2, read.3, read.4, (taken, back, read.5))
 
-  -- what was made from the items up to `None`, by its result
-  pub made_by_answer : {Given S M E : Type 0} (becomes : Given → It → Type 0) (H : S → Type 0)
-      (P : List Raw → S → M → Type 0) (given : Given) (r : Result M E)
-      → IfOk r (λ m. (s : S) × H s × ReadsAll becomes nexts given (λ raw. P raw s m))
-      → IfOk r (λ m. (it : It) × (raw : List Raw) × becomes given it × DrainsIf nexts ⊤ it raw
-      × ((s : S) × H s × P raw s m))
-  made_by_answer becomes H P given (Ok m) made =
-      let read = made.2 in
-      let none = read.4 in (
-        read.0,
-        read.1,
-        read.3,
-        (none.0, none.1, λ _. (read.2, none.2)),
-        (made.0, made.1, read.5),
-      )
-  made_by_answer becomes H P given (Err e) made = tt
-
   -- for the items themselves
   pub cuts_item : CutsLast (λ raw. raw)
   cuts_item s t [] [] item e y = let long = ap length e in absurd (omega arith)

@@ -1,9 +1,9 @@
 -- At which buckets chains begin, from the bytes that are stored to what contracts see.
-use Rattle.hashlink_table.proofs.Names.{◌≡◌, ◌≢◌, ℕ, zero, suc, ◌+◌, ◌*◌, ◌<◌, inl, inr, Bool, true, false}
-use Rattle.hashlink_table.proofs.Names.{cond, ◌++◌, eqb, not, List, [], ◌∷◌, length, map, get_or, set}
-use Rattle.hashlink_table.proofs.Names.{replicate, refl, sym, ap, ◌∙◌, arith, chunk, cases_eq, eq-eqb, ne_eqb}
+use Rattle.hashlink_table.proofs.Names.{◌≡◌, ℕ, zero, suc, ◌+◌, ◌*◌, ◌<◌, Bool, true, false}
+use Rattle.hashlink_table.proofs.Names.{cond, ◌++◌, eqb, List, [], ◌∷◌, length, map, get_or, set}
+use Rattle.hashlink_table.proofs.Names.{replicate, refl, sym, ap, ◌∙◌, arith, chunk}
 use Rattle.hashlink_table.proofs.Names.{get_or-map, length-map, map-append, map-set, set-get_or, mask_l, Cell}
-use Rattle.hashlink_table.proofs.Names.{END, Rest, next_at, bare_cell, cells_in, AreSlots, begins, flag_of}
+use Rattle.hashlink_table.proofs.Names.{Rest, bare_cell, cells_in, AreSlots, begins, flag_of}
 use Rattle.hashlink_table.proofs.{Names.{doubled, low_half, high_half}, Storing.{AreCells, map-chunk}}
 use Rattle.std.proofs.lemmas.List.{replicate-append-replicate}
 
@@ -49,18 +49,6 @@ module _ {N : Type 0} {ts : List ℕ} {ns : List N} {rs : List Rest} {fs : List 
   -- the byte of a bucket tells whether a chain begins there
   pub flag_at : (i : ℕ) → i < length v → get_or fs i 0 ≡ flag_of (get_or v i bare_cell)
   flag_at i low = ap (λ ys. get_or ys i 0) flags ∙ get_or-map flag_of v i bare_cell 0 low
-
-  pub some_begins : (i : ℕ) → i < length v → (f : ℕ) → f ≡ get_or fs i 0 → (f ≡ 0 → ⊥) → next_at v i ≢ END
-  some_begins i low f is some e =
-      some (is ∙ flag_at i low ∙ ap (λ b. cond (not b) 1 0) (eq-eqb (next_at v i) END e))
-
-  pub none_begins : (i : ℕ) → i < length v → (f : ℕ) → f ≡ get_or fs i 0 → f ≡ 0 → next_at v i ≡ END
-  none_begins i low f is none = elim (cases_eq (next_at v i) END) as (λ _. next_at v i ≡ END) [
-    | inl e ↦ e
-    | inr ne ↦
-        let one = ap (λ b. cond {A = ℕ} (not b) 1 0) (ne_eqb (next_at v i) END ne) in
-        absurd (omega (arith, none, is, flag_at i low, one))
-  ]
 
   -- the mask of the sixteen bytes from `base` on
   pub begins_tests : (base bits : ℕ) (bytes : List ℕ) → bits ≡ mask_l (map (λ f. eqb f 1) (chunk base 16 bytes))
