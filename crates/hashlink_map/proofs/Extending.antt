@@ -1,7 +1,7 @@
 -- Std's `extend` and `from_iter`, from what the calls state about their items.
 use Rattle.hashlink_map.proofs.Names.{◌≡◌, ℕ, List, [], ◌∷◌, ◌++◌, map, length, get_or, Option, refl, ap, ap₂}
-use Rattle.hashlink_map.proofs.Names.{sym, subst, arith, true≢false, Yields, Drains, DrainsIf, IsErr, IfOk}
-use Rattle.hashlink_map.proofs.Names.{OnErr, MatchResult, ⊤, AcceptsAll, StopsAt, StopsAtLast, MapState}
+use Rattle.hashlink_map.proofs.Names.{sym, subst, arith, true≢false, Yields, Drains, IsErr}
+use Rattle.hashlink_map.proofs.Names.{OnErr, MatchResult, AcceptsAll, StopsAt, StopsAtLast, MapState}
 use Rattle.hashlink_map.proofs.Names.{Grows, TakesItems, ReadsAll, ReadsSome, on_err}
 use Rattle.std.proofs.Common.{drop, Result, Ok, Err}
 
