@@ -5,8 +5,7 @@ ghost use Rattle.hashlink_model.specs.Entries.{IsEntries};
 ghost use Rattle.hashlink_run.specs.CacheRun.{LawfulCacheRun, ShownByCache, StaysBounded};
 ghost use Rattle.hashlink_run.specs.Reads.{CallableOn, ClosureSays};
 
-use crate::cache_steps::reply_to_command;
-use crate::{CacheCommand, Reply};
+use crate::{CacheCommand, Reply, answer_cache};
 use hashlink_lru::LruCache;
 use std::alloc::AllocError;
 use std::hash::{BuildHasher, Hash};
@@ -47,7 +46,7 @@ where
 {
     let mut replies = Vec::with_capacity(cache.allocator(), commands.len())?;
     for command in commands {
-        replies.push_reserved(reply_to_command(cache, command, keep));
+        replies.push_reserved(answer_cache(cache, command, keep));
     }
 
     // The clauses of `len` state that no two keys are equal, here for this cache.

@@ -21,25 +21,6 @@ where
     V: Drop,
     S: BuildHasher,
     F: Fn(&K, &V) -> B,
-    requires { CallableOn F.Fn says.now (ReadFromCache K.eq (state_of cache.old) command) }
-    ensures { CacheStep K.eq (ClosureSays F.Fn says.now) (state_of cache.old) command (result ∷ [])
-        (state_of cache.new) }
-{
-    reply_to_command(cache, command, says)
-}
-
-// Does what `answer_cache` does. Its condition has a name, so it is a record, which is cheap to compare if
-// the closure is known.
-pub(crate) fn reply_to_command<K, V, S, B, F>(
-    cache: &mut LruCache<K, V, S>,
-    command: CacheCommand<K, V>,
-    says: &F,
-) -> Reply<K, V, B>
-where
-    K: Eq + Hash + Drop,
-    V: Drop,
-    S: BuildHasher,
-    F: Fn(&K, &V) -> B,
     requires says { CallableOn F.Fn says.now (ReadFromCache K.eq (state_of cache.old) command) }
     ensures { CacheStep K.eq (ClosureSays F.Fn says.now) (state_of cache.old) command (result ∷ [])
         (state_of cache.new) }

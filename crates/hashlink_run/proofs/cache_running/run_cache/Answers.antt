@@ -18,16 +18,16 @@ loop-command-preserved g c =
     let left = c.in-Some.ensures.steps.0 in (
       rw c.push_reserved.ensures.items
           (HasAnswered-more (CacheStep g.K.PartialEq.eq (ClosureSays g.F.Fn c.args.keep.now)) _ _ _ _
-          (rw left at so_far.0) c.reply_to_command.ensures),
+          (rw left at so_far.0) c.answer_cache.ensures),
       omega (arith, so_far.1, ap length left, c.push_reserved.ensures.len, c.push_reserved.ensures.capacity),
       λ pair shown. (rw left at so_far.2) pair
           (record {
-            comes = inr (record { replies = _; state = _ }, c.reply_to_command.ensures, shown.comes);
+            comes = inr (record { replies = _; state = _ }, c.answer_cache.ensures, shown.comes);
           }),
     )
 
-pub reply_to_command-requires : goal.reply_to_command-requires
-reply_to_command-requires g c = record {
+pub answer_cache-requires : goal.answer_cache-requires
+answer_cache-requires g c = record {
   says = λ pair read.
       (rw c.in-Some.ensures.steps.0 at c.loop-command.invariant.2) pair (record { comes = inl read });
 }

@@ -2,7 +2,7 @@ use Rattle.hashlink_run.proofs.Names.{◌≡◌, Bool, ap, refl, subst, sym, ◌
 use Rattle.hashlink_run.proofs.{Names.{CacheCommand, CacheState}, Moved.by_key}
 use Rattle.hashlink_run.specs.CacheStep.{CommandReads, ReadFromCache}
 use Rattle.hashlink_lru.specs.Cached.{state_of}
-use Rattle.hashlink_run.proofs.cache_steps.reply_to_command.Goals as goal
+use Rattle.hashlink_run.proofs.cache_steps.answer_cache.Goals as goal
 
 -- the pair that an arm's command reads is the pair that the given command reads
 reads_of : {K V S : Type 0} (eq : K → K → Bool) (old : CacheState K V S) (pair : K × V)
