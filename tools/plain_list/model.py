@@ -17,6 +17,10 @@ WALK_LINES = (
     "2 iter_mut PAIR_STEP*",
 )
 READ_LINES = ("get KEY", "contains_key KEY", "len", "is_empty", "back")
+#: calls of a map and of a set without a key
+POP_LINES = ("3 pop_front", "3 pop_back")
+SIZE_LINES = ("room SIZE", "capacity SIZE", "under SIZE")
+ROOM_LINES = ("3 reserve SIZE", "3 try_reserve SIZE", "5 shrink", "4 clone")
 
 
 class Model(Entries, Cursors):
@@ -28,7 +32,7 @@ class Model(Entries, Cursors):
     LINES = {
         "read": (
             *(*READ_LINES, "front", "get_key_value KEY", "index KEY", "2 raw_read WAY KEY"),
-            *("room SIZE", "capacity SIZE", "under SIZE"),
+            *SIZE_LINES,
         ),
         "put": (
             *("6 insert KEY VALUE", "3 insert_front KEY VALUE", "3 replace KEY VALUE"),
@@ -36,7 +40,7 @@ class Model(Entries, Cursors):
             *("each RANGE insert_front n VALUE", "each RANGE entry n or_insert VALUE"),
         ),
         "take": (
-            *("4 remove KEY", "4 remove_entry KEY", "3 pop_front", "3 pop_back", "each RANGE remove n"),
+            *("4 remove KEY", "4 remove_entry KEY", *POP_LINES, "each RANGE remove n"),
             *("each RANGE raw WAY n remove_entry", "cursor END MOVE* take_entry"),
         ),
         "lend": (
@@ -49,7 +53,7 @@ class Model(Entries, Cursors):
         "walk": (*WALK_LINES, "values_mut VALUE_STEP*", "iter_from KEY"),
         "drain": ("2 drain STEP*", "3 forgotten_drain STEP*", "into_iter STEP*"),
         "retain": ("retain KEEP", "retain_with_order KEEP", "retain_from KEEP"),
-        "room": ("3 reserve SIZE", "3 try_reserve SIZE", "5 shrink", "4 clone", "collect"),
+        "room": (*ROOM_LINES, "collect"),
         "many": MANY_LINES,
         "make": ("2 from_iter PAIR*", "from_iter_kept PAIR*", "2 clear", "with_capacity SIZE"),
         "both": ("eq", "less", "cmp", "hash"),

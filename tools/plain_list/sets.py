@@ -1,6 +1,6 @@
 """The models' answers to the lines of sets. An element is a key whose value is its own name."""
 
-from .model import Model
+from .model import POP_LINES, ROOM_LINES, SIZE_LINES, Model
 from .words import MEMORY, NOTHING, item_word
 
 
@@ -12,18 +12,18 @@ class SetModel(Model):
     LINES = {
         "read": (
             *("contains KEY", "get KEY", "front", "back", "len", "is_empty"),
-            *("room SIZE", "capacity SIZE", "under SIZE"),
+            *SIZE_LINES,
         ),
         "put": (
             *("6 insert KEY", "3 replace KEY", "3 get_or_insert KEY", "3 get_or_insert_with KEY"),
             "2 each RANGE insert n",
         ),
-        "take": ("4 remove KEY", "4 take KEY", "3 pop_front", "3 pop_back", "each RANGE remove n"),
+        "take": ("4 remove KEY", "4 take KEY", *POP_LINES, "each RANGE remove n"),
         "lend": ("to_front KEY", "to_back KEY"),
         "walk": ("iter STEP* CLONED?",),
         "drain": Model.LINES["drain"],
         "retain": ("retain SET_KEEP", "retain_with_order SET_KEEP"),
-        "room": ("3 reserve SIZE", "3 try_reserve SIZE", "5 shrink", "4 clone"),
+        "room": ROOM_LINES,
         "many": ("extend KEY*", "extend_from KEY*", "extend_kept KEY*", "extend_by_trait KEY*"),
         "make": ("2 from_iter KEY*", "from_iter_kept KEY*", "2 clear", "with_capacity SIZE"),
         "both": (
