@@ -147,12 +147,12 @@ pub fn rows(plan: &mut Plan) {
         insert,
     );
     plan.row("weighted_insert_present", Order::MixedByTurns, full, insert);
+    plan.row_afresh("weighted_remove_hit", Order::Mixed, full, remove);
+    plan.row("weighted_iter", Order::Whole, full, iter);
     plan.row(
         "weighted_insert_evicting",
         Order::AbsentAndHeld,
         tight_and_full,
         insert_evicting,
     );
-    plan.row_afresh("weighted_remove_hit", Order::Mixed, full, remove);
-    plan.row("weighted_iter", Order::Whole, full, iter);
 }

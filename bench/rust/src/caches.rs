@@ -147,100 +147,6 @@ fn remove_entry(cache: &mut Cache, _place: u64, key: &u64) -> u64 {
     }
 }
 
-fn uses(plan: &mut Plan) {
-    plan.row("lru_hit", Order::MixedByTurns, full_cache, use_key);
-    plan.row("lru_zipf", Order::Zipf, half_cache, use_key);
-    plan.row("lru_uniform", Order::Uniform, half_cache, use_key);
-}
-
-fn peeks(plan: &mut Plan) {
-    plan.row("lru_peek_hit", Order::Mixed, full_cache, peek);
-    plan.row("lru_peek_miss", Order::Absent, full_cache, peek);
-    plan.row_from_one("lru_peek_hit_from_one", Order::Mixed, lone_cache, peek_lone);
-    plan.row_from_one(
-        "lru_peek_miss_from_one",
-        Order::Absent,
-        lone_cache,
-        peek_lone,
-    );
-    plan.row("lru_peek_mut_hit", Order::Mixed, full_cache, peek_mut);
-    plan.row(
-        "lru_contains_key_hit",
-        Order::Mixed,
-        full_cache,
-        contains_key,
-    );
-    plan.row(
-        "lru_contains_key_miss",
-        Order::Absent,
-        full_cache,
-        contains_key,
-    );
-    plan.row("lru_evicted_by", Order::Absent, full_cache, evicted_by);
-    plan.row("lru_raw_get_hit", Order::Mixed, full_cache, raw_get);
-}
-
-fn gets(plan: &mut Plan) {
-    plan.row("lru_get_hit", Order::MixedByTurns, full_cache, get);
-    plan.row("lru_get_miss", Order::Absent, full_cache, get);
-    plan.row_from_one(
-        "lru_get_hit_from_one",
-        Order::MixedByTurns,
-        lone_cache,
-        get_lone,
-    );
-    plan.row_from_one("lru_get_miss_from_one", Order::Absent, lone_cache, get_lone);
-    plan.row("lru_get_mut_hit", Order::MixedByTurns, full_cache, get_mut);
-}
-
-/// An insert of a new key evicts the entry at the front.
-fn inserts(plan: &mut Plan) {
-    plan.row("lru_insert_new", Order::AbsentAndHeld, full_cache, insert);
-    plan.row(
-        "lru_insert_present",
-        Order::MixedByTurns,
-        full_cache,
-        insert,
-    );
-    plan.row("lru_push_new", Order::AbsentAndHeld, full_cache, push);
-    plan.row("lru_push_present", Order::MixedByTurns, full_cache, push);
-    plan.row(
-        "lru_get_or_insert_with_new",
-        Order::AbsentAndHeld,
-        full_cache,
-        get_or_insert_with,
-    );
-    plan.row(
-        "lru_get_or_insert_with_present",
-        Order::MixedByTurns,
-        full_cache,
-        get_or_insert_with,
-    );
-    plan.row(
-        "lru_entry_or_insert_new",
-        Order::AbsentAndHeld,
-        full_cache,
-        entry_or_insert,
-    );
-    plan.row(
-        "lru_raw_or_insert_new",
-        Order::AbsentAndHeld,
-        full_cache,
-        raw_or_insert,
-    );
-}
-
-fn removals(plan: &mut Plan) {
-    plan.row_afresh("lru_remove_hit", Order::Mixed, full_cache, remove);
-    plan.row_afresh(
-        "lru_remove_entry_hit",
-        Order::Mixed,
-        full_cache,
-        remove_entry,
-    );
-    plan.row_afresh("lru_remove_lru", Order::Held, full_cache, remove_lru);
-}
-
 /// Evicts the first half of the entries.
 #[inline(always)]
 fn set_capacity(cache: &mut Cache, _place: u64, _item: &u64) -> u64 {
@@ -283,13 +189,113 @@ fn extend(caches: &mut (Cache, Cache), _place: u64, _item: &u64) -> u64 {
     caches.1.len() as u64
 }
 
-fn wholes(plan: &mut Plan) {
+fn uses(plan: &mut Plan) {
+    plan.row("lru_hit", Order::MixedByTurns, full_cache, use_key);
+    plan.row("lru_zipf", Order::Zipf, half_cache, use_key);
+    plan.row("lru_uniform", Order::Uniform, half_cache, use_key);
+}
+
+fn peeks(plan: &mut Plan) {
+    plan.row("lru_peek_hit", Order::Mixed, full_cache, peek);
+    plan.row("lru_peek_miss", Order::Absent, full_cache, peek);
+    plan.row("lru_peek_mut_hit", Order::Mixed, full_cache, peek_mut);
+    plan.row(
+        "lru_contains_key_hit",
+        Order::Mixed,
+        full_cache,
+        contains_key,
+    );
+    plan.row(
+        "lru_contains_key_miss",
+        Order::Absent,
+        full_cache,
+        contains_key,
+    );
+    plan.row("lru_evicted_by", Order::Absent, full_cache, evicted_by);
+}
+
+fn gets(plan: &mut Plan) {
+    plan.row("lru_get_hit", Order::MixedByTurns, full_cache, get);
+    plan.row("lru_get_miss", Order::Absent, full_cache, get);
+    plan.row("lru_get_mut_hit", Order::MixedByTurns, full_cache, get_mut);
+}
+
+/// An insert of a new key evicts the entry at the front.
+fn inserts(plan: &mut Plan) {
+    plan.row("lru_insert_new", Order::AbsentAndHeld, full_cache, insert);
+    plan.row(
+        "lru_insert_present",
+        Order::MixedByTurns,
+        full_cache,
+        insert,
+    );
+    plan.row("lru_push_new", Order::AbsentAndHeld, full_cache, push);
+    plan.row("lru_push_present", Order::MixedByTurns, full_cache, push);
+    plan.row(
+        "lru_get_or_insert_with_new",
+        Order::AbsentAndHeld,
+        full_cache,
+        get_or_insert_with,
+    );
+    plan.row(
+        "lru_get_or_insert_with_present",
+        Order::MixedByTurns,
+        full_cache,
+        get_or_insert_with,
+    );
+    plan.row(
+        "lru_entry_or_insert_new",
+        Order::AbsentAndHeld,
+        full_cache,
+        entry_or_insert,
+    );
+}
+
+fn removals(plan: &mut Plan) {
+    plan.row_afresh("lru_remove_hit", Order::Mixed, full_cache, remove);
+    plan.row_afresh("lru_remove_lru", Order::Held, full_cache, remove_lru);
     plan.row_afresh("lru_set_capacity", Order::Whole, full_cache, set_capacity);
+}
+
+fn others(plan: &mut Plan) {
+    plan.row("lru_raw_get_hit", Order::Mixed, full_cache, raw_get);
+    plan.row(
+        "lru_raw_or_insert_new",
+        Order::AbsentAndHeld,
+        full_cache,
+        raw_or_insert,
+    );
+    plan.row_afresh(
+        "lru_remove_entry_hit",
+        Order::Mixed,
+        full_cache,
+        remove_entry,
+    );
+}
+
+fn wholes(plan: &mut Plan) {
     plan.row("lru_iter", Order::Whole, full_cache, iter);
     plan.row_afresh("lru_drain", Order::Whole, full_cache, drain);
     plan.row_afresh("lru_retain", Order::Whole, full_cache, retain);
     plan.row_afresh("lru_clone", Order::Whole, two_full, copy);
     plan.row("lru_extend", Order::Whole, two_full, extend);
+}
+
+fn from_one(plan: &mut Plan) {
+    plan.row_from_one("lru_peek_hit_from_one", Order::Mixed, lone_cache, peek_lone);
+    plan.row_from_one(
+        "lru_peek_miss_from_one",
+        Order::Absent,
+        lone_cache,
+        peek_lone,
+    );
+    plan.row_from_one(
+        "lru_get_hit_from_one",
+        Order::MixedByTurns,
+        lone_cache,
+        get_lone,
+    );
+    plan.row_from_one("lru_get_miss_from_one", Order::Absent, lone_cache, get_lone);
 }
 
 pub fn rows(plan: &mut Plan) {
@@ -299,5 +305,7 @@ pub fn rows(plan: &mut Plan) {
     gets(plan);
     inserts(plan);
     removals(plan);
+    others(plan);
     wholes(plan);
+    from_one(plan);
 }

@@ -60,51 +60,47 @@ fn to_front(map: &mut Map, _place: u64, key: &u64) -> u64 {
     }
 }
 
-/// Of new keys.
-fn new_keys(plan: &mut Plan) {
+/// Of new keys and of keys that are present.
+fn inserts(plan: &mut Plan) {
     plan.row_afresh("insert", Order::Held, empty, insert);
     plan.row_afresh("insert_roomy", Order::Held, roomy, insert);
-    plan.row_afresh("insert_front_new", Order::Held, empty, insert_front);
-    plan.row_afresh("replace_new", Order::Held, empty, replace);
-    plan.row_afresh(
-        "get_or_insert_with_new",
-        Order::Held,
-        empty,
-        get_or_insert_with,
-    );
-    plan.row_afresh("entry_or_insert_new", Order::Held, empty, entry_or_insert);
-    plan.row_afresh("raw_or_insert_new", Order::Held, empty, raw_or_insert);
-    plan.row_afresh("cursor_insert_new", Order::Held, empty, cursor_insert);
-}
-
-/// Of keys that are present.
-fn present_keys(plan: &mut Plan) {
     plan.row("update", Order::MixedByTurns, full, insert);
+    plan.row_afresh("insert_front_new", Order::Held, empty, insert_front);
     plan.row(
         "insert_front_present",
         Order::MixedByTurns,
         full,
         insert_front,
     );
+    plan.row_afresh("replace_new", Order::Held, empty, replace);
     plan.row("replace_present", Order::Mixed, full, replace);
+    plan.row_afresh(
+        "get_or_insert_with_new",
+        Order::Held,
+        empty,
+        get_or_insert_with,
+    );
     plan.row(
         "get_or_insert_with_present",
         Order::MixedByTurns,
         full,
         get_or_insert_with,
     );
+    plan.row_afresh("entry_or_insert_new", Order::Held, empty, entry_or_insert);
     plan.row(
         "entry_or_insert_present",
         Order::MixedByTurns,
         full,
         entry_or_insert,
     );
+    plan.row_afresh("raw_or_insert_new", Order::Held, empty, raw_or_insert);
     plan.row(
         "raw_or_insert_present",
         Order::MixedByTurns,
         full,
         raw_or_insert,
     );
+    plan.row_afresh("cursor_insert_new", Order::Held, empty, cursor_insert);
     plan.row(
         "cursor_insert_present",
         Order::MixedByTurns,
@@ -122,7 +118,6 @@ fn moves(plan: &mut Plan) {
 
 pub fn rows(plan: &mut Plan) {
     plan.kind("inserts");
-    new_keys(plan);
-    present_keys(plan);
+    inserts(plan);
     moves(plan);
 }

@@ -123,16 +123,16 @@ fn plain(plan: &mut Plan) {
     plan.row("get_mut_hit", Order::Mixed, full, get_mut);
     plan.row("get_mut_miss", Order::Absent, full, get_mut);
     plan.row("index_hit", Order::Mixed, full, index);
-    plan.row("index_mut_hit", Order::Mixed, full, index_mut);
 }
 
-/// By raw entries.
+/// By raw entries, and by an index for writing.
 fn raw(plan: &mut Plan) {
     plan.row("raw_get_hit", Order::Mixed, full, raw_get);
     plan.row("raw_get_miss", Order::Absent, full, raw_get);
     plan.row("raw_hashed_hit", Order::Mixed, full, raw_hashed);
     plan.row("raw_mut_hit", Order::Mixed, full, raw_mut);
     plan.row("raw_mut_miss", Order::Absent, full, raw_mut);
+    plan.row("index_mut_hit", Order::Mixed, full, index_mut);
     plan.row("raw_from_hash_hit", Order::Mixed, full, raw_from_hash);
     plan.row("raw_from_hash_miss", Order::Absent, full, raw_from_hash);
     plan.row(

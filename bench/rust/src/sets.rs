@@ -73,65 +73,6 @@ fn to_front(set: &mut Set, _place: u64, key: &u64) -> u64 {
     u64::from(set.to_front(key))
 }
 
-fn lookups(plan: &mut Plan) {
-    plan.row("set_contains_hit", Order::Mixed, full_set, contains);
-    plan.row("set_contains_miss", Order::Absent, full_set, contains);
-    plan.row_from_one(
-        "set_contains_hit_from_one",
-        Order::Mixed,
-        lone_set,
-        contains_lone,
-    );
-    plan.row_from_one(
-        "set_contains_miss_from_one",
-        Order::Absent,
-        lone_set,
-        contains_lone,
-    );
-    plan.row("set_get_hit", Order::Mixed, full_set, get);
-    plan.row("set_get_miss", Order::Absent, full_set, get);
-}
-
-fn inserts(plan: &mut Plan) {
-    plan.row_afresh("set_insert", Order::Held, empty_set, insert);
-    plan.row("set_update", Order::MixedByTurns, full_set, insert);
-    plan.row_afresh("set_replace_new", Order::Held, empty_set, replace);
-    plan.row("set_replace_present", Order::Mixed, full_set, replace);
-    plan.row_afresh(
-        "set_get_or_insert_new",
-        Order::Held,
-        empty_set,
-        get_or_insert,
-    );
-    plan.row(
-        "set_get_or_insert_present",
-        Order::MixedByTurns,
-        full_set,
-        get_or_insert,
-    );
-    plan.row_afresh(
-        "set_get_or_insert_with_new",
-        Order::Held,
-        empty_set,
-        get_or_insert_with,
-    );
-    plan.row(
-        "set_get_or_insert_with_present",
-        Order::MixedByTurns,
-        full_set,
-        get_or_insert_with,
-    );
-    plan.row("set_to_back_hit", Order::MixedByTurns, full_set, to_back);
-    plan.row("set_to_front_hit", Order::MixedByTurns, full_set, to_front);
-}
-
-fn removals(plan: &mut Plan) {
-    plan.row_afresh("set_remove_hit", Order::Mixed, full_set, remove);
-    plan.row("set_remove_miss", Order::Absent, full_set, remove);
-    plan.row_afresh("set_take_hit", Order::Mixed, full_set, take);
-    plan.row("set_pop_insert", Order::AbsentAndHeld, full_set, queue);
-}
-
 /// Folds all elements.
 #[inline(always)]
 fn sum_of_owned(elements: impl Iterator<Item = u64>) -> u64 {
@@ -209,6 +150,40 @@ fn extend_ref(sets: &mut (Set, Set), _place: u64, _item: &u64) -> u64 {
     sets.1.len() as u64
 }
 
+fn lookups(plan: &mut Plan) {
+    plan.row("set_contains_hit", Order::Mixed, full_set, contains);
+    plan.row("set_contains_miss", Order::Absent, full_set, contains);
+    plan.row("set_get_hit", Order::Mixed, full_set, get);
+    plan.row("set_get_miss", Order::Absent, full_set, get);
+}
+
+fn inserts(plan: &mut Plan) {
+    plan.row_afresh("set_insert", Order::Held, empty_set, insert);
+    plan.row("set_update", Order::MixedByTurns, full_set, insert);
+    plan.row_afresh("set_replace_new", Order::Held, empty_set, replace);
+    plan.row("set_replace_present", Order::Mixed, full_set, replace);
+    plan.row_afresh(
+        "set_get_or_insert_new",
+        Order::Held,
+        empty_set,
+        get_or_insert,
+    );
+    plan.row(
+        "set_get_or_insert_present",
+        Order::MixedByTurns,
+        full_set,
+        get_or_insert,
+    );
+    plan.row("set_to_back_hit", Order::MixedByTurns, full_set, to_back);
+}
+
+fn removals(plan: &mut Plan) {
+    plan.row_afresh("set_remove_hit", Order::Mixed, full_set, remove);
+    plan.row("set_remove_miss", Order::Absent, full_set, remove);
+    plan.row_afresh("set_take_hit", Order::Mixed, full_set, take);
+    plan.row("set_pop_insert", Order::AbsentAndHeld, full_set, queue);
+}
+
 fn wholes(plan: &mut Plan) {
     plan.row("set_iter", Order::Whole, full_set, iter);
     plan.row_afresh("set_into_iter", Order::Whole, once, into_iter);
@@ -217,8 +192,39 @@ fn wholes(plan: &mut Plan) {
     plan.row_afresh("set_retain", Order::Whole, full_set, retain);
     plan.row_afresh("set_clone", Order::Whole, full_and_empty, copy);
     plan.row("set_eq", Order::Whole, two_full, is_equal);
+}
+
+fn others(plan: &mut Plan) {
+    plan.row_afresh(
+        "set_get_or_insert_with_new",
+        Order::Held,
+        empty_set,
+        get_or_insert_with,
+    );
+    plan.row(
+        "set_get_or_insert_with_present",
+        Order::MixedByTurns,
+        full_set,
+        get_or_insert_with,
+    );
+    plan.row("set_to_front_hit", Order::MixedByTurns, full_set, to_front);
     plan.row("set_hash", Order::Both, two_full, hash);
     plan.row_afresh("set_extend_ref", Order::Whole, full_and_empty, extend_ref);
+}
+
+fn from_one(plan: &mut Plan) {
+    plan.row_from_one(
+        "set_contains_hit_from_one",
+        Order::Mixed,
+        lone_set,
+        contains_lone,
+    );
+    plan.row_from_one(
+        "set_contains_miss_from_one",
+        Order::Absent,
+        lone_set,
+        contains_lone,
+    );
 }
 
 pub fn rows(plan: &mut Plan) {
@@ -227,4 +233,6 @@ pub fn rows(plan: &mut Plan) {
     inserts(plan);
     removals(plan);
     wholes(plan);
+    others(plan);
+    from_one(plan);
 }

@@ -188,8 +188,6 @@ fn borrowing(plan: &mut Plan) {
     plan.row("iter_from", Order::Mixed, full, iter_from);
     plan.row("keys", Order::Whole, full, keys);
     plan.row("values", Order::Whole, full, values);
-    plan.row("keys_reversed", Order::Whole, full, keys_reversed);
-    plan.row("values_reversed", Order::Whole, full, values_reversed);
 }
 
 fn writing(plan: &mut Plan) {
@@ -207,6 +205,11 @@ fn owning(plan: &mut Plan) {
     plan.row_afresh("into_iter_half", Order::Whole, full, into_iter_half);
     plan.row_afresh("drain", Order::Whole, full, drain);
     plan.row_afresh("drain_half", Order::Whole, full, drain_half);
+}
+
+fn reversed(plan: &mut Plan) {
+    plan.row("keys_reversed", Order::Whole, full, keys_reversed);
+    plan.row("values_reversed", Order::Whole, full, values_reversed);
     plan.row_afresh("drain_reversed", Order::Whole, full, drain_reversed);
 }
 
@@ -215,4 +218,5 @@ pub fn rows(plan: &mut Plan) {
     borrowing(plan);
     writing(plan);
     owning(plan);
+    reversed(plan);
 }

@@ -120,8 +120,6 @@ fn of_one(plan: &mut Plan) {
     plan.row_afresh("shrink_to_fit", Order::Whole, thinned, shrink);
     plan.row_afresh("from_iter", Order::Whole, pairs, build);
     plan.row_afresh("extend", Order::Whole, pairs, extend);
-    plan.row_afresh("extend_from", Order::Whole, pairs, extend_from);
-    plan.row_afresh("retain_from", Order::Whole, full, retain_from);
 }
 
 fn of_two(plan: &mut Plan) {
@@ -132,8 +130,15 @@ fn of_two(plan: &mut Plan) {
     plan.row("hash", Order::Both, two_full, hash);
 }
 
+/// By an iterator or a closure that is kept.
+fn kept(plan: &mut Plan) {
+    plan.row_afresh("extend_from", Order::Whole, pairs, extend_from);
+    plan.row_afresh("retain_from", Order::Whole, full, retain_from);
+}
+
 pub fn rows(plan: &mut Plan) {
     plan.kind("wholes");
     of_one(plan);
     of_two(plan);
+    kept(plan);
 }
