@@ -139,11 +139,9 @@ impl Row<Map, u64> for ValuesMut {
     fn call(map: &mut Map, _place: u64, _item: &u64) -> Option<u64> {
         let mut sum: u64 = 0;
         let mut walk = map.values_mut();
-        for _ in 0..walk.len() {
-            if let Some(value) = walk.next() {
-                *value = value.wrapping_add(1);
-                sum = fold(sum, *value);
-            }
+        while let Some(value) = walk.next() {
+            *value = value.wrapping_add(1);
+            sum = fold(sum, *value);
         }
         Some(sum)
     }
