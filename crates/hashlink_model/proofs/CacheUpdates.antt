@@ -3,8 +3,7 @@ use Rattle.hashlink_model.proofs.Names.{◌≡◌, ◌⊎◌, ℕ, ◌-◌, ◌�
 use Rattle.hashlink_model.proofs.Names.{Option, None, Some, inl, inr, refl, sym, ap, ◌∙◌, subst, arith}
 use Rattle.hashlink_model.proofs.Names.{append_assoc, take-append-drop, option_map, IsEquivalence, lookup}
 use Rattle.hashlink_model.proofs.Names.{lookup_entry, IsEntries, put, cache_put, last_entries, without}
-use Rattle.hashlink_model.proofs.Names.{stored_key}
-use Rattle.hashlink_model.proofs.Names.{false, IsKeyTest, NonePasses}
+use Rattle.hashlink_model.proofs.Names.{stored_key, false, IsKeyTest, NonePasses}
 use Rattle.std.specs.Map.{AreApart}
 use Rattle.std.proofs.Common.{⊎_elim}
 use Rattle.std.proofs.Math.Path.{fun_ext}

@@ -8,9 +8,10 @@ use Rattle.std.proofs.Common.{le-ltb}
 use Rattle.std.proofs.lemmas.Bool.{cases_lt}
 use Rattle.hashlink_model.specs.Cache.{front_evicted, cache_extended}
 use Rattle.hashlink_model.proofs.Distinct.{IsEntries-tail}
+use Rattle.hashlink_model.proofs.Finds.{lookup-equal}
 use Rattle.hashlink_model.proofs.Puts.{IsEntries-put}
 use Rattle.hashlink_model.proofs.Afterwards.{length-put, length-put_absent, length-put_there, length-moved}
-use Rattle.hashlink_model.proofs.Afterwards.{IsEntries-moved}
+use Rattle.hashlink_model.proofs.Afterwards.{IsEntries-moved, lookup-moved, lookup_entry-put_other, moved_is}
 use Rattle.hashlink_model.proofs.Remaining.{lookup-put_remaining, lookup_entry-put_remaining}
 
 module _ {K V : Type 0} where
@@ -122,3 +123,9 @@ module _ {K V : Type 0} (eq : K → K → Bool) (laws : IsEquivalence eq) where
       → IsEntries eq (cache_use eq es cap k v)
   IsEntries-cache_use es cap k v d =
       grind (arith, IsEntries-cache_put eq laws es cap k v d, IsEntries-moved eq laws es k (length es) d)
+
+pub ruleset lengths = (length-last_entries, length-put_there)
+
+pub ruleset others = (lookup_entry-put_other, moved_is)
+
+pub ruleset after_uses = (lookup-cache_put, lookup_entry-cache_put, lookup-equal, lookup-moved, others)

@@ -3,6 +3,9 @@ use Rattle.std.proofs.Common.{◌≡◌, ℕ, ◌≤◌, ◌<◌, List, length, 
 use Rattle.std.proofs.Common.{arith}
 use Rattle.hashlink_model.specs.MapState.{MapState, node_count, KeepsNodes, Changes, Inserts}
 use Rattle.hashlink_model.specs.Steps.{KeepsOnly, Replaces, Moves, RemovesKey, PopsFront, PopsBack, Clears}
+use Rattle.hashlink_model.specs.Steps.{MovesAndWrites, Reserves}
+use Rattle.std.proofs.lemmas.Map.{length-set_value}
+use Rattle.hashlink_model.proofs.Afterwards.{length-moved}
 use Rattle.hashlink_model.proofs.NodeCounts.{node_count-puts, writes_nodes, moves_nodes}
 
 module _ {K V S : Type 0} (old new : MapState K V S) where
@@ -37,9 +40,18 @@ module _ {K V S : Type 0} (old new : MapState K V S) where
     pub kept-moves : (b : ℕ) (r : Option V) → Moves eq old new k b r → KeepsNodes old new
     kept-moves b r s = omega (arith, moves_nodes eq old new k b r s)
 
+    pub kept-moves_and_writes : (b : ℕ) (w : V) → MovesAndWrites eq old new k b w → KeepsNodes old new
+    kept-moves_and_writes b w s =
+        let written = length-set_value (eq k) s.between.entries w in
+        omega (arith, length-moved eq old.entries k b, ap node_count s.writes, ap length s.moves.entries)
+
     pub kept-removes_key : (r : Option (K × V)) → RemovesKey eq old new k r → KeepsNodes old new
     kept-removes_key None s = omega (arith, ap node_count s.step)
     kept-removes_key (Some e) s = omega (arith, ap length s.step.entries)
+
+  pub kept-reserves : {E : Type 0} (n : ℕ) (r : Result (Unit {0}) E) → Reserves old new n r
+      → KeepsNodes old new
+  kept-reserves n r s = omega (arith, ap length s.grows.entries)
 
   -- ---- nodes that were kept
 
@@ -52,3 +64,7 @@ module _ {K V S : Type 0} (old new : MapState K V S) where
 
   pub cleared_nodes : Clears old new → node_count new ≡ old.spare
   cleared_nodes s = omega (arith, ap length s.entries)
+
+pub ruleset moving = (kept-inserts, kept-replaces, kept-moves, kept-moves_and_writes, kept-changes)
+
+pub ruleset taking = (kept-removes_key, kept-pops_front, kept-pops_back, kept-keeps, kept-reserves)

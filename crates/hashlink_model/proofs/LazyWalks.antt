@@ -44,3 +44,5 @@ module _ {T : Type 0} where
   union-at_least q w =
       let both = length-append (filter (λ _. true) w.left) (filter q w.right) in
       omega (arith, ap length (filter-all w.left))
+
+pub ruleset lazy_walks = (filter-all, pair_step-takes)

@@ -100,3 +100,5 @@ module _ {T : Type 0} (eq : T → T → Bool) (laws : IsEquivalence eq) where
   nil_from_none [] f = refl
   nil_from_none (z ∷ zs) f =
       grind (arith, f z, laws.refl z)
+
+pub ruleset members = (difference_members, intersection_members, is_member-append)

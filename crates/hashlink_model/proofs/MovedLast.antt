@@ -1,8 +1,7 @@
 -- A key that moved last, after its own value was written through it.
-use Rattle.hashlink_model.proofs.Names.{◌≡◌, ℕ, Bool, Some, length, IsEquivalence, lookup, ap, refl, sym, subst, ◌∙◌}
-use Rattle.hashlink_model.proofs.Names.{NonePasses, arith, le_refl}
-use Rattle.hashlink_model.proofs.Names.{IsEntries, IsKeyTest, moved, MapState, Changes, Moves, MovesMatch}
-use Rattle.hashlink_model.proofs.Names.{set_value_same}
+use Rattle.hashlink_model.proofs.Names.{◌≡◌, ℕ, Bool, Some, length, IsEquivalence, lookup, ap, refl, sym}
+use Rattle.hashlink_model.proofs.Names.{subst, ◌∙◌, NonePasses, arith, le_refl, IsEntries, IsKeyTest, moved}
+use Rattle.hashlink_model.proofs.Names.{MapState, Changes, Moves, MovesMatch, set_value_same}
 use Rattle.hashlink_model.specs.Steps.{MovesAndWrites, MovesMatchAndWrites, with_match_value}
 use Rattle.hashlink_model.proofs.Afterwards.{lookup-moved, moved_match-none}
 use Rattle.hashlink_model.proofs.Splits.{key_from_lookup, set_value-none}

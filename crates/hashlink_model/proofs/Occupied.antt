@@ -152,3 +152,5 @@ module _ {K V S : Type 0} (eq : K → K → Bool) where
       by (Some j) p =
           let s = stands_from_place (eq k) m.entries j p in
           omega (arith, s.4, ap length s.3.is, length-append s.0 (s.1 ∷ s.2))
+
+pub ruleset lengths = (length-insert_value, length-insert_entry, length-replace_entry, length-moved_at)

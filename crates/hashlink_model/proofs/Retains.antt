@@ -6,7 +6,7 @@ use Rattle.hashlink_model.proofs.Names.{arith, IsEquivalence, AllByRecursion, co
 use Rattle.hashlink_model.proofs.Names.{NonePasses, none-some, IsEntries}
 use Rattle.std.proofs.lemmas.Map.Keys.{IsDistinct-IsPermutation}
 use Rattle.std.proofs.lemmas.List.Elements.{All-contains_itself, filter-append}
-use Rattle.std.proofs.lemmas.List.Sorted.{IsPermutation-map, Contains-permutation}
+use Rattle.std.proofs.lemmas.List.Sorted.{IsPermutation-map, IsPermutation-refl, Contains-permutation}
 use Rattle.std.proofs.Common.{Contains}
 use Rattle.std.proofs.lemmas.Option.{slice_get-get_or}
 use Rattle.hashlink_model.specs.Retain.{KeepsInSomeOrder, KeepsInOrder, in_order_of}
@@ -172,3 +172,7 @@ module _ {F K V : Type 0} (T : F → K → V → Bool → V → F → Type 0) (a
         r.6 ∙ (λ i. cond (call.0 i) ((e.0, call.1 i) ∷ same i) (same i)),
         rest.1 ∙ ap (λ f'. ends_by f' es) call.2,
       )
+
+pub ruleset own_order = (in_own_order, IsPermutation-refl)
+
+pub ruleset unequal = (IsEntries-in_order_of, IsEntries-keeps_in_order)

@@ -7,6 +7,7 @@ use Rattle.hashlink_model.proofs.Names.{lookup_entry, remove_entry, is_member, s
 use Rattle.hashlink_model.proofs.Names.{is_some-lookup, entries_eq, elements_eq, IsEntries, place_of, without}
 use Rattle.hashlink_model.proofs.Names.{stored_key, extended, set_key_at, Inserts, RemovesKey, Moves}
 use Rattle.hashlink_model.proofs.Names.{PopsFront, PopsBack, pairs_of, put_element, replaced, stored_element}
+use Rattle.hashlink_model.proofs.Names.{keys-set_value}
 use Rattle.std.specs.List.{IsDistinct}
 use Rattle.std.specs.Set.{remove_key}
 use Rattle.std.proofs.lemmas.List.{map-append}
@@ -14,7 +15,9 @@ use Rattle.std.proofs.lemmas.Option.{slice_get-map}
 use Rattle.hashlink_model.specs.Sets.{SetState, elements_of, SetInserts, SetReplaces}
 use Rattle.hashlink_model.proofs.Splits.{remove_entry-none, none_from_lookup, lookup_entry-none}
 use Rattle.hashlink_model.proofs.Finds.{lookup_is, lookup_key_is}
-use Rattle.hashlink_model.proofs.Puts.{put_back, put_back_absent}
+use Rattle.hashlink_model.proofs.Puts.{put_back, put_back_absent, put_front, put_at_its_place}
+use Rattle.hashlink_model.proofs.Puts.{put_after_its_place}
+use Rattle.hashlink_model.proofs.Afterwards.{put_back_twice, put_front_twice}
 use Rattle.hashlink_model.proofs.Places.{place_of_its_key, slice_get-place_or_end}
 use Rattle.hashlink_model.proofs.ByPlace.{moved-there}
 use Rattle.hashlink_model.proofs.Pops.{pops_front, pops_back}
@@ -188,3 +191,15 @@ module _ {T : Type 0} (eq : T → T → Bool) where
         equal_elements ts (keys_of es) ∙ ap (entries_eq eq (λ _ _. true) (pairs_of ts)) (pairs_of-keys_of es)
         ∙ clone_is_equal eq laws (λ _ _. true) (pairs_of ts) (pairs_of clones) (entries_of_pairs ts d)
         (cloned_pairs ts clones z)
+
+pub ruleset inserts = (inserts_elements, inserts_member, inserts_refused)
+
+pub ruleset steps = (inserts, removes_elements, moves_elements, pops_front_elements, pops_back_elements)
+
+pub ruleset at_places = (place_in_pairs, put_at_its_place, put_after_its_place, keys-set_value)
+
+pub ruleset pairs = (removed_pairs, stored_pairs, entries_of_pairs, length_pairs_of, length-keys_of)
+
+pub ruleset views = (pairs_of-keys_of, keys_of-pairs_of)
+
+pub ruleset at_ends = (pairs, views, put_element_back, put_front, put_back_twice, put_front_twice)

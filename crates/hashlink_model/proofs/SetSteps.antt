@@ -2,14 +2,19 @@
 use Rattle.hashlink_model.proofs.Names.{◌≡◌, ℕ, zero, suc, ◌+◌, Bool, true, false, cond, ◌||◌, List, [], ◌∷◌}
 use Rattle.hashlink_model.proofs.Names.{◌++◌, sym, length, take, drop, slice_get, Some, refl, ap, ap₂, ◌∙◌}
 use Rattle.hashlink_model.proofs.Names.{arith, IsEquivalence, keys_of, is_member, swap_key, is_some-lookup}
-use Rattle.hashlink_model.proofs.Names.{length-keys_of, take-append-drop, none-some, same_Some, place_without}
+use Rattle.hashlink_model.proofs.Names.{length-keys_of, length-append, take-append-drop, none-some, same_Some}
+use Rattle.hashlink_model.proofs.Names.{place_without}
 use Rattle.hashlink_model.proofs.Names.{without, stored_key, put, pairs_of, put_element, replaced}
 use Rattle.std.specs.List.{IsDistinct}
 use Rattle.hashlink_model.proofs.Distinct.{each-middle, each-weaker}
 use Rattle.hashlink_model.proofs.Finds.{stored_key-equal}
+use Rattle.hashlink_model.proofs.Places.{split_at}
+use Rattle.hashlink_model.proofs.Puts.{IsEntries-put}
 use Rattle.hashlink_model.proofs.Afterwards.{length-put_absent, length-put_there}
-use Rattle.hashlink_model.proofs.Members.{none_from_is_member, is_member_from_none}
+use Rattle.hashlink_model.proofs.Members.{none_from_is_member, is_member_from_none, is_member-append}
+use Rattle.hashlink_model.proofs.Members.{is_member-equal}
 use Rattle.hashlink_model.proofs.SetViews.{keys_of-pairs_of}
+use Rattle.std.proofs.lemmas.List.{set_at}
 use Rattle.std.proofs.lemmas.Map.Keys.{IsDistinct-push}
 
 module _ {T : Type 0} (eq : T → T → Bool) where
@@ -115,3 +120,13 @@ module _ {T : Type 0} (eq : T → T → Bool) (laws : IsEquivalence eq) where
   pub member_here : (t x : T) (us vs : List T) → eq t x ≡ true → is_member eq (us ++ x ∷ vs) t ≡ true
   member_here t x [] vs e = rw e refl
   member_here t x (u ∷ us) vs e = grind (arith, member_here t x us vs e)
+
+pub ruleset members = (is_member-append, is_member-equal, is_member-put, member_swap_key)
+
+pub ruleset counts = (length-put_element, length_swap_key, length-append, keys_of-pairs_of)
+
+pub ruleset swaps = (replaced-there, replaced-absent, member_here, swapped_here, split_at, set_at)
+
+pub ruleset others = (swapped_others, pushed_others)
+
+pub ruleset unequal = (IsEntries-put, IsDistinct-replaced, keys_of-pairs_of)

@@ -3,8 +3,7 @@ use Rattle.hashlink_model.proofs.Names.{◌≡◌, Bool, true, false, cond, List
 use Rattle.hashlink_model.proofs.Names.{sym, ap, ◌∙◌, keys_of, lookup, is_some-lookup}
 use Rattle.std.specs.Map.{KeepsOthers}
 use Rattle.std.specs.Set.{KeepsOthers as KeepsOtherElements}
-use Rattle.hashlink_model.specs.Lookups.{UpdatesBy, KeepsLookups}
-use Rattle.hashlink_model.specs.Lookups.{SetUpdatesBy, SetKeepsLookups}
+use Rattle.hashlink_model.specs.Lookups.{UpdatesBy, KeepsLookups, SetUpdatesBy, SetKeepsLookups}
 
 is_some-cond : {X : Type 0} (b : Bool) (x y : Option X)
     → is_some (cond b x y) ≡ cond b (is_some x) (is_some y)

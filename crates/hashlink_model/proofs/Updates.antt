@@ -1,9 +1,9 @@
 -- What a lookup finds after each kind of step, from the list that the step leaves.
 use Rattle.hashlink_model.proofs.Names.{◌≡◌, ℕ, Bool, true, false, cond, List, [], ◌∷◌, ◌++◌, Option, None}
 use Rattle.hashlink_model.proofs.Names.{Some, Result, Ok, Err, inl, inr, refl, sym, ap, ◌∙◌, subst, is_some}
-use Rattle.hashlink_model.proofs.Names.{append-nil, IsEquivalence, lookup, lookup_entry, remove_entry, set_value}
-use Rattle.hashlink_model.proofs.Names.{MatchOption}
-use Rattle.hashlink_model.proofs.Names.{IsEntries, IsKeyTest, NonePasses, put, TakesFirst}
+use Rattle.hashlink_model.proofs.Names.{append-nil, IsEquivalence, lookup, lookup_entry, remove_entry}
+use Rattle.hashlink_model.proofs.Names.{set_value, MatchOption, IsEntries, IsKeyTest, NonePasses, put}
+use Rattle.hashlink_model.proofs.Names.{TakesFirst}
 use Rattle.std.specs.Prelude.{IsSome, OnOk}
 use Rattle.std.specs.Map.{AreApart, KeepsOthers}
 use Rattle.std.specs.Map.Iter.{TakesLast}
@@ -17,8 +17,7 @@ use Rattle.hashlink_model.specs.Lookups.{UpdatesLent, UpdatesKept, AsAnswered}
 use Rattle.hashlink_model.specs.Retain.{KeepsInOrder}
 use Rattle.hashlink_model.proofs.Splits.{splits, lookup-none, none_from_lookup, remove_entry-none}
 use Rattle.hashlink_model.proofs.Splits.{remove_entry-here}
-use Rattle.hashlink_model.proofs.Distinct.{each-left, none_equal, none_others, IsEntries-head}
-use Rattle.hashlink_model.proofs.Distinct.{IsEntries-tail}
+use Rattle.hashlink_model.proofs.Distinct.{each-left, none_equal, none_others, IsEntries-head, IsEntries-tail}
 use Rattle.hashlink_model.proofs.Afterwards.{lookup-put, lookup-put_same, lookup-moved, moved_match-none}
 use Rattle.hashlink_model.proofs.Retains.{none_kept}
 

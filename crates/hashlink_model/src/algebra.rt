@@ -49,6 +49,7 @@ pub fn hints_along_a_union()
 {}
 
 /// The results of set algebra have the members that their names promise.
+#[tactic(auto, using(crate::proofs::Members::members))]
 pub fn members_of_set_algebra<T>()
     ensures union { (eq : T → T → Bool) → IsEquivalence eq → (xs ys : List T) → IsUnion eq xs ys
         (union_of eq xs ys) }
@@ -94,6 +95,7 @@ pub fn subset_and_disjoint_by_membership<T>()
 
 /// A lazy iterator begins with the whole result of set algebra, and each step takes the first of the elements
 /// left.
+#[tactic(auto, using(crate::proofs::LazyWalks::lazy_walks))]
 pub fn lazy_walks_give_set_algebra<T>()
     ensures union { (eq : T → T → Bool) (xs ys : List T)
         → left_to_give (λ _. true) (λ y. not (is_member eq xs y)) (record { left = xs; right = ys })

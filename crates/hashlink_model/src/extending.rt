@@ -8,6 +8,7 @@ ghost use Rattle.hashlink_model.specs.Many.{AcceptsAll, StopsAt, MadeFrom, Inser
 
 /// Three pairs, the last with the key of the first, make a map of two entries. Two pairs extend it, and the
 /// insert of the second fails.
+#[tactic(auto, using(crate::proofs::InTurn::stops_entries, crate::proofs::InTurn::refused_of_two))]
 pub fn items_in_a_row<S>()
     ensures made { (s : S) (m : MapState ℕ ℕ S) → MadeFrom (InsertsPair nat_eq)
         ((1, 10) ∷ (2, 20) ∷ (1, 11) ∷ []) s m
@@ -19,6 +20,7 @@ pub fn items_in_a_row<S>()
 {}
 
 /// Items whose inserts succeed are inserted at the back in turn. They may be given in two parts.
+#[tactic(auto, using(crate::proofs::InTurn::accepts_entries, crate::proofs::InTurn::accepts_in_parts))]
 pub fn accepted_items<K, V, S>()
     ensures entries { (eq : K → K → Bool) (old new : MapState K V S) (items : List (K × V))
         → AcceptsAll (InsertsPair eq) old items new

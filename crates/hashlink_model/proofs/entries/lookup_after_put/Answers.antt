@@ -3,9 +3,4 @@ use Rattle.hashlink_model.proofs.Finds.{stored_key-equal}
 use Rattle.hashlink_model.proofs.entries.lookup_after_put.Goals as goal
 
 pub returns : goal.returns
-returns g c = record {
-  at_key = lookup-put_same;
-  at_others = lookup_entry-put_other;
-  stored_key = stored_key-put;
-  stored_key_is_equal = stored_key-equal;
-}
+returns g c = search (lookup-put_same, lookup_entry-put_other, stored_key-put, stored_key-equal)
