@@ -29,23 +29,17 @@ module _ {X : Type 0} where
 
 -- ---- the entries other than the key's own
 
-module _ {K V : Type 0} (test : K → Bool) (es : List (K × V)) where
-  others-absent : is_some (lookup test es) ≡ false → remove_entry test es ≡ es
-  others-absent absent = by (lookup test es) refl absent
-    where
-      by : (o : Option V) → lookup test es ≡ o → is_some o ≡ false → remove_entry test es ≡ es
-      by None l a = remove_entry-none test es (none_from_lookup test es l)
-      by (Some w) l a = absurd (true≢false a)
+module _ {K V : Type 0} (test : K → Bool) where
+  others-absent : (es : List (K × V)) → is_some (lookup test es) ≡ false → remove_entry test es ≡ es
+  others-absent [] absent = refl
+  others-absent (e ∷ es) absent = grind (arith, absent, others-absent es)
 
-  others-there : is_some (lookup test es) ≡ true → length (remove_entry test es) + 1 ≡ length es
-  others-there there = by (lookup test es) refl there
-    where
-      by : (o : Option V) → lookup test es ≡ o → is_some o ≡ true
-          → length (remove_entry test es) + 1 ≡ length es
-      by None l f = absurd (true≢false (sym f))
-      by (Some w) l f = length-without_there (λ _. test) es (stands_from_lookup test es w l).1.0 w l
+  others-there : (es : List (K × V)) → is_some (lookup test es) ≡ true
+      → length (remove_entry test es) + 1 ≡ length es
+  others-there [] there = absurd (true≢false (sym there))
+  others-there (e ∷ es) there = grind (arith, there, others-there es)
 
-  module _ (cap : ℕ) where
+  module _ (es : List (K × V)) (cap : ℕ) where
     evicted-room : length (remove_entry test es) < cap → evicted_by test es cap ≡ None
     evicted-room l = rw (lt-ltb (length (remove_entry test es)) cap l) refl
 
@@ -56,21 +50,26 @@ module _ {K V : Type 0} (test : K → Bool) (es : List (K × V)) where
     -- an absent key
     pub evicted-absent_room : is_some (lookup test es) ≡ false → length es < cap
         → evicted_by test es cap ≡ None
-    evicted-absent_room a l = evicted-room (omega (arith, ap length (others-absent a)))
+    evicted-absent_room a l = evicted-room (omega (arith, ap length (others-absent es a)))
 
     pub evicted-absent_full : is_some (lookup test es) ≡ false → cap ≤ length es
         → evicted_by test es cap ≡ first_of es
     evicted-absent_full a l =
-        evicted-full (omega (arith, ap length (others-absent a))) ∙ ap first_of (others-absent a)
+        evicted-full (omega (arith, ap length (others-absent es a))) ∙ ap first_of (others-absent es a)
 
     -- a present key
     pub evicted-there_room : is_some (lookup test es) ≡ true → length es ≤ cap
         → evicted_by test es cap ≡ None
-    evicted-there_room f l = evicted-room (omega (arith, others-there f))
+    evicted-there_room f l = evicted-room (omega (arith, others-there es f))
 
     pub evicted-there_full : is_some (lookup test es) ≡ true → cap < length es
         → evicted_by test es cap ≡ first_of (remove_entry test es)
-    evicted-there_full f l = evicted-full (omega (arith, others-there f))
+    evicted-there_full f l = evicted-full (omega (arith, others-there es f))
+
+-- for the call `evicted_by`
+pub ruleset if_absent = (evicted-absent_room, evicted-absent_full)
+
+pub ruleset if_there = (evicted-there_room, evicted-there_full)
 
 -- ---- what an insert evicts
 

@@ -80,6 +80,7 @@ impl<K: Eq + Hash, V, S: BuildHasher> LruCache<K, V, S> {
     /// entries, cursors or `map_mut` have exceeded the capacity, an insert evicts even if the key is present.
     /// Then this call returns the first entry that is not the key's own.
     #[inline(always)]
+    #[tactic(auto, using(crate::proofs::Evicting::if_absent, crate::proofs::Evicting::if_there))]
     pub fn evicted_by<Q: Equivalent<K>>(&self, key: Q) -> Option<(&K, &V)>
         ensures found { option_map deref_pair result
             ≡ evicted_by (Q.matches key) (entries_of self.now) (state_of self.now).cap }
