@@ -3,7 +3,7 @@ use Rattle.hashlink_model.proofs.Names.{◌≡◌, ℕ, Bool, true, false, cond,
 use Rattle.hashlink_model.proofs.Names.{Some, Result, Ok, Err, inl, inr, refl, sym, ap, ◌∙◌, subst, is_some}
 use Rattle.hashlink_model.proofs.Names.{append-nil, IsEquivalence, lookup, lookup_entry, remove_entry}
 use Rattle.hashlink_model.proofs.Names.{set_value, MatchOption, IsEntries, IsKeyTest, NonePasses, put}
-use Rattle.hashlink_model.proofs.Names.{TakesFirst}
+use Rattle.hashlink_model.proofs.Names.{TakesFirst, arith}
 use Rattle.std.specs.Prelude.{IsSome, OnOk}
 use Rattle.std.specs.Map.{AreApart, KeepsOthers}
 use Rattle.std.specs.Map.Iter.{TakesLast}
@@ -184,13 +184,11 @@ module _ {F K V : Type 0} (T : F → K → V → Bool → V → F → Type 0) (e
   -- one entry at the front, kept or not
   at_its_key : (q k : K) (w : V) (rest : List (K × V)) (b : Bool) → eq q k ≡ true
       → lookup (eq q) rest ≡ None → lookup (eq q) (cond b ((k, w) ∷ rest) rest) ≡ cond b (Some w) None
-  at_its_key q k w rest true t n = rw t refl
-  at_its_key q k w rest false t n = n
+  at_its_key q k w rest b t n = grind (arith, t, n)
 
   at_another : (q k : K) (w : V) (rest : List (K × V)) (b : Bool) → eq q k ≡ false
       → lookup (eq q) (cond b ((k, w) ∷ rest) rest) ≡ lookup (eq q) rest
-  at_another q k w rest true t = rw t refl
-  at_another q k w rest false t = refl
+  at_another q k w rest b t = grind (arith, t)
 
   kept_each : (q : K) (f : F) (es kept : List (K × V)) (g : F) → IsEntries eq es → KeepsInOrder T f es kept g
       → MatchOption (lookup_entry (eq q) es) (lookup (eq q) kept ≡ None) (AsAnswered T (lookup (eq q) kept))
@@ -200,19 +198,14 @@ module _ {F K V : Type 0} (T : F → K → V → Bool → V → F → Type 0) (e
       let gone : eq q e.0 ≡ true → lookup (eq q) r.3 ≡ None
       = λ t. lookup-none (eq q) r.3 (none_kept T (eq q) r.2 es r.3 g r.5
       (none_equal eq laws e.0 q es (laws.symm e.0 q ∙ t) (IsEntries-head eq e es d))) in
-      ⊎_elim
-      (λ t. subst
-      (λ c. MatchOption (cond c (Some e) (lookup_entry (eq q) es)) (lookup (eq q) kept ≡ None)
-      (AsAnswered T (lookup (eq q) kept)))
-      (sym t)
-      (f, r.0, r.1, r.2, r.4, ap (lookup (eq q)) r.6 ∙ at_its_key q e.0 r.1 r.3 r.0 t (gone t)))
-      (λ n. subst
-      (λ c. MatchOption (cond c (Some e) (lookup_entry (eq q) es)) (lookup (eq q) kept ≡ None)
-      (AsAnswered T (lookup (eq q) kept)))
-      (sym n)
-      (subst (λ o. MatchOption (lookup_entry (eq q) es) (o ≡ None) (AsAnswered T o))
-      (sym (ap (lookup (eq q)) r.6 ∙ at_another q e.0 r.1 r.3 r.0 n)) rest))
-      (cases_Bool (eq q e.0))
+      let found = ap (lookup (eq q)) r.6 in
+      elim (eq q e.0)
+      as (λ b. eq q e.0 ≡ b → MatchOption (cond b (Some e) (lookup_entry (eq q) es))
+      (lookup (eq q) kept ≡ None) (AsAnswered T (lookup (eq q) kept))) [
+        | true ↦ λ t. (f, r.0, r.1, r.2, r.4, found ∙ at_its_key q e.0 r.1 r.3 r.0 t (gone t))
+        | false ↦ λ n. subst (λ o. MatchOption (lookup_entry (eq q) es) (o ≡ None) (AsAnswered T o))
+            (sym (found ∙ at_another q e.0 r.1 r.3 r.0 n)) rest
+      ] refl
 
   -- goal: the lookups after a retain
   pub updates-retained : (f : F) (es kept new : List (K × V)) (g : F) → IsEntries eq es
