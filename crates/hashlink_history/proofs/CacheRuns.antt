@@ -1,26 +1,18 @@
 -- What caches hold, and what they return, along several calls.
 use Rattle.std.proofs.Common.{◌≡◌, ℕ, ◌≤◌, Bool, false, ◌&&◌, List, [], ◌∷◌, ◌++◌, length, nat_lt, is_some}
 use Rattle.std.proofs.Common.{Option, refl, ap, arith, append_assoc, append-nil, true≢false, true, le_refl}
-use Rattle.std.specs.Cmp.{IsEquivalence}
-use Rattle.std.specs.List.{AllZip, AllByRecursion}
-use Rattle.std.specs.Map.{lookup}
-use Rattle.std.specs.Set.{is_member}
-use Rattle.hashlink_model.specs.Entries.{IsEntries, without}
+use Rattle.std.specs.{Cmp.IsEquivalence, List.{AllZip, AllByRecursion}, Map.lookup, Set.is_member}
+use Rattle.std.proofs.lemmas.List.Elements.{recursion_from_All}
+use Rattle.hashlink_model.proofs.Caches.{cache_put-at_most, IsEntries-cache_put, IsEntries-cache_use}
+use Rattle.hashlink_model.specs.{Entries.{IsEntries, without}, Cache.{cache_use, cache_put}}
+use Rattle.hashlink_model.proofs.{Puts.IsEntries-without, Caches.cache_use-at_most, Distinct.IsEntries-nil}
 use Rattle.hashlink_history.specs.CacheRuns.{CacheEvent, Insert, Use, Remove, Peek, key_of, is_use, NoUse}
 use Rattle.hashlink_history.specs.CacheRuns.{NoRemoval, used_keys, answer_to, after_event, after_events}
-use Rattle.hashlink_history.specs.CacheRuns.{answers}
-use Rattle.hashlink_history.specs.History.{reuse_distance, HoldsRecent}
-use Rattle.hashlink_history.specs.Inclusion.{IsEndOf, SameKey, SameEntry, AlsoFinds, FindsTheSame}
-use Rattle.hashlink_model.proofs.Puts.{IsEntries-without}
-use Rattle.hashlink_model.proofs.Caches.{cache_put-at_most, IsEntries-cache_put, IsEntries-cache_use}
-use Rattle.hashlink_model.proofs.Caches.{cache_use-at_most}
 use Rattle.hashlink_history.proofs.Ends.{end-cache_put, end-without, end-cache_use, end-finds}
-use Rattle.hashlink_history.proofs.Ends.{same_end-answers}
 use Rattle.hashlink_history.proofs.Reuse.{HoldsRecent-start, HoldsRecent-cache_put, HoldsRecent-cache_use}
-use Rattle.hashlink_history.proofs.Reuse.{held_exactly}
-use Rattle.hashlink_model.specs.Cache.{cache_use, cache_put}
-use Rattle.hashlink_model.proofs.Distinct.{IsEntries-nil}
-use Rattle.std.proofs.lemmas.List.Elements.{recursion_from_All}
+use Rattle.hashlink_history.specs.{CacheRuns.answers, History.{reuse_distance, HoldsRecent}}
+use Rattle.hashlink_history.specs.Inclusion.{IsEndOf, SameKey, SameEntry, AlsoFinds, FindsTheSame}
+use Rattle.hashlink_history.proofs.{Ends.same_end-answers, Reuse.held_exactly}
 
 module _ {K V : Type 0} (eq : K → K → Bool) where
   -- ---- the calls in two parts

@@ -3,26 +3,20 @@
 use Rattle.std.proofs.Common.{◌≡◌, ℕ, zero, suc, ◌+◌, ◌-◌, ◌*◌, ◌≤◌, ◌<◌, Bool, true, false, cond, ◌||◌, ◌&&◌}
 use Rattle.std.proofs.Common.{List, [], ◌∷◌, ◌++◌, map, length, take, drop, nat_lt, nat_eq, refl, sym, ap}
 use Rattle.std.proofs.Common.{ap₂, ◌∙◌, ◌⊎◌, inl, inr, arith, append_assoc, length-append, length-take}
-use Rattle.std.proofs.Common.{take-append-drop, le_refl, true≢false, append-nil}
-use Rattle.std.specs.Cmp.{IsEquivalence, nat_eq_equiv}
-use Rattle.std.specs.List.{AllByRecursion, IsDistinct}
-use Rattle.std.specs.Map.{keys_of}
-use Rattle.std.specs.Set.{is_member, remove_key, distinct_count}
-use Rattle.std.proofs.lemmas.Bool.{cases_lt, ne_eqb}
-use Rattle.std.proofs.lemmas.List.Elements.{recursion_from_All}
-use Rattle.std.proofs.lemmas.Map.Made.{All-is_member, length-remove_key}
+use Rattle.std.{proofs.Common.{take-append-drop, le_refl, true≢false, append-nil}, specs.Map.keys_of}
+use Rattle.std.specs.{Cmp.{IsEquivalence, nat_eq_equiv}, List.{AllByRecursion, IsDistinct}}
+use Rattle.std.{specs.Set.{is_member, remove_key, distinct_count}, proofs.lemmas.Bool.{cases_lt, ne_eqb}}
+use Rattle.std.proofs.lemmas.{List.Elements.recursion_from_All, Map.Made.{All-is_member, length-remove_key}}
+use Rattle.std.proofs.{lemmas.List.{length-map, map-append}, Math.Seq.drop-nil}
 use Rattle.hashlink_history.specs.History.{IsSchedule, Schedule, misses, misses_from, cache_misses}
-use Rattle.hashlink_history.specs.History.{cache_misses_from, recent_keys, reuse_distance, HoldsRecent}
-use Rattle.hashlink_model.specs.Cache.{cache_use, missed_uses}
-use Rattle.hashlink_model.proofs.Members.{is_member-append, none_from_is_member}
 use Rattle.hashlink_history.proofs.Recency.{remove_key-right, recent_keys-there, recent_keys-full, is_recent}
-use Rattle.hashlink_history.proofs.Recency.{recent_keys-room, length-recent_keys}
+use Rattle.hashlink_history.specs.History.{cache_misses_from, recent_keys, reuse_distance, HoldsRecent}
+use Rattle.hashlink_history.proofs.{Recency.{recent_keys-room, length-recent_keys}, Pursuit.Follows}
 use Rattle.hashlink_history.proofs.Reuse.{held_exactly, HoldsRecent-cache_use, HoldsRecent-start}
 use Rattle.hashlink_history.proofs.Potential.{triangle, ranks, ranks-append, ranks-held, ranks-at_most}
-use Rattle.hashlink_history.proofs.Pursuit.{Follows}
 use Rattle.hashlink_history.proofs.Pursued.{full_misses, pursued}
-use Rattle.std.proofs.lemmas.List.{length-map, map-append}
-use Rattle.std.proofs.Math.Seq.{drop-nil}
+use Rattle.hashlink_model.specs.Cache.{cache_use, missed_uses}
+use Rattle.hashlink_model.proofs.Members.{is_member-append, none_from_is_member}
 
 -- ---- keys, and numbers besides them that no history has
 

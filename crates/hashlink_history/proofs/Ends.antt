@@ -1,23 +1,15 @@
 -- A smaller cache's entries stay an end of a larger one's, whatever calls both get.
 use Rattle.std.proofs.Common.{◌≡◌, ℕ, zero, suc, ◌+◌, ◌-◌, ◌≤◌, ◌<◌, Bool, true, List, [], ◌∷◌, ◌++◌, length}
 use Rattle.std.proofs.Common.{drop, is_some, Option, None, Some, refl, sym, ap, ◌∙◌, inl, inr, subst, subst₂}
-use Rattle.std.proofs.Common.{arith, append_assoc, lt_irrefl}
-use Rattle.std.specs.Cmp.{IsEquivalence}
-use Rattle.std.specs.Option.{option_map_or}
-use Rattle.std.specs.List.{AllZip}
-use Rattle.std.specs.Map.{lookup, remove_entry}
-use Rattle.std.proofs.lemmas.Bool.{cases_lt, both_ways}
-use Rattle.std.proofs.lemmas.Option.{none-some}
-use Rattle.std.proofs.lemmas.Map.{NonePasses}
-use Rattle.hashlink_model.specs.Entries.{IsEntries, put, without, stored_key}
-use Rattle.hashlink_model.specs.Cache.{last_entries, cache_put, cache_get, cache_use}
-use Rattle.hashlink_history.specs.Inclusion.{IsEndOf, SameKey, SameEntry}
+use Rattle.std.{proofs.Common.{arith, append_assoc, lt_irrefl}, specs.Cmp.IsEquivalence, specs.List.AllZip}
+use Rattle.std.{specs.Option.option_map_or, specs.Map.{lookup, remove_entry}, proofs.lemmas.Option.none-some}
+use Rattle.std.proofs.lemmas.{Bool.{cases_lt, both_ways}, Map.NonePasses}
+use Rattle.hashlink_model.{specs.Entries.{IsEntries, put, without, stored_key}, proofs.Finds.stored_key-equal}
+use Rattle.hashlink_model.{specs.Cache.{last_entries, cache_put, cache_get, cache_use}, proofs.Puts.put_back}
 use Rattle.hashlink_model.proofs.Distinct.{answers_alike, each-right, none_equal, none_others}
 use Rattle.hashlink_model.proofs.Splits.{Stands, splits, remove_entry-none, lookup-none, lookup-here}
-use Rattle.hashlink_model.proofs.Finds.{stored_key-equal}
-use Rattle.hashlink_model.proofs.Puts.{put_back}
-use Rattle.hashlink_model.proofs.Afterwards.{moved-there}
-use Rattle.hashlink_model.proofs.Caches.{last_entries-within, cache_put-at_most}
+use Rattle.hashlink_model.proofs.{Afterwards.moved-there, Caches.{last_entries-within, cache_put-at_most}}
+use Rattle.hashlink_history.specs.Inclusion.{IsEndOf, SameKey, SameEntry}
 use Rattle.hashlink_history.proofs.Recency.{zip_push, zip_length}
 
 module _ {K V : Type 0} (test : K → Bool) where

@@ -1,13 +1,10 @@
 -- How the peak of a run grows along it, and that the nodes of a map stay within it.
 use Rattle.std.proofs.Common.{◌≡◌, ℕ, ◌≤◌, max, le_refl, Bool, List, [], ◌∷◌, ◌++◌, length, Option, Result}
 use Rattle.std.proofs.Common.{Ok, refl, sym, ap, ◌∙◌, subst, arith}
-use Rattle.hashlink_model.specs.Entries.{put}
-use Rattle.hashlink_model.specs.MapState.{MapState, node_count, KeepsNodes}
-use Rattle.hashlink_model.specs.Steps.{Clears, Shrinks}
-use Rattle.hashlink_model.specs.Cache.{CacheState, CacheInserts, last_entries}
-use Rattle.hashlink_model.proofs.NodeCounts.{node_count-shrinks}
+use Rattle.hashlink_model.specs.{Entries.put, MapState.{MapState, node_count, KeepsNodes}}
+use Rattle.hashlink_model.specs.{Steps.{Clears, Shrinks}, Cache.{CacheState, CacheInserts, last_entries}}
+use Rattle.hashlink_model.proofs.{NodeCounts.node_count-shrinks, CacheSteps.put_entries}
 use Rattle.hashlink_model.proofs.KeptNodes.{kept-keeps, kept-inserts, cleared_nodes}
-use Rattle.hashlink_model.proofs.CacheSteps.{put_entries}
 use Rattle.hashlink_history.specs.Peak.{Passed, Length, Shrunk, peak, Passes, PassesInTurn}
 
 pub peak-append : (n : ℕ) (ps qs : List Passed) → peak n (ps ++ qs) ≡ peak (peak n ps) qs

@@ -2,9 +2,7 @@
 -- cache holds and the schedule does not.
 use Rattle.std.proofs.Common.{◌≡◌, ℕ, zero, suc, ◌+◌, ◌*◌, ◌≤◌, Bool, true, false, ◌&&◌, cond, List, [], ◌∷◌}
 use Rattle.std.proofs.Common.{◌++◌, length, filter, refl, ap, ◌∙◌, arith, le_refl, zero-le}
-use Rattle.std.specs.Cmp.{IsEquivalence}
-use Rattle.std.specs.List.{AllByRecursion, IsDistinct}
-use Rattle.std.specs.Set.{is_member}
+use Rattle.std.specs.{Cmp.IsEquivalence, List.{AllByRecursion, IsDistinct}, Set.is_member}
 use Rattle.std.proofs.lemmas.Map.Made.{length-le_from_is_member, is_member-filter}
 use Rattle.hashlink_model.proofs.Distinct.{each-weaker}
 use Rattle.hashlink_model.proofs.Members.{is_member-equal, none_from_is_member, IsDistinct-filter}

@@ -1,18 +1,14 @@
 -- The misses of a cache that always has c keys are bounded by the misses of any schedule, by comparing their
 -- steps one by one.
 use Rattle.std.proofs.Common.{◌≡◌, ℕ, ◌+◌, ◌-◌, ◌*◌, ◌≤◌, Bool, true, false, cond, List, [], ◌∷◌, ◌++◌, drop}
-use Rattle.std.proofs.Common.{length, refl, sym, ap, ◌∙◌, arith, length-append}
-use Rattle.std.specs.Cmp.{IsEquivalence}
-use Rattle.std.specs.List.{IsDistinct}
-use Rattle.std.specs.Set.{is_member, remove_key}
-use Rattle.std.proofs.lemmas.Map.Keys.{IsDistinct-push, IsDistinct-tail}
-use Rattle.std.proofs.lemmas.Map.Made.{length-remove_key}
-use Rattle.hashlink_history.specs.History.{IsSchedule, misses_from}
-use Rattle.hashlink_model.proofs.Members.{is_member-equal}
+use Rattle.std.{proofs.Common.{length, refl, sym, ap, ◌∙◌, arith, length-append}, specs.Cmp.IsEquivalence}
+use Rattle.std.specs.{List.IsDistinct, Set.{is_member, remove_key}}
+use Rattle.std.proofs.lemmas.Map.{Keys.{IsDistinct-push, IsDistinct-tail}, Made.length-remove_key}
 use Rattle.hashlink_history.proofs.Potential.{triangle, outside, ranks, ranks-at_least, outside-at_least}
-use Rattle.hashlink_history.proofs.Potential.{outside-one_more, ranks-hit, ranks-miss}
 use Rattle.hashlink_history.proofs.Pursuit.{triangle_mono, Follows, follow, key_at, removed_gone}
-use Rattle.hashlink_history.proofs.Pursuit.{removed_distinct}
+use Rattle.hashlink_history.{specs.History.{IsSchedule, misses_from}, proofs.Pursuit.removed_distinct}
+use Rattle.hashlink_history.proofs.Potential.{outside-one_more, ranks-hit, ranks-miss}
+use Rattle.hashlink_model.proofs.Members.{is_member-equal}
 
 sums : (a l m r s t u c p q : ℕ) → a * l + s ≤ r → r ≤ t + p → a * m + u ≤ c * q + s → (n : ℕ) → p ≤ c * n
     → a * (l + m) + u ≤ c * (n + q) + t

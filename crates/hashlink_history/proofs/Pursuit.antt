@@ -2,16 +2,13 @@
 -- two states.
 use Rattle.std.proofs.Common.{◌≡◌, ℕ, zero, suc, ◌+◌, ◌≤◌, ◌<◌, Bool, true, false, ◌||◌, cond, List, [], ◌∷◌}
 use Rattle.std.proofs.Common.{◌++◌, length, refl, sym, ap, ◌⊎◌, inl, inr, arith, true≢false, zero-le}
-use Rattle.std.proofs.Common.{not-suc-le-zero, le_of_suc-le-suc}
-use Rattle.std.specs.Cmp.{IsEquivalence}
-use Rattle.std.specs.List.{AllByRecursion, IsDistinct}
-use Rattle.std.specs.Set.{is_member, remove_key}
-use Rattle.std.proofs.lemmas.Bool.{cases_lt}
-use Rattle.std.proofs.lemmas.Map.Made.{length-le_from_is_member, length-remove_key}
+use Rattle.std.{proofs.Common.{not-suc-le-zero, le_of_suc-le-suc}, specs.Cmp.IsEquivalence}
+use Rattle.std.specs.{List.{AllByRecursion, IsDistinct}, Set.{is_member, remove_key}}
+use Rattle.std.proofs.lemmas.{Bool.cases_lt, Map.Made.{length-le_from_is_member, length-remove_key}}
 use Rattle.hashlink_history.specs.History.{MayHold}
+use Rattle.hashlink_history.proofs.Potential.{triangle, ranks, one_more, ranks-fewer, ranks-all_but_one}
 use Rattle.hashlink_model.proofs.Members.{is_member-equal, none_from_is_member, is_member_from_none}
 use Rattle.hashlink_model.proofs.Distinct.{answers_alike}
-use Rattle.hashlink_history.proofs.Potential.{triangle, ranks, one_more, ranks-fewer, ranks-all_but_one}
 
 pub triangle_mono : (m n : ℕ) → m ≤ n → triangle m ≤ triangle n
 triangle_mono zero n l = zero-le

@@ -1,23 +1,17 @@
 -- The keys of a history, each once, in the order of their last uses. A cache of capacity c holds the last c
 -- of them.
-use Rattle.std.proofs.lemmas.Slice.Zip.{AllZip-long}
 use Rattle.std.proofs.Common.{◌≡◌, ℕ, ◌+◌, ◌-◌, ◌≤◌, ◌<◌, Bool, true, false, not, ◌&&◌, cond, List, [], ◌∷◌}
 use Rattle.std.proofs.Common.{◌++◌, length, take, drop, nat_lt, refl, sym, ap, ap₂, ◌∙◌, ◌⊎◌, inl, inr, subst}
 use Rattle.std.proofs.Common.{arith, append_assoc, length-append, length-take, length-drop, take-append-drop}
-use Rattle.std.proofs.Common.{drop_at, lt-ltb, le-ltb, true≢false, min, get_or}
-use Rattle.std.specs.Cmp.{IsEquivalence}
-use Rattle.std.specs.List.{AllByRecursion, AllZip, IsDistinct, suffix_len, after_last}
-use Rattle.std.specs.Set.{is_member, unique_keys, remove_key, distinct_count}
-use Rattle.std.proofs.Math.Seq.{drop-append-add}
-use Rattle.std.proofs.lemmas.Bool.{cases_lt}
+use Rattle.std.proofs.lemmas.{Slice.Zip.AllZip-long, List.Sums.suffix_len_is}
+use Rattle.std.proofs.{Common.{drop_at, lt-ltb, le-ltb, true≢false, min, get_or}, Math.Seq.drop-append-add}
+use Rattle.std.specs.{Cmp.IsEquivalence, List.{AllByRecursion, AllZip, IsDistinct, suffix_len, after_last}}
+use Rattle.std.{specs.Set.{is_member, unique_keys, remove_key, distinct_count}, proofs.lemmas.Bool.cases_lt}
 use Rattle.std.proofs.lemmas.List.{nil_from_length, drop-append-le, get_or-append_right, get_or_at}
-use Rattle.std.proofs.lemmas.List.Elements.{All-from_recursion}
-use Rattle.std.proofs.lemmas.List.Sums.{suffix_len_is}
-use Rattle.std.proofs.lemmas.Map.Made.{length-remove_key}
+use Rattle.std.proofs.lemmas.{List.Elements.All-from_recursion, Map.Made.length-remove_key}
 use Rattle.hashlink_history.specs.History.{reuse_distance, recent_keys}
-use Rattle.hashlink_model.proofs.Distinct.{each-right}
 use Rattle.hashlink_model.proofs.Members.{is_member-equal, is_member-append, none_from_is_member}
-use Rattle.hashlink_model.proofs.Members.{is_member_from_none}
+use Rattle.hashlink_model.proofs.{Distinct.each-right, Members.is_member_from_none}
 
 -- ---- lists whose items are related at each index
 

@@ -2,26 +2,17 @@
 -- were used since.
 use Rattle.std.proofs.Common.{◌≡◌, ℕ, ◌-◌, Bool, true, false, ◌&&◌, List, [], ◌∷◌, ◌++◌, length, nat_lt}
 use Rattle.std.proofs.Common.{is_some, None, Some, refl, sym, ap, subst₂, ◌∙◌, inl, inr, subst, arith}
-use Rattle.std.proofs.Common.{length-append}
-use Rattle.std.specs.Cmp.{IsEquivalence}
-use Rattle.std.specs.Option.{option_map_or}
-use Rattle.std.specs.List.{AllZip}
-use Rattle.std.specs.Map.{lookup}
-use Rattle.std.specs.Set.{is_member, remove_key, distinct_count}
-use Rattle.std.proofs.lemmas.Bool.{cases_lt}
-use Rattle.hashlink_model.specs.Entries.{put, without, stored_key}
-use Rattle.hashlink_model.specs.Cache.{front_evicted, cache_put, cache_get, cache_use}
-use Rattle.hashlink_history.specs.History.{reuse_distance, recent_keys, HoldsRecent}
-use Rattle.hashlink_model.proofs.Distinct.{answers_alike}
-use Rattle.hashlink_model.proofs.Splits.{none_from_lookup}
-use Rattle.hashlink_model.proofs.Finds.{stored_key-equal}
-use Rattle.hashlink_model.proofs.Puts.{put_back, put_back_absent}
-use Rattle.hashlink_model.proofs.Afterwards.{length-put_there, moved-there}
+use Rattle.std.{proofs.Common.length-append, specs.Cmp.IsEquivalence, specs.Option.option_map_or}
+use Rattle.std.specs.{List.AllZip, Map.lookup, Set.{is_member, remove_key, distinct_count}}
+use Rattle.std.proofs.{lemmas.Bool.cases_lt, Math.Seq.drop-nil}
 use Rattle.hashlink_model.proofs.Caches.{front_evicted-within, front_evicted-above, last_entries-within}
-use Rattle.hashlink_model.proofs.Caches.{cache_put-evicts}
+use Rattle.hashlink_model.{specs.Entries.{put, without, stored_key}, proofs.Puts.{put_back, put_back_absent}}
+use Rattle.hashlink_model.specs.Cache.{front_evicted, cache_put, cache_get, cache_use}
+use Rattle.hashlink_model.proofs.{Distinct.answers_alike, Finds.stored_key-equal, Caches.cache_put-evicts}
+use Rattle.hashlink_model.proofs.{Splits.none_from_lookup, Afterwards.{length-put_there, moved-there}}
 use Rattle.hashlink_history.proofs.Recency.{zip_push, zip_drop_one, zip_length, is_recent, recent_keys-there}
+use Rattle.hashlink_history.specs.History.{reuse_distance, recent_keys, HoldsRecent}
 use Rattle.hashlink_history.proofs.Recency.{recent_keys-full, recent_keys-room, length-recent_keys}
-use Rattle.std.proofs.Math.Seq.{drop-nil}
 
 module _ {K V : Type 0} (eq : K → K → Bool) (laws : IsEquivalence eq) where
   pub found_is_member : (k : K) (es : List (K × V)) (ks : List K) → AllZip (λ e q. eq e.0 q ≡ true) es ks

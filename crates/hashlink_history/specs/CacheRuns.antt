@@ -1,9 +1,7 @@
 -- Several calls of a cache, none of them refused: what it holds after them, and what each call returned.
-use Rattle.std.specs.Prelude.{◌≡◌, ℕ, Bool, true, false, List, [], ◌∷◌, Option}
-use Rattle.std.specs.List.{AllByRecursion}
+use Rattle.std.specs.{Prelude.{◌≡◌, ℕ, Bool, true, false, List, [], ◌∷◌, Option}, List.AllByRecursion}
 use Rattle.std.specs.Map.{lookup}
-use Rattle.hashlink_model.specs.Entries.{without}
-use Rattle.hashlink_model.specs.Cache.{cache_put, cache_use}
+use Rattle.hashlink_model.specs.{Entries.without, Cache.{cache_put, cache_use}}
 
 -- one call, with its key, and with its value if it has one
 pub data CacheEvent (K V : Type 0) : Type 0 where

@@ -1,7 +1,6 @@
 -- Histories: the keys that were used, in order, and what a replacement policy may hold.
 use Rattle.std.specs.Prelude.{◌≡◌, ℕ, ◌+◌, ◌-◌, ◌≤◌, drop, Bool, true, ◌||◌, ◌&&◌, cond, nat_lt, ◌++◌, List}
-use Rattle.std.specs.Prelude.{[], ◌∷◌, length}
-use Rattle.std.specs.List.{AllByRecursion, AllZip, after_last}
+use Rattle.std.specs.{Prelude.{[], ◌∷◌, length}, List.{AllByRecursion, AllZip, after_last}}
 use Rattle.std.specs.Set.{is_member, unique_keys, distinct_count}
 
 module _ {K : Type 0} (eq : K → K → Bool) where

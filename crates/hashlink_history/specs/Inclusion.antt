@@ -1,6 +1,5 @@
 -- The entries of a smaller cache as an end of a larger one's.
-use Rattle.std.specs.Prelude.{◌≡◌, Bool, true, List, ◌++◌, Option, Some, is_some}
-use Rattle.std.specs.List.{AllZip}
+use Rattle.std.specs.{Prelude.{◌≡◌, Bool, true, List, ◌++◌, Option, Some, is_some}, List.AllZip}
 
 module _ {K V : Type 0} (eq : K → K → Bool) where
   -- equal keys; the same with the same value

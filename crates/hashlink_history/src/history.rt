@@ -1,14 +1,10 @@
 //! Worked examples and theorems of histories.
-ghost use Rattle.std.specs.Prelude.{◌≡◌, ℕ, ◌+◌, ◌-◌, ◌*◌, ◌≤◌, max, Bool, ◌&&◌, Some, None};
-ghost use Rattle.std.specs.Prelude.{Result, List, [], ◌∷◌, ◌++◌, length, is_some, nat_eq, nat_lt};
-ghost use Rattle.std.specs.Cmp.{IsEquivalence};
-ghost use Rattle.std.specs.Map.{keys_of, lookup};
-ghost use Rattle.std.specs.Set.{is_member};
-ghost use Rattle.hashlink_model.specs.Cache.{cache_put, cache_use, missed_uses};
+ghost use Rattle.std.specs.Prelude.{◌≡◌, ℕ, ◌+◌, ◌-◌, ◌*◌, ◌≤◌, max, Bool, ◌&&◌, Some, None, Result, List};
+ghost use Rattle.std.specs.{Prelude.{[], ◌∷◌, ◌++◌, length, is_some, nat_eq, nat_lt}, Cmp.IsEquivalence};
+ghost use Rattle.std.specs.{Map.{keys_of, lookup}, Set.is_member};
+ghost use Rattle.hashlink_model.specs.{Cache.{cache_put, cache_use, missed_uses}, Entries.IsEntries};
 ghost use Rattle.hashlink_history.specs.CacheRuns.{CacheEvent, Insert, Use, Remove, Peek, key_of, NoUse};
-ghost use Rattle.hashlink_history.specs.CacheRuns.{NoRemoval};
-ghost use Rattle.hashlink_history.specs.CacheRuns.{used_keys, answer_to, after_events, answers};
-ghost use Rattle.hashlink_model.specs.Entries.{IsEntries};
+ghost use Rattle.hashlink_history.specs.CacheRuns.{NoRemoval, used_keys, answer_to, after_events, answers};
 ghost use Rattle.hashlink_history.specs.History.{reuse_distance, HoldsRecent, Schedule, misses, cache_misses};
 ghost use Rattle.hashlink_history.specs.Numbers as numbers;
 

@@ -1,10 +1,7 @@
 //! Theorems on two caches, of which one is no larger than the other, that get the same steps.
-ghost use Rattle.std.specs.Prelude.{◌≡◌, ℕ, ◌≤◌, Bool, true, List, [], Some, length, is_some};
-ghost use Rattle.std.specs.Cmp.{IsEquivalence};
-ghost use Rattle.std.specs.List.{AllZip};
-ghost use Rattle.std.specs.Map.{lookup};
-ghost use Rattle.hashlink_model.specs.Entries.{IsEntries, without};
-ghost use Rattle.hashlink_model.specs.Cache.{cache_put, cache_use};
+ghost use Rattle.std.specs.{Prelude.{◌≡◌, ℕ, ◌≤◌, Bool, true, List, [], Some, length, is_some}, List.AllZip};
+ghost use Rattle.std.specs.{Cmp.IsEquivalence, Map.lookup};
+ghost use Rattle.hashlink_model.specs.{Entries.{IsEntries, without}, Cache.{cache_put, cache_use}};
 ghost use Rattle.hashlink_history.specs.Inclusion.{IsEndOf, SameKey, SameEntry, AlsoFinds, FindsTheSame};
 ghost use Rattle.hashlink_history.specs.CacheRuns.{CacheEvent, NoUse, after_events, answers};
 

@@ -1,10 +1,8 @@
 //! Worked examples and theorems of the nodes that a run needs at most.
 ghost use Rattle.std.specs.Prelude.{◌≡◌, ℕ, ◌+◌, ◌≤◌, max, Bool, Option, Result, Ok, List, [], ◌∷◌, ◌++◌};
 ghost use Rattle.std.specs.Prelude.{length};
-ghost use Rattle.hashlink_model.specs.Cache.{CacheState, CacheInserts};
-ghost use Rattle.hashlink_model.specs.Entries.{put};
-ghost use Rattle.hashlink_model.specs.MapState.{MapState, node_count, KeepsNodes};
-ghost use Rattle.hashlink_model.specs.Steps.{Clears, Shrinks};
+ghost use Rattle.hashlink_model.specs.{Cache.{CacheState, CacheInserts}, Entries.put};
+ghost use Rattle.hashlink_model.specs.{MapState.{MapState, node_count, KeepsNodes}, Steps.{Clears, Shrinks}};
 ghost use Rattle.hashlink_history.specs.Peak.{Passed, Length, Shrunk, peak, PassesInTurn, Passes};
 
 /// The most nodes that a run needs. A shrink starts this anew.

@@ -2,9 +2,7 @@
 use Rattle.std.specs.Prelude.{◌≡◌, ℕ, ◌+◌, List, [], ◌∷◌, length, Option, None, Some}
 use Rattle.std.proofs.Common.{refl, ap, sym, subst, ◌∙◌, drop, drop-drop, arith, le_refl}
 use Rattle.std.proofs.lemmas.Option.{none-some}
-use Rattle.hashlink_model.specs.MapState.{MapState}
-use Rattle.hashlink_model.specs.Steps.{KeepsOnly, PopsFront}
-use Rattle.hashlink_model.specs.Walk.{first_of}
+use Rattle.hashlink_model.specs.{MapState.MapState, Steps.{KeepsOnly, PopsFront}, Walk.first_of}
 use Rattle.hashlink_model.proofs.NodeCounts.{removes_keeps, keeps_twice}
 
 none_first : {X : Type 0} (xs : List X) → None ≡ first_of xs → xs ≡ drop 1 xs

@@ -1,12 +1,8 @@
 -- The state in which a cache ends, from the state in which its map ends.
-use Rattle.std.specs.Prelude.{◌≡◌, ℕ, Bool, Option, None, Some, OnSome, length}
-use Rattle.std.specs.Option.{option_map_or}
-use Rattle.std.proofs.Common.{ap, sym, ◌∙◌, subst, arith}
-use Rattle.std.proofs.lemmas.Map.{length-set_value}
+use Rattle.std.specs.{Prelude.{◌≡◌, ℕ, Bool, Option, None, Some, OnSome, length}, Option.option_map_or}
+use Rattle.std.proofs.{Common.{ap, sym, ◌∙◌, subst, arith}, lemmas.Map.length-set_value}
 use Rattle.hashlink_model.specs.Cache.{CacheState, CacheGetsMatch, CacheGetsMatchAndWrites, EvictsFront}
-use Rattle.hashlink_model.specs.Entries.{moved_at, moved_match}
-use Rattle.hashlink_model.specs.MapState.{MapState}
-use Rattle.hashlink_model.specs.Steps.{with_match_value}
+use Rattle.hashlink_model.specs.{Entries.{moved_at, moved_match}, MapState.MapState, Steps.with_match_value}
 use Rattle.hashlink_model.proofs.CacheBounds.{within-gets_match, within-gets_match_and_writes}
 use Rattle.hashlink_model.proofs.Splits.{none_from_lookup, place_of-none}
 use Rattle.hashlink_core.specs.Keyed.{Keyed, state_of}

@@ -1,9 +1,7 @@
 -- What an entry of the map shows for the cache that made room before. Assumes nothing.
 use Rattle.std.proofs.Common.{◌≡◌, Bool, refl, sym, subst}
-use Rattle.hashlink_model.specs.Cache.{CacheState, EntersCache, EvictsFront}
-use Rattle.hashlink_model.specs.Entries.{IsEntries}
-use Rattle.hashlink_model.specs.Entry.{EntryState, entry_of}
-use Rattle.hashlink_model.specs.MapState.{MapState}
+use Rattle.hashlink_model.specs.{Cache.{CacheState, EntersCache, EvictsFront}, Entries.IsEntries}
+use Rattle.hashlink_model.specs.{Entry.{EntryState, entry_of}, MapState.MapState}
 
 module _ {K V S : Type 0} (eq : K → K → Bool) (lent : MapState K V S) (k : K) (e : EntryState K V S)
     (is : e ≡ entry_of eq lent k) where

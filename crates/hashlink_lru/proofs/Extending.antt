@@ -1,10 +1,8 @@
 -- Items are inserted into a cache one after another.
 use Rattle.std.specs.Prelude.{◌≡◌, ℕ, Bool, List, [], ◌∷◌, Option, Result, Ok, Err, IsOk}
 use Rattle.std.proofs.Common.{ap, ap₂, sym, subst, ◌∙◌}
-use Rattle.hashlink_model.specs.Cache.{CacheState, IsWithin, cache_extended}
-use Rattle.hashlink_model.specs.Many.{AcceptsAll, StopsAt}
-use Rattle.hashlink_model.proofs.CacheBounds.{within-inserts, within-inserted}
-use Rattle.hashlink_model.proofs.CacheSteps.{inserts_entries}
+use Rattle.hashlink_model.specs.{Cache.{CacheState, IsWithin, cache_extended}, Many.{AcceptsAll, StopsAt}}
+use Rattle.hashlink_model.proofs.{CacheBounds.{within-inserts, within-inserted}, CacheSteps.inserts_entries}
 use Rattle.hashlink_lru.specs.Cached.{InsertsPairIn}
 
 module _ {K V S : Type 0} (eq : K → K → Bool) where

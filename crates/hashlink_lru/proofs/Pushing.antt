@@ -1,18 +1,12 @@
 -- An insert that returns the pair that leaves.
-use Rattle.std.specs.Prelude.{◌≡◌, ℕ, zero, suc, ◌-◌, ◌<◌, Bool, List, [], ◌∷◌, length, take}
-use Rattle.std.specs.Prelude.{Option, None, Some, MatchOption, Ok}
-use Rattle.std.specs.Map.{lookup}
-use Rattle.std.specs.Option.{option_map, option_or}
+use Rattle.std.specs.Prelude.{◌≡◌, ℕ, zero, suc, ◌-◌, ◌<◌, Bool, List, [], ◌∷◌, length, take, Option, None}
+use Rattle.std.specs.{Prelude.{Some, MatchOption, Ok}, Map.lookup, Option.{option_map, option_or}}
 use Rattle.std.proofs.Common.{refl, ap, ap₂, sym, subst, ◌∙◌, arith}
-use Rattle.hashlink_model.specs.Cache.{CacheState, KeepsLast}
-use Rattle.hashlink_model.specs.Entries.{place_of, put}
-use Rattle.hashlink_model.specs.Entry.{InsertsValue}
-use Rattle.hashlink_model.specs.MapState.{MapState, Inserts, AddsEntry, PutsEntry}
-use Rattle.hashlink_model.specs.Walk.{first_of}
+use Rattle.hashlink_model.specs.{Cache.{CacheState, KeepsLast}, Entries.{place_of, put}, Entry.InsertsValue}
+use Rattle.hashlink_model.specs.{MapState.{MapState, Inserts, AddsEntry, PutsEntry}, Walk.first_of}
 use Rattle.hashlink_model.proofs.CacheSteps.{put_entries}
 use Rattle.hashlink_core.proofs.AtKey.{inserted-key}
-use Rattle.hashlink_lru.specs.Evicted.{evicted_by, evicted_entries, Pushes}
-use Rattle.hashlink_lru.proofs.Evicting.{named_parts}
+use Rattle.hashlink_lru.{specs.Evicted.{evicted_by, evicted_entries, Pushes}, proofs.Evicting.named_parts}
 
 first_of-take : {X : Type 0} (n : ℕ) (xs : List X) → 0 < n → first_of (take n xs) ≡ first_of xs
 first_of-take zero xs l = absurd (omega arith)

@@ -1,23 +1,13 @@
 -- What a look-up finds after evictions, and after a value that a use lent was written.
 use Rattle.std.specs.Prelude.{◌≡◌, ◌⊎◌, ℕ, Bool, List, ◌++◌, max, length, take, drop, Option, None, Some}
-use Rattle.std.specs.Prelude.{MatchOption}
-use Rattle.std.specs.Cmp.{IsEquivalence}
-use Rattle.std.specs.Map.{lookup, lookup_entry, set_value}
-use Rattle.std.specs.Option.{option_map}
-use Rattle.std.proofs.Common.{refl, ap, sym, subst, ◌∙◌, is_some, inl, inr, arith}
-use Rattle.std.proofs.Math.Path.{fun_ext}
-use Rattle.std.proofs.lemmas.List.{take-append-drop}
-use Rattle.std.proofs.lemmas.Map.{NonePasses}
-use Rattle.hashlink_model.specs.Cache.{CacheState, CacheGetsAndWrites, last_entries}
-use Rattle.hashlink_model.specs.Entries.{IsEntries, IsKeyTest, moved_match}
-use Rattle.hashlink_model.specs.Lookups.{UpdatesFitting}
-use Rattle.hashlink_model.proofs.CacheUpdates.{evicts-others, updates-pushed}
-use Rattle.hashlink_model.proofs.Finds.{lookup_is}
-use Rattle.hashlink_model.proofs.Remaining.{found_in_end}
-use Rattle.hashlink_model.proofs.Splits.{Stands, splits, lookup-none}
-use Rattle.hashlink_model.proofs.Updates.{updates-lent_moved}
-use Rattle.hashlink_lru.specs.Cached.{PutsNewIn, UpdatesUsed}
-use Rattle.hashlink_lru.specs.Evicted.{EvictsSome}
+use Rattle.std.specs.{Prelude.MatchOption, Cmp.IsEquivalence, Map.{lookup, lookup_entry, set_value}}
+use Rattle.std.{specs.Option.option_map, proofs.Common.{refl, ap, sym, subst, ◌∙◌, is_some, inl, inr, arith}}
+use Rattle.std.proofs.{Math.Path.fun_ext, lemmas.List.take-append-drop, lemmas.Map.NonePasses}
+use Rattle.hashlink_model.specs.{Cache.{CacheState, CacheGetsAndWrites, last_entries}, Lookups.UpdatesFitting}
+use Rattle.hashlink_model.{specs.Entries.{IsEntries, IsKeyTest, moved_match}, proofs.Finds.lookup_is}
+use Rattle.hashlink_model.proofs.{CacheUpdates.{evicts-others, updates-pushed}, Remaining.found_in_end}
+use Rattle.hashlink_model.proofs.{Splits.{Stands, splits, lookup-none}, Updates.updates-lent_moved}
+use Rattle.hashlink_lru.specs.{Cached.{PutsNewIn, UpdatesUsed}, Evicted.EvictsSome}
 
 -- ---- evictions from the front
 

@@ -1,29 +1,21 @@
 -- A use of a key that may be absent, and a write through the value that it lends, which is the last one.
-use Rattle.std.specs.Prelude.{◌≡◌, ℕ, ◌+◌, ◌-◌, ◌<◌, ◌≤◌, max, Bool, List, [], ◌∷◌, ◌++◌, length, take}
-use Rattle.std.specs.Prelude.{drop, Option, None, Some, IsSome, MatchOption, Result, Ok, IsOk}
-use Rattle.std.specs.Borrow.{MutBor}
-use Rattle.std.proofs.lemmas.List.{length-append, drop-append-le}
-use Rattle.std.specs.Cmp.{IsEquivalence}
-use Rattle.std.specs.Map.{lookup}
-use Rattle.std.specs.Option.{option_map, option_copied_mut, UnwrapsOrElse}
+use Rattle.std.specs.Prelude.{◌≡◌, ℕ, ◌+◌, ◌-◌, ◌<◌, ◌≤◌, max, Bool, List, [], ◌∷◌, ◌++◌, length, take, drop}
+use Rattle.std.specs.{Prelude.{Option, None, Some, IsSome, MatchOption, Result, Ok, IsOk}, Borrow.MutBor}
+use Rattle.std.{proofs.lemmas.List.{length-append, drop-append-le}, specs.Cmp.IsEquivalence, specs.Map.lookup}
+use Rattle.std.{specs.Option.{option_map, option_copied_mut, UnwrapsOrElse}, proofs.lemmas.Bool.cases_lt}
 use Rattle.std.proofs.Common.{refl, ap, sym, subst, ◌∙◌, arith, ⊎_elim}
 use Rattle.std.proofs.lemmas.Option.{none-some, same_Some}
 use Rattle.hashlink_model.specs.Cache.{CacheState, CacheGets, CacheGetsAndWrites, last_entries}
 use Rattle.hashlink_model.specs.Entries.{IsEntries, place_of, put, set_value_at, without, stored_key}
-use Rattle.hashlink_model.specs.MapState.{Changes, Inserts, MapState, with_value}
-use Rattle.hashlink_model.specs.Walk.{last_of}
+use Rattle.hashlink_model.specs.{MapState.{Changes, Inserts, MapState, with_value}, Walk.last_of}
 use Rattle.hashlink_model.proofs.Afterwards.{IsEntries-moved, length-put_there, moved-there}
 use Rattle.hashlink_model.proofs.ByPlace.{length-set_value_at, set_value_at-here, set_value_at-place}
-use Rattle.hashlink_model.proofs.CacheBounds.{within-gets_match_and_writes}
+use Rattle.hashlink_model.proofs.{CacheBounds.within-gets_match_and_writes, Finds.stored_key-equal}
 use Rattle.hashlink_model.proofs.Caches.{last_entries-end, last_entries-within, length-last_entries}
-use Rattle.std.proofs.lemmas.Bool.{cases_lt}
-use Rattle.hashlink_model.proofs.CacheSteps.{gets_hit, put_entries}
-use Rattle.hashlink_model.proofs.Finds.{stored_key-equal}
+use Rattle.hashlink_model.proofs.{CacheSteps.{gets_hit, put_entries}, Puts.{put_back, put_back_absent}}
 use Rattle.hashlink_model.proofs.Places.{last_of-append, last_of-end, place_of_its_key}
-use Rattle.hashlink_model.proofs.Puts.{put_back, put_back_absent}
 use Rattle.hashlink_model.proofs.Splits.{none_from_lookup}
-use Rattle.hashlink_map.specs.EntryLends.{PutsLast}
-use Rattle.hashlink_map.proofs.AtNode.{adds-rewritten-at}
+use Rattle.hashlink_map.{specs.EntryLends.PutsLast, proofs.AtNode.adds-rewritten-at}
 use Rattle.hashlink_lru.specs.Cached.{FitsAndWritesLast, FitsUnless, MovesOrMakes, PutsNewIn, UsesAndWrites}
 use Rattle.hashlink_lru.specs.Cached.{StaysWithinOne}
 

@@ -1,16 +1,12 @@
 -- What a contract sees of a cache.
 use Rattle.std.specs.Prelude.{◌≡◌, ◌⊎◌, ℕ, ◌+◌, ◌-◌, ◌≤◌, max, Bool, List, length, Option, None, Result, Err}
-use Rattle.std.specs.Prelude.{MatchOption}
-use Rattle.std.specs.Map.{lookup}
-use Rattle.std.specs.Option.{UnwrapsOrElse}
-use Rattle.hashlink_model.specs.Cache.{CacheState, CacheInserts, CacheGetsAndWrites, IsWithin}
-use Rattle.hashlink_model.specs.Cache.{KeepsLast, OnMap, InsertsLast, InsertsThenFits}
-use Rattle.hashlink_model.specs.Lookups.{UpdatesFitting}
+use Rattle.std.specs.{Prelude.MatchOption, Map.lookup, Option.UnwrapsOrElse}
+use Rattle.hashlink_model.specs.Cache.{CacheState, CacheInserts, CacheGetsAndWrites, IsWithin, KeepsLast}
+use Rattle.hashlink_model.specs.{Cache.{OnMap, InsertsLast, InsertsThenFits}, Lookups.UpdatesFitting}
 use Rattle.hashlink_model.specs.MapState.{MapState, empty_map, with_value}
 use Rattle.hashlink_core.specs.Keyed as keyed
 use Rattle.hashlink_core.specs.Keyed.{Keyed}
-use Rattle.hashlink_map.specs.EntryLends.{PutsLast}
-use Rattle.hashlink_map.specs.declared.try_insert_error.TryInsertError.{TryInsertError}
+use Rattle.hashlink_map.specs.{EntryLends.PutsLast, declared.try_insert_error.TryInsertError.TryInsertError}
 use Rattle.hashlink_map.specs.declared.try_insert_error.TryInsertError.TheVariants.{Make, Memory}
 use Rattle.hashlink_lru.specs.declared.cache.LruCache.{LruCache}
 

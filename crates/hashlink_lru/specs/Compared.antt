@@ -1,10 +1,9 @@
 -- Comparisons of caches, by their entries in order and their capacities, and what they feed a hasher.
-use Rattle.std.specs.Prelude.{◌≡◌, ◌&&◌, Bool, true, List, nat_eq}
 use Rattle.std.specs.Cmp.{IsEquivalence, IsPartialEquivalence, and_equiv, and_per, nat_eq_equiv, on_equiv}
+use Rattle.std.specs.Prelude.{◌≡◌, ◌&&◌, Bool, true, List, nat_eq}
 use Rattle.std.specs.Cmp.{on_per, partial_equiv_from_equiv, second_so}
 use Rattle.hashlink_map.specs.Compared.{maps_alike, maps_eq, maps_equiv, maps_per, map_hash_input}
-use Rattle.hashlink_lru.specs.Cached.{map_of}
-use Rattle.hashlink_lru.specs.declared.cache.LruCache.{LruCache}
+use Rattle.hashlink_lru.specs.{Cached.map_of, declared.cache.LruCache.LruCache}
 
 module _ {K V S T : Type 0} where
   -- whether two caches have equal capacities, and equal entries at each index

@@ -1,15 +1,11 @@
 -- What a contract sees of a drain.
-use Rattle.std.specs.Prelude.{◌≡◌, List, Option}
-use Rattle.std.specs.Borrow.{MutBor}
-use Rattle.std.specs.Map.Iter.{TakesFirst, TakesLast}
-use Rattle.hashlink_model.specs.Cache.{OnMap}
-use Rattle.hashlink_model.specs.Steps.{PopsFront, PopsBack}
+use Rattle.std.specs.{Prelude.{◌≡◌, List, Option}, Borrow.MutBor, Map.Iter.{TakesFirst, TakesLast}}
+use Rattle.hashlink_model.specs.{Cache.OnMap, Steps.{PopsFront, PopsBack}}
 use Rattle.hashlink_core.specs.Drained.{with_drained}
 use Rattle.hashlink_map.specs.Bounds.{EqGhosts, HashGhosts, HasherGhosts, BuilderGhosts}
 use Rattle.hashlink_map.specs.declared.as_drained.AsDrained.{Ghosts as DrainedGhosts}
-use Rattle.hashlink_lru.specs.Cached.{entries_of, map_of, state_of, with_map}
+use Rattle.hashlink_lru.specs.{Cached.{entries_of, map_of, state_of, with_map}, declared.drain.Drain.Drain}
 use Rattle.hashlink_lru.specs.declared.cache.LruCache.{LruCache}
-use Rattle.hashlink_lru.specs.declared.drain.Drain.{Drain}
 
 module _ {K V S T : Type 0} {g : EqGhosts K} {h : HashGhosts K} {b : BuilderGhosts S T}
     {w : HasherGhosts T}

@@ -1,12 +1,8 @@
 -- What an insert evicts, and the step of a push.
-use Rattle.std.specs.Prelude.{◌≡◌, ◌⊎◌, ℕ, ◌-◌, Bool, List, length, take, nat_lt, if◌then◌else◌, Option}
-use Rattle.std.specs.Prelude.{None, Result, IfOk}
-use Rattle.std.specs.Map.{lookup, remove_entry}
-use Rattle.std.specs.Option.{option_map, option_or}
+use Rattle.std.specs.Prelude.{◌≡◌, ◌⊎◌, ℕ, ◌-◌, Bool, List, length, take, nat_lt, if◌then◌else◌, Option, None}
+use Rattle.std.specs.{Prelude.{Result, IfOk}, Map.{lookup, remove_entry}, Option.{option_map, option_or}}
 use Rattle.std.specs.Result.{result_map_both}
-use Rattle.hashlink_model.specs.Cache.{CacheState, CacheInserts}
-use Rattle.hashlink_model.specs.Entries.{IsKeyTest, put}
-use Rattle.hashlink_model.specs.Walk.{first_of}
+use Rattle.hashlink_model.specs.{Cache.{CacheState, CacheInserts}, Entries.{IsKeyTest, put}, Walk.first_of}
 
 module _ {K V : Type 0} where
   -- the entries before the last `cap`, which are evicted in order

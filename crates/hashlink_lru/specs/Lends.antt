@@ -5,17 +5,12 @@ use mathlib.Core.Option.{none}
 use Rattle.std.specs.declared.hash.Hasher as hasher
 use Rattle.std.specs.declared.hash.BuildHasher as builder
 use Rattle.hashlink_model.specs.Cache.{CacheGetsMatch, CacheGetsMatchAndWrites, CacheInserts}
-use Rattle.hashlink_model.specs.Entries.{moved_match}
-use Rattle.hashlink_model.specs.Steps.{with_match_value}
-use Rattle.hashlink_core.specs.Keyed.{Keyed}
-use Rattle.hashlink_core.specs.KeyedLends.{HashMembers}
-use Rattle.hashlink_map.specs.Lends.{map_row}
-use Rattle.hashlink_map.specs.declared.try_insert_error.TryInsertError.{TryInsertError}
-use Rattle.hashlink_lru.specs.contracts.cache.LruCache.{the_row}
-use Rattle.hashlink_lru.specs.declared.cache.LruCache.{LruCache}
+use Rattle.hashlink_model.specs.{Entries.moved_match, Steps.with_match_value}
+use Rattle.hashlink_core.specs.{Keyed.Keyed, KeyedLends.HashMembers}
+use Rattle.hashlink_map.specs.{Lends.map_row, declared.try_insert_error.TryInsertError.TryInsertError}
 use Rattle.hashlink_lru.specs.Cached.{FailsToUse, FitsAndWritesLast, SameCapacity, StaysWithin}
-use Rattle.hashlink_lru.specs.Cached.{StaysWithinOne, UsesAndWrites}
-use Rattle.hashlink_lru.specs.Cached.{entries_of, state_of, with_map}
+use Rattle.hashlink_lru.specs.{contracts.cache.LruCache.the_row, declared.cache.LruCache.LruCache}
+use Rattle.hashlink_lru.specs.Cached.{StaysWithinOne, UsesAndWrites, entries_of, state_of, with_map}
 
 module _ (K V S T : RattleType) (g : HashMembers K.Denot) (b : builder.Ghosts S.Denot T.Denot)
     (w : hasher.Ghosts T.Denot) where

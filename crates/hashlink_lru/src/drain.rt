@@ -1,10 +1,8 @@
 //! The draining iterator of a cache.
-ghost use Rattle.std.specs.Prelude.{◌≡◌, Some, IfSome, length};
-ghost use Rattle.std.specs.Iterator.{at_most, UpTo};
+ghost use Rattle.std.specs.{Prelude.{◌≡◌, Some, IfSome, length}, Iterator.{at_most, UpTo}};
 ghost use Rattle.std.specs.Iterator.SizeHint.{IsWithinCount};
 ghost use Rattle.hashlink_core.specs.Drained.{FitsBack, FitsBack-prop};
-ghost use Rattle.hashlink_model.specs.Cache.{OnMap};
-ghost use Rattle.hashlink_model.specs.Steps.{Drains};
+ghost use Rattle.hashlink_model.specs.{Cache.OnMap, Steps.Drains};
 ghost use Rattle.hashlink_lru.specs.Cached.{state_of};
 
 use crate::cache::LruCache;

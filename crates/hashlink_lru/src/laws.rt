@@ -1,17 +1,12 @@
 //! What many items leave in a cache, and what an insert evicts. The functions have empty bodies: their
 //! contracts are the theorems.
-ghost use Rattle.std.specs.Prelude.{◌≡◌, ℕ, ◌+◌, ◌<◌, ◌≤◌, Bool, List, [], ◌∷◌, ◌++◌, length};
-ghost use Rattle.std.specs.Prelude.{Option, None, Some, Result, Ok, Err};
-ghost use Rattle.std.specs.Map.{lookup};
-ghost use Rattle.hashlink_model.specs.Cache.{CacheInserts, CacheState, EvictsFront, IsWithin};
-ghost use Rattle.hashlink_model.specs.Cache.{cache_extended};
-ghost use Rattle.hashlink_model.specs.Entries.{put};
-ghost use Rattle.hashlink_model.specs.Entry.{VacantInserts};
-ghost use Rattle.hashlink_model.specs.Many.{AcceptsAll, StopsAt};
+ghost use Rattle.std.specs.Prelude.{◌≡◌, ℕ, ◌+◌, ◌<◌, ◌≤◌, Bool, List, [], ◌∷◌, ◌++◌, length, Option, None};
+ghost use Rattle.std.specs.{Prelude.{Some, Result, Ok, Err}, Map.lookup};
+ghost use Rattle.hashlink_model.specs.Cache.{CacheInserts, CacheState, EvictsFront, IsWithin, cache_extended};
+ghost use Rattle.hashlink_model.specs.{Entries.put, Entry.VacantInserts, Many.{AcceptsAll, StopsAt}};
 ghost use Rattle.hashlink_model.specs.MapState.{MapState};
 ghost use Rattle.hashlink_map.specs.EntryLends.{PutsLast};
-ghost use Rattle.hashlink_lru.specs.Cached.{InsertsPairIn};
-ghost use Rattle.hashlink_lru.specs.Evicted.{evicted_by, Pushes};
+ghost use Rattle.hashlink_lru.specs.{Cached.InsertsPairIn, Evicted.{evicted_by, Pushes}};
 
 /// Items that are inserted one after another leave the entries that an insert for each leaves, at the same
 /// capacity. The same holds for the items before one that is not inserted because memory runs out. A cache of

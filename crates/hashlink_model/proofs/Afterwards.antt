@@ -3,13 +3,10 @@ use Rattle.hashlink_model.proofs.Names.{ap₂, inl, inr, ◌≡◌, ℕ, ◌+◌
 use Rattle.hashlink_model.proofs.Names.{◌++◌, length, None, Some, refl, sym, ap, ◌∙◌, arith, take, drop}
 use Rattle.hashlink_model.proofs.Names.{option_map_or, IsEquivalence, lookup, lookup_entry, NonePasses}
 use Rattle.hashlink_model.proofs.Names.{take-append-drop, length-append, IsEntries, place_without, without}
-use Rattle.hashlink_model.proofs.Names.{stored_key, put, moved, moved_at}
-use Rattle.hashlink_model.specs.Entries.{moved_match}
 use Rattle.hashlink_model.proofs.Splits.{none_from_lookup, remove_entry-none, remove_entry-here}
-use Rattle.hashlink_model.proofs.Splits.{place_of-none, splits}
-use Rattle.hashlink_model.proofs.Distinct.{each-left}
 use Rattle.hashlink_model.proofs.Finds.{lookup_is, lookup_key_is, stored_key-equal, lookup_entry-without}
-use Rattle.hashlink_model.proofs.Finds.{lookup-equal}
+use Rattle.hashlink_model.{proofs.Names.{stored_key, put, moved, moved_at}, specs.Entries.moved_match}
+use Rattle.hashlink_model.proofs.{Splits.{place_of-none, splits}, Distinct.each-left, Finds.lookup-equal}
 use Rattle.hashlink_model.proofs.Puts.{put_back, put_front, lookup_entry-put, none_without, IsEntries-put}
 pub use Rattle.hashlink_model.proofs.ByPlace.{moved-there}
 

@@ -3,9 +3,8 @@ use Rattle.hashlink_model.proofs.Names.{set_value_same, ◌≡◌, ℕ, zero, su
 use Rattle.hashlink_model.proofs.Names.{◌++◌, length, Some, refl, sym, ap, ap₂, ◌∙◌, arith, lt-ltb}
 use Rattle.hashlink_model.proofs.Names.{length-append, insert, remove, option_map_or, keys_of, lookup}
 use Rattle.hashlink_model.proofs.Names.{remove_entry, set_value, insert_end, none-some, place_of, place_left}
-use Rattle.hashlink_model.proofs.Names.{moved_at, set_value_at, set_key_at, put, moved}
+use Rattle.hashlink_model.proofs.{Names.{moved_at, set_value_at, set_key_at, put, moved}, Puts.put-here}
 use Rattle.hashlink_model.proofs.Splits.{stands_from_place, stands_from_lookup, place_of-here}
-use Rattle.hashlink_model.proofs.Puts.{put-here}
 use Rattle.hashlink_model.proofs.Places.{slice_get_here}
 
 module _ {K V : Type 0} where

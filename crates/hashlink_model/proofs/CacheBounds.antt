@@ -1,14 +1,11 @@
 -- The length of a cache after its calls, and the inserts that are never refused.
-use Rattle.hashlink_model.proofs.Names.{◌≡◌, ℕ, ◌≤◌, ◌<◌, Bool, length, Option, None, Some, Result, Ok}
-use Rattle.hashlink_model.proofs.Names.{Err, ap, arith, length-set_value, put, node_count, Clears, RemovesKey}
-use Rattle.hashlink_model.proofs.Names.{PopsFront, CacheState, CacheInserts, CacheGets}
+use Rattle.hashlink_model.proofs.Names.{◌≡◌, ℕ, ◌≤◌, ◌<◌, Bool, length, Option, None, Some, Result, Ok, Err}
+use Rattle.hashlink_model.proofs.Names.{ap, arith, length-set_value, put, node_count, Clears, RemovesKey}
 use Rattle.hashlink_model.specs.Cache.{OnMap, IsWithin, HasNodeToSpare, SetsCapacity, CacheGetsMatch}
-use Rattle.hashlink_model.specs.Cache.{CacheGetsMatchAndWrites}
-use Rattle.hashlink_model.proofs.Afterwards.{length-moved_match}
-use Rattle.hashlink_model.proofs.Caches.{length-last_entries, cache_put-at_most}
-use Rattle.hashlink_model.proofs.CacheSteps.{put_entries, inserts_entries}
-use Rattle.hashlink_model.proofs.NodeCounts.{moves_match_length}
-use Rattle.hashlink_model.proofs.KeptNodes.{kept-inserts}
+use Rattle.hashlink_model.proofs.Names.{PopsFront, CacheState, CacheInserts, CacheGets}
+use Rattle.hashlink_model.{specs.Cache.CacheGetsMatchAndWrites, proofs.Afterwards.length-moved_match}
+use Rattle.hashlink_model.proofs.{Caches.{length-last_entries, cache_put-at_most}, KeptNodes.kept-inserts}
+use Rattle.hashlink_model.proofs.{CacheSteps.{put_entries, inserts_entries}, NodeCounts.moves_match_length}
 
 -- ---- n entries beyond the capacity
 

@@ -2,10 +2,8 @@
 use Rattle.hashlink_model.proofs.Names.{◌≡◌, Bool, [], ◌∷◌, ◌++◌, length, Option, None, Some, Ok, Err, sym}
 use Rattle.hashlink_model.proofs.Names.{ap, ◌∙◌, MatchOption, Result, refl, option_map_or, lookup, put}
 use Rattle.hashlink_model.proofs.Names.{without, stored_key, MapState, CacheState, cache_use, CacheInserts}
-use Rattle.hashlink_model.proofs.Names.{CacheGets, last_entries, cache_put}
-use Rattle.hashlink_model.specs.Cache.{cache_get, InsertsLast, CacheUses}
-use Rattle.hashlink_model.proofs.Puts.{put_back}
-use Rattle.hashlink_model.proofs.Afterwards.{moved-there}
+use Rattle.hashlink_model.proofs.{Names.{CacheGets, last_entries, cache_put}, Puts.put_back}
+use Rattle.hashlink_model.{specs.Cache.{cache_get, InsertsLast, CacheUses}, proofs.Afterwards.moved-there}
 
 -- an insert at the end
 module _ {K V S : Type 0} (eq : K → K → Bool) (old new : MapState K V S) (k : K) (v : V) where

@@ -3,22 +3,15 @@ use Rattle.hashlink_model.proofs.Names.{◌≡◌, ◌⊎◌, ℕ, ◌-◌, ◌�
 use Rattle.hashlink_model.proofs.Names.{Option, None, Some, inl, inr, refl, sym, ap, ◌∙◌, subst, arith}
 use Rattle.hashlink_model.proofs.Names.{append_assoc, take-append-drop, option_map, IsEquivalence, lookup}
 use Rattle.hashlink_model.proofs.Names.{lookup_entry, IsEntries, put, cache_put, last_entries, without}
-use Rattle.hashlink_model.proofs.Names.{stored_key, false, IsKeyTest, NonePasses}
-use Rattle.std.specs.Map.{AreApart}
-use Rattle.std.proofs.Common.{⊎_elim}
-use Rattle.std.proofs.Math.Path.{fun_ext}
+use Rattle.hashlink_model.{proofs.Names.{stored_key, false, IsKeyTest, NonePasses}, specs.Weights.fitting}
 use Rattle.hashlink_model.specs.Lookups.{EvictsOthers, Updates, UpdatesFitting, UpdatesWithin}
-use Rattle.hashlink_model.specs.Weights.{fitting}
-use Rattle.hashlink_model.proofs.Splits.{Stands, splits, lookup-here, lookup-none}
-use Rattle.hashlink_model.proofs.Distinct.{each-right}
-use Rattle.hashlink_model.proofs.Finds.{lookup_is, stored_key-equal}
-use Rattle.hashlink_model.proofs.Places.{none_before}
-use Rattle.hashlink_model.proofs.Puts.{put_back, IsEntries-put}
-use Rattle.hashlink_model.proofs.Afterwards.{length-put}
+use Rattle.hashlink_model.proofs.{Splits.{Stands, splits, lookup-here, lookup-none}, Distinct.each-right}
+use Rattle.hashlink_model.proofs.{Finds.{lookup_is, stored_key-equal}, Places.none_before}
+use Rattle.hashlink_model.proofs.{Puts.{put_back, IsEntries-put}, Afterwards.length-put}
 use Rattle.hashlink_model.proofs.Caches.{last_entries-end, length-last_entries, cache_put-with_a_place}
-use Rattle.hashlink_model.proofs.Remaining.{last_stays, found_in_end}
-use Rattle.hashlink_model.proofs.Updates.{fails_apart, updates-put}
+use Rattle.hashlink_model.proofs.{Remaining.{last_stays, found_in_end}, Updates.{fails_apart, updates-put}}
 use Rattle.hashlink_model.proofs.Weighted.{fitting-end, length-weighted_put}
+use Rattle.std.{specs.Map.AreApart, proofs.Common.⊎_elim, proofs.Math.Path.fun_ext}
 
 module _ {K V : Type 0} (eq : K → K → Bool) (old new : List (K × V)) (k : K) where
   abbrev IsLeft : (K → Bool) → Type 0

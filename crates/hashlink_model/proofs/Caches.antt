@@ -3,16 +3,12 @@ use Rattle.hashlink_model.proofs.Names.{◌≡◌, ℕ, suc, ◌+◌, ◌-◌, �
 use Rattle.hashlink_model.proofs.Names.{◌∷◌, ◌++◌, length, drop, take, Some, refl, sym, ap, arith, zero}
 use Rattle.hashlink_model.proofs.Names.{length-drop, lt-ltb, take-append-drop, IsEquivalence, lookup}
 use Rattle.hashlink_model.proofs.Names.{lookup_entry, IsEntries, put, last_entries, cache_put, cache_use}
-use Rattle.hashlink_model.proofs.Names.{nat_tests}
-use Rattle.std.proofs.Common.{le-ltb}
-use Rattle.std.proofs.lemmas.Bool.{cases_lt}
-use Rattle.hashlink_model.specs.Cache.{front_evicted, cache_extended}
-use Rattle.hashlink_model.proofs.Distinct.{IsEntries-tail}
-use Rattle.hashlink_model.proofs.Finds.{lookup-equal}
-use Rattle.hashlink_model.proofs.Puts.{IsEntries-put}
 use Rattle.hashlink_model.proofs.Afterwards.{length-put, length-put_absent, length-put_there, length-moved}
+use Rattle.hashlink_model.{proofs.Names.nat_tests, specs.Cache.{front_evicted, cache_extended}}
+use Rattle.hashlink_model.proofs.{Distinct.IsEntries-tail, Finds.lookup-equal, Puts.IsEntries-put}
 use Rattle.hashlink_model.proofs.Afterwards.{IsEntries-moved, lookup-moved, lookup_entry-put_other, moved_is}
 use Rattle.hashlink_model.proofs.Remaining.{lookup-put_remaining, lookup_entry-put_remaining}
+use Rattle.std.proofs.{Common.le-ltb, lemmas.Bool.cases_lt}
 
 module _ {K V : Type 0} where
   pub front_evicted-within : (es : List (K × V)) (cap : ℕ) → length es ≤ cap → front_evicted es cap ≡ es

@@ -1,9 +1,8 @@
 -- What is made of clones of the entries.
 use Rattle.hashlink_model.proofs.Names.{◌≡◌, Bool, true, ◌&&◌, List, [], ◌∷◌, refl, sym, ap, ap₂, ◌∙◌}
-use Rattle.hashlink_model.proofs.Names.{IsEquivalence, AllZip, NonePasses, IsEntries, extended, entries_eq}
 use Rattle.hashlink_model.proofs.Distinct.{answers_alike, IsEntries-cons, IsEntries-head, IsEntries-tail}
-use Rattle.hashlink_model.proofs.Distinct.{none_equal}
-use Rattle.hashlink_model.proofs.Extends.{extended-own}
+use Rattle.hashlink_model.proofs.Names.{IsEquivalence, AllZip, NonePasses, IsEntries, extended, entries_eq}
+use Rattle.hashlink_model.proofs.{Distinct.none_equal, Extends.extended-own}
 
 module _ {K V : Type 0} (eq : K → K → Bool) (laws : IsEquivalence eq) (eqv : V → V → Bool) where
   none_cloned : (k : K) (xs ys : List (K × V))

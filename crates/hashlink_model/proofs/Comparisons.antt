@@ -1,12 +1,10 @@
 -- The laws of the comparisons of maps, from those of their keys and values.
 use Rattle.std.proofs.Common.{Option, Some, ◌≡◌, Bool, true, ◌&&◌, List, [], ◌∷◌, ◌++◌, refl, sym, ap₂}
-use Rattle.std.proofs.Common.{true≢false, arith}
 use Rattle.std.specs.Cmp.{IsEquivalence, IsPartialEquivalence, IsPartialOrder, IsTotalOrder, on_per, and_per}
+use Rattle.std.proofs.{Common.{true≢false, arith}, lemmas.Bool.and_parts}
 use Rattle.std.specs.Cmp.{on_po, then_po, on_equiv, on_total, and_equiv, then_total}
 use Rattle.std.specs.Cmp.Lexicographic.{lists_per, lists_po, lists_equiv, lists_total, lists_ties}
-use Rattle.std.proofs.lemmas.Bool.{and_parts}
-use Rattle.std.specs.Ordering.{eq_by_cmp, ordering_then}
-use Rattle.std.specs.declared.cmp.Ordering.{Ordering}
+use Rattle.std.specs.{Ordering.{eq_by_cmp, ordering_then}, declared.cmp.Ordering.Ordering}
 use Rattle.hashlink_model.specs.Compare.{entries_eq, entries_cmp, entries_partial_cmp, entries_hash_input}
 use Rattle.hashlink_model.specs.Compare.{elements_eq, elements_hash_input}
 

@@ -1,10 +1,8 @@
 -- The place of a cursor after a move, and after an insert.
 use Rattle.hashlink_model.proofs.Names.{◌≡◌, inl, inr, ℕ, ◌+◌, ◌≤◌, Bool, List, [], ◌∷◌, length, refl, arith}
 use Rattle.hashlink_model.proofs.Names.{le_refl, unwrap_or, IsEquivalence, IsEntries, place_of, place_kept}
-use Rattle.std.proofs.Math.Nat.{mod_self}
-use Rattle.std.proofs.lemmas.Option.{slice_get_cases}
-use Rattle.hashlink_model.specs.Cursor.{following_place}
-use Rattle.hashlink_model.proofs.Places.{place_of_its_key}
+use Rattle.hashlink_model.{specs.Cursor.following_place, proofs.Places.place_of_its_key}
+use Rattle.std.proofs.{Math.Nat.mod_self, lemmas.Option.slice_get_cases}
 
 -- ---- moves
 

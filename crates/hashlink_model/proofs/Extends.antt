@@ -1,8 +1,7 @@
 -- Lists after many inserts at the end.
 use Rattle.hashlink_model.proofs.Names.{◌≡◌, Bool, List, [], ◌∷◌, ◌++◌, length, sym, ap, ◌∙◌, append_assoc}
 use Rattle.hashlink_model.proofs.Names.{append-nil, IsEquivalence, IsEntries, put, extended}
-use Rattle.hashlink_model.proofs.Distinct.{none_others, each-left}
-use Rattle.hashlink_model.proofs.Puts.{IsEntries-put, put_back_absent}
+use Rattle.hashlink_model.proofs.{Distinct.{none_others, each-left}, Puts.{IsEntries-put, put_back_absent}}
 
 module _ {K V : Type 0} (eq : K → K → Bool) (laws : IsEquivalence eq) where
   pub IsEntries-extended : (es pairs : List (K × V)) → IsEntries eq es → IsEntries eq (extended eq es pairs)

@@ -1,7 +1,6 @@
 -- A retain by a predicate, as a step of a map: the entries left are a filter of the old ones.
 use Rattle.hashlink_model.proofs.Names.{◌≡◌, Bool, filter, subst, MapState, KeepsOnly}
-use Rattle.hashlink_model.specs.Retain.{RetainsInOrder}
-use Rattle.hashlink_model.proofs.Retains.{keeps_in_order_is_filter}
+use Rattle.hashlink_model.{specs.Retain.RetainsInOrder, proofs.Retains.keeps_in_order_is_filter}
 
 pub retained_by_predicate : {F K V S : Type 0} (T : F → K → V → Bool → V → F → Type 0) (p : K × V → Bool)
     → ((f : F) (k : K) (v : V) (b : Bool) (w : V) (g : F) → T f k v b w g → (b ≡ p (k, v)) × (w ≡ v))

@@ -1,10 +1,8 @@
 -- Many items in turn.
 use Rattle.hashlink_model.proofs.Names.{◌≡◌, ℕ, ◌+◌, ◌≤◌, ◌<◌, Bool, List, [], ◌∷◌, ◌++◌, length, Option}
 use Rattle.hashlink_model.proofs.Names.{None, Some, Result, Ok, ap, ◌∙◌, subst, arith, length-append}
-use Rattle.hashlink_model.proofs.Names.{extended, MapState, InsertsPair}
-use Rattle.hashlink_model.specs.Steps.{Drains}
-use Rattle.hashlink_model.proofs.CacheSteps.{put_entries}
-use Rattle.hashlink_model.specs.Many.{AcceptsAll, StopsAt}
+use Rattle.hashlink_model.{proofs.Names.{extended, MapState, InsertsPair}, specs.Steps.Drains}
+use Rattle.hashlink_model.{proofs.CacheSteps.put_entries, specs.Many.{AcceptsAll, StopsAt}}
 
 module _ {State Item A : Type 0} (step : State → State → Item → Result A Item → Type 0) where
   pub accepts_in_parts : (a b c : State) (xs ys : List Item) → AcceptsAll step a xs b → AcceptsAll step b ys c

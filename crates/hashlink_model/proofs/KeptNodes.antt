@@ -1,11 +1,9 @@
 -- Only a clear and a shrink free nodes, and no step makes a node that is not needed.
 use Rattle.std.proofs.Common.{◌≡◌, ℕ, ◌≤◌, ◌<◌, List, length, Bool, Option, None, Some, Result, Ok, Err, ap}
-use Rattle.std.proofs.Common.{arith}
-use Rattle.hashlink_model.specs.MapState.{MapState, node_count, KeepsNodes, Changes, Inserts}
+use Rattle.std.proofs.{Common.arith, lemmas.Map.length-set_value}
 use Rattle.hashlink_model.specs.Steps.{KeepsOnly, Replaces, Moves, RemovesKey, PopsFront, PopsBack, Clears}
-use Rattle.hashlink_model.specs.Steps.{MovesAndWrites, Reserves}
-use Rattle.std.proofs.lemmas.Map.{length-set_value}
-use Rattle.hashlink_model.proofs.Afterwards.{length-moved}
+use Rattle.hashlink_model.specs.MapState.{MapState, node_count, KeepsNodes, Changes, Inserts}
+use Rattle.hashlink_model.{specs.Steps.{MovesAndWrites, Reserves}, proofs.Afterwards.length-moved}
 use Rattle.hashlink_model.proofs.NodeCounts.{node_count-puts, writes_nodes, moves_nodes}
 
 module _ {K V S : Type 0} (old new : MapState K V S) where

@@ -1,7 +1,6 @@
 -- What a lazy iterator over two sets returns, and its size hints.
 use Rattle.std.proofs.Common.{◌≡◌, ◌+◌, ◌≤◌, Bool, true, List, [], ◌∷◌, ◌++◌, length, filter, Option, None}
-use Rattle.std.proofs.Common.{Some, refl, ap, arith, length-append, le_refl}
-use Rattle.std.specs.Map.Iter.{TakesFirst}
+use Rattle.std.{proofs.Common.{Some, refl, ap, arith, length-append, le_refl}, specs.Map.Iter.TakesFirst}
 use Rattle.hashlink_model.specs.Algebra.{PairWalk, first_passing, left_to_give, left_or_right, pair_step}
 
 module _ {T : Type 0} where

@@ -1,14 +1,11 @@
 -- The results of set algebra: their members and their order; and their elements are pairwise unequal.
 use Rattle.std.proofs.Common.{◌≡◌, Bool, true, false, not, ◌&&◌, ◌||◌, cond, List, [], ◌∷◌, ◌++◌, filter, sym}
-use Rattle.std.proofs.Common.{refl, ap, ap₂, ◌∙◌, true≢false, arith}
-use Rattle.std.specs.Cmp.{IsEquivalence}
-use Rattle.std.specs.List.{AllByRecursion, IsDistinct}
-use Rattle.std.specs.Set.{is_member, IsIntersection, IsDifference}
-use Rattle.hashlink_model.specs.Algebra.{difference_of, intersection_of, union_of, symmetric_difference_of}
-use Rattle.hashlink_model.specs.Algebra.{is_nil}
+use Rattle.std.{proofs.Common.{refl, ap, ap₂, ◌∙◌, true≢false, arith}, specs.Cmp.IsEquivalence}
+use Rattle.std.specs.{List.{AllByRecursion, IsDistinct}, Set.{is_member, IsIntersection, IsDifference}}
 use Rattle.std.proofs.lemmas.Map.Made.{is_member-filter, All-is_member}
 use Rattle.std.proofs.lemmas.List.Elements.{recursion_from_All, filter_passes}
-use Rattle.hashlink_model.proofs.Distinct.{each-append, each-weaker}
+use Rattle.hashlink_model.specs.Algebra.{difference_of, intersection_of, union_of, symmetric_difference_of}
+use Rattle.hashlink_model.{specs.Algebra.is_nil, proofs.Distinct.{each-append, each-weaker}}
 
 module _ {T : Type 0} (eq : T → T → Bool) (laws : IsEquivalence eq) where
   -- equal elements are both members, or neither is

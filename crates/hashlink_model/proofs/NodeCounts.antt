@@ -2,8 +2,7 @@
 use Rattle.hashlink_model.proofs.Names.{◌≡◌, ℕ, sym, List, length, Bool, Option, None, Some, Result, Ok, Err}
 use Rattle.hashlink_model.proofs.Names.{ap, ◌∙◌, arith, set_value, length-set_value, put, moved, MapState}
 use Rattle.hashlink_model.proofs.Names.{node_count, Changes, Inserts, KeepsOnly, Moves, MovesMatch}
-use Rattle.hashlink_model.specs.MapState.{HasRoom, Removes, PutsEntry}
-use Rattle.hashlink_model.specs.Steps.{WritesEntry, Shrinks}
+use Rattle.hashlink_model.specs.{MapState.{HasRoom, Removes, PutsEntry}, Steps.{WritesEntry, Shrinks}}
 use Rattle.hashlink_model.proofs.Afterwards.{length-put_there, length-moved, moved-absent, length-moved_match}
 
 module _ {K V S : Type 0} (old new : MapState K V S) where

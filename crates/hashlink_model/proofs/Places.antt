@@ -2,11 +2,9 @@
 use Rattle.hashlink_model.proofs.Names.{◌≡◌, ℕ, zero, suc, Bool, true, List, [], ◌∷◌, ◌++◌, length, slice_get}
 use Rattle.hashlink_model.proofs.Names.{Some, ap, refl, ◌∙◌, subst, arith, IsEquivalence, lookup_entry}
 use Rattle.hashlink_model.proofs.Names.{NonePasses, none-some, same_Some, IsEntries, place_of, place_or_end}
-use Rattle.hashlink_model.proofs.Names.{stored_key, ◌-◌, ◌≤◌, length-append}
-use Rattle.hashlink_model.specs.Walk.{last_of}
-use Rattle.hashlink_model.proofs.Splits.{place_of-here, lookup_entry-here}
+use Rattle.hashlink_model.{proofs.Names.{stored_key, ◌-◌, ◌≤◌, length-append}, specs.Walk.last_of}
+use Rattle.hashlink_model.proofs.{Splits.{place_of-here, lookup_entry-here}, Finds.lookup_key_is}
 use Rattle.hashlink_model.proofs.Distinct.{none_equal, none_others, each-left}
-use Rattle.hashlink_model.proofs.Finds.{lookup_key_is}
 
 module _ {X : Type 0} where
   pub slice_get_here : (xs : List X) (x : X) (ys : List X) → slice_get (xs ++ x ∷ ys) (length xs) ≡ Some x

@@ -2,10 +2,8 @@
 use Rattle.hashlink_model.proofs.Names.{ap₂, option_to_list, cons_option, ◌≡◌, ℕ, ◌+◌, ◌≤◌, Bool, List, []}
 use Rattle.hashlink_model.proofs.Names.{◌∷◌, ◌++◌, length, None, Some, Err, refl, sym, ap, ◌∙◌, arith}
 use Rattle.hashlink_model.proofs.Names.{IsEquivalence, lookup, IsEntries, place_of, MapState, PopsFront}
-use Rattle.hashlink_model.proofs.Names.{PopsBack, place_kept}
-use Rattle.hashlink_model.proofs.Walks.{first_splits, last_splits}
-use Rattle.hashlink_model.specs.Cursor.{CursorState, CursorInserts}
-use Rattle.hashlink_model.proofs.Cursors.{place_kept-same}
+use Rattle.hashlink_model.proofs.{Names.{PopsBack, place_kept}, Walks.{first_splits, last_splits}}
+use Rattle.hashlink_model.{specs.Cursor.{CursorState, CursorInserts}, proofs.Cursors.place_kept-same}
 
 module _ {K V : Type 0} (eq : K → K → Bool) (laws : IsEquivalence eq) where
   pub vacant : (k : K) (es : List (K × V)) → place_of (eq k) es ≡ None → lookup (eq k) es ≡ None

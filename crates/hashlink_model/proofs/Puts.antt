@@ -3,14 +3,13 @@ use Rattle.hashlink_model.proofs.Names.{◌≡◌, ℕ, ◌+◌, ◌-◌, Bool, 
 use Rattle.hashlink_model.proofs.Names.{length, Some, refl, ◌∙◌, ◌⊎◌, inl, inr, subst, arith, take, drop}
 use Rattle.hashlink_model.proofs.Names.{insert, IsEquivalence, lookup_entry, set_value, NonePasses}
 use Rattle.hashlink_model.proofs.Names.{take-append-drop, insert_end, IsEntries, place_of, place_without}
-use Rattle.hashlink_model.proofs.Names.{without, stored_key, put, nat_tests}
-use Rattle.std.specs.Prelude.{nat_lt}
-use Rattle.std.proofs.lemmas.List.{take_at, drop_at}
 use Rattle.hashlink_model.proofs.Splits.{StandsAt, Stands, splits, stands_from_place, place_of-none}
 use Rattle.hashlink_model.proofs.Splits.{place_of-here, lookup_key-none, lookup_key-here, remove_entry-none}
+use Rattle.hashlink_model.proofs.Names.{without, stored_key, put, nat_tests}
 use Rattle.hashlink_model.proofs.Splits.{remove_entry-here, set_value-here}
 use Rattle.hashlink_model.proofs.Distinct.{none_equal, none_others, IsEntries-middle, IsEntries-insert}
 use Rattle.hashlink_model.proofs.Finds.{stored_key-equal, lookup_entry-middle, lookup_entry-without}
+use Rattle.std.{specs.Prelude.nat_lt, proofs.lemmas.List.{take_at, drop_at}}
 
 module _ {K V : Type 0} (eq : K → K → Bool) where
   -- an absent key is inserted at the place

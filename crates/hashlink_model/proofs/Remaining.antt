@@ -2,12 +2,9 @@
 use Rattle.hashlink_model.proofs.Names.{◌≡◌, ◌≤◌, Bool, true, false, List, [], ◌∷◌, ◌++◌, length, drop, Some}
 use Rattle.hashlink_model.proofs.Names.{sym, ap, ◌∙◌, subst, arith, append_assoc, None, IsEquivalence, lookup}
 use Rattle.hashlink_model.proofs.Names.{lookup_entry, length-append, IsEntries, put, without, stored_key}
-use Rattle.hashlink_model.proofs.Splits.{lookup_entry-none, lookup-here}
+use Rattle.hashlink_model.proofs.{Splits.{lookup_entry-none, lookup-here}, Afterwards.lookup_entry-put_other}
 use Rattle.hashlink_model.proofs.Distinct.{each-right, none_equal, IsEntries-head, IsEntries-tail}
-use Rattle.hashlink_model.proofs.Finds.{stored_key-equal}
-use Rattle.hashlink_model.proofs.Puts.{put_back, IsEntries-put}
-use Rattle.hashlink_model.proofs.Afterwards.{lookup_entry-put_other}
-use Rattle.hashlink_model.proofs.Places.{none_before}
+use Rattle.hashlink_model.proofs.{Finds.stored_key-equal, Puts.{put_back, IsEntries-put}, Places.none_before}
 
 -- an end that is not empty has the last element
 pub last_stays : {X : Type 0} (xs : List X) (x : X) (front back : List X) → xs ++ x ∷ [] ≡ front ++ back

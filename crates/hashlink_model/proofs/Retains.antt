@@ -3,17 +3,14 @@
 use Rattle.hashlink_model.proofs.Names.{recursion_from_All, keys_of, ◌≡◌, Bool, true, false, cond, List, []}
 use Rattle.hashlink_model.proofs.Names.{◌∷◌, ◌++◌, Option, None, Some, filter, refl, sym, ap, ap₂, ◌∙◌, subst}
 use Rattle.hashlink_model.proofs.Names.{arith, IsEquivalence, AllByRecursion, cons_option, lookup_entry}
-use Rattle.hashlink_model.proofs.Names.{NonePasses, none-some, IsEntries}
-use Rattle.std.proofs.lemmas.Map.Keys.{IsDistinct-IsPermutation}
-use Rattle.std.proofs.lemmas.List.Elements.{All-contains_itself, filter-append}
-use Rattle.std.proofs.lemmas.List.Sorted.{IsPermutation-map, IsPermutation-refl, Contains-permutation}
-use Rattle.std.proofs.Common.{Contains}
-use Rattle.std.proofs.lemmas.Option.{slice_get-get_or}
-use Rattle.hashlink_model.specs.Retain.{KeepsInSomeOrder, KeepsInOrder, in_order_of}
 use Rattle.hashlink_model.proofs.Distinct.{IsEntries-cons, IsEntries-head, IsEntries-tail, each-append}
+use Rattle.hashlink_model.proofs.{Names.{NonePasses, none-some, IsEntries}, Places.split_at}
+use Rattle.hashlink_model.specs.Retain.{KeepsInSomeOrder, KeepsInOrder, in_order_of}
 use Rattle.hashlink_model.proofs.Distinct.{each-left, each-right, each-weaker, none_equal, none_others}
 use Rattle.hashlink_model.proofs.Splits.{lookup_entry-none, lookup_entry-here}
-use Rattle.hashlink_model.proofs.Places.{split_at}
+use Rattle.std.proofs.{lemmas.Map.Keys.IsDistinct-IsPermutation, Common.Contains}
+use Rattle.std.proofs.lemmas.{List.Elements.{All-contains_itself, filter-append}, Option.slice_get-get_or}
+use Rattle.std.proofs.lemmas.List.Sorted.{IsPermutation-map, IsPermutation-refl, Contains-permutation}
 
 module _ {F K V : Type 0} (T : F → K → V → Bool → V → F → Type 0) where
   pub keeps_in_order_is_filter : (p : K × V → Bool)

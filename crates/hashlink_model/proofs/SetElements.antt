@@ -7,24 +7,17 @@ use Rattle.hashlink_model.proofs.Names.{lookup_entry, remove_entry, is_member, s
 use Rattle.hashlink_model.proofs.Names.{is_some-lookup, entries_eq, elements_eq, IsEntries, place_of, without}
 use Rattle.hashlink_model.proofs.Names.{stored_key, extended, set_key_at, Inserts, RemovesKey, Moves}
 use Rattle.hashlink_model.proofs.Names.{PopsFront, PopsBack, pairs_of, put_element, replaced, stored_element}
-use Rattle.hashlink_model.proofs.Names.{keys-set_value}
-use Rattle.std.specs.List.{IsDistinct}
-use Rattle.std.specs.Set.{remove_key}
-use Rattle.std.proofs.lemmas.List.{map-append}
-use Rattle.std.proofs.lemmas.Option.{slice_get-map}
+use Rattle.hashlink_model.proofs.Puts.{put_back, put_back_absent, put_front, put_at_its_place}
+use Rattle.hashlink_model.proofs.{Names.keys-set_value, Finds.{lookup_is, lookup_key_is}, ByPlace.moved-there}
 use Rattle.hashlink_model.specs.Sets.{SetState, elements_of, SetInserts, SetReplaces}
 use Rattle.hashlink_model.proofs.Splits.{remove_entry-none, none_from_lookup, lookup_entry-none}
-use Rattle.hashlink_model.proofs.Finds.{lookup_is, lookup_key_is}
-use Rattle.hashlink_model.proofs.Puts.{put_back, put_back_absent, put_front, put_at_its_place}
-use Rattle.hashlink_model.proofs.Puts.{put_after_its_place}
-use Rattle.hashlink_model.proofs.Afterwards.{put_back_twice, put_front_twice}
-use Rattle.hashlink_model.proofs.Places.{place_of_its_key, slice_get-place_or_end}
-use Rattle.hashlink_model.proofs.ByPlace.{moved-there}
-use Rattle.hashlink_model.proofs.Pops.{pops_front, pops_back}
+use Rattle.hashlink_model.proofs.{Puts.put_after_its_place, Afterwards.{put_back_twice, put_front_twice}}
+use Rattle.hashlink_model.proofs.{Places.{place_of_its_key, slice_get-place_or_end}, Extends.extended-own}
+use Rattle.hashlink_model.proofs.{Pops.{pops_front, pops_back}, Clones.clone_is_equal}
 use Rattle.hashlink_model.proofs.SetSteps.{replaced-absent, replaced-there, length_pairs_of}
 use Rattle.hashlink_model.proofs.SetViews.{keys_of-pairs_of, pairs_of-keys_of, keys_of-put}
-use Rattle.hashlink_model.proofs.Extends.{extended-own}
-use Rattle.hashlink_model.proofs.Clones.{clone_is_equal}
+use Rattle.std.{specs.List.IsDistinct, specs.Set.remove_key, proofs.lemmas.List.map-append}
+use Rattle.std.proofs.lemmas.Option.{slice_get-map}
 
 module _ {T V : Type 0} (test : T → Bool) where
   pub keys-remove_entry : (es : List (T × V)) → keys_of (remove_entry test es) ≡ remove_key test (keys_of es)

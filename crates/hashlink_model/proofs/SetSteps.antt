@@ -3,19 +3,12 @@ use Rattle.hashlink_model.proofs.Names.{◌≡◌, ℕ, zero, suc, ◌+◌, Bool
 use Rattle.hashlink_model.proofs.Names.{◌++◌, sym, length, take, drop, slice_get, Some, refl, ap, ap₂, ◌∙◌}
 use Rattle.hashlink_model.proofs.Names.{arith, IsEquivalence, keys_of, is_member, swap_key, is_some-lookup}
 use Rattle.hashlink_model.proofs.Names.{length-keys_of, length-append, take-append-drop, none-some, same_Some}
-use Rattle.hashlink_model.proofs.Names.{place_without}
-use Rattle.hashlink_model.proofs.Names.{without, stored_key, put, pairs_of, put_element, replaced}
-use Rattle.std.specs.List.{IsDistinct}
-use Rattle.hashlink_model.proofs.Distinct.{each-middle, each-weaker}
-use Rattle.hashlink_model.proofs.Finds.{stored_key-equal}
-use Rattle.hashlink_model.proofs.Places.{split_at}
-use Rattle.hashlink_model.proofs.Puts.{IsEntries-put}
-use Rattle.hashlink_model.proofs.Afterwards.{length-put_absent, length-put_there}
+use Rattle.hashlink_model.proofs.Names.{place_without, without, stored_key, put, pairs_of, put_element}
 use Rattle.hashlink_model.proofs.Members.{none_from_is_member, is_member_from_none, is_member-append}
-use Rattle.hashlink_model.proofs.Members.{is_member-equal}
-use Rattle.hashlink_model.proofs.SetViews.{keys_of-pairs_of}
-use Rattle.std.proofs.lemmas.List.{set_at}
-use Rattle.std.proofs.lemmas.Map.Keys.{IsDistinct-push}
+use Rattle.hashlink_model.proofs.{Names.replaced, Distinct.{each-middle, each-weaker}, Finds.stored_key-equal}
+use Rattle.hashlink_model.proofs.{Places.split_at, Puts.IsEntries-put, Members.is_member-equal}
+use Rattle.hashlink_model.proofs.{Afterwards.{length-put_absent, length-put_there}, SetViews.keys_of-pairs_of}
+use Rattle.std.{specs.List.IsDistinct, proofs.lemmas.List.set_at, proofs.lemmas.Map.Keys.IsDistinct-push}
 
 module _ {T : Type 0} (eq : T → T → Bool) where
   -- ---- lengths

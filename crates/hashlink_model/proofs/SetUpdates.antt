@@ -1,9 +1,8 @@
 -- What a lookup of an element finds after a step, from what a lookup of the map's keys finds.
-use Rattle.hashlink_model.proofs.Names.{◌≡◌, Bool, true, false, cond, List, Option, is_some, refl}
-use Rattle.hashlink_model.proofs.Names.{sym, ap, ◌∙◌, keys_of, lookup, is_some-lookup}
-use Rattle.std.specs.Map.{KeepsOthers}
-use Rattle.std.specs.Set.{KeepsOthers as KeepsOtherElements}
+use Rattle.hashlink_model.proofs.Names.{◌≡◌, Bool, true, false, cond, List, Option, is_some, refl, sym, ap}
+use Rattle.hashlink_model.proofs.Names.{◌∙◌, keys_of, lookup, is_some-lookup}
 use Rattle.hashlink_model.specs.Lookups.{UpdatesBy, KeepsLookups, SetUpdatesBy, SetKeepsLookups}
+use Rattle.std.specs.{Map.KeepsOthers, Set.{KeepsOthers as KeepsOtherElements}}
 
 is_some-cond : {X : Type 0} (b : Bool) (x y : Option X)
     → is_some (cond b x y) ≡ cond b (is_some x) (is_some y)

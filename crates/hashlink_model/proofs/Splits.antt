@@ -3,9 +3,7 @@
 use Rattle.hashlink_model.proofs.Names.{◌≡◌, ℕ, Bool, true, false, List, [], ◌∷◌, ◌++◌, length, None, Some}
 use Rattle.hashlink_model.proofs.Names.{◌⊎◌, inl, inr, refl, sym, ap, ◌∙◌, lookup, lookup_entry, lookup_key}
 use Rattle.hashlink_model.proofs.Names.{remove_entry, set_value, NonePasses, same_Some, place_of, IsKeyTest}
-use Rattle.std.proofs.Common.{add-one}
-use Rattle.std.proofs.lemmas.Map.{none_passes_from_lookup}
-use Rattle.std.proofs.Math.Path.{fun_ext}
+use Rattle.std.proofs.{Common.add-one, lemmas.Map.none_passes_from_lookup, Math.Path.fun_ext}
 pub use Rattle.std.proofs.lemmas.Map.{lookup-none}
 
 module _ {K V : Type 0} (test : K → Bool) where

@@ -3,23 +3,15 @@ use Rattle.hashlink_model.proofs.Names.{◌≡◌, ℕ, Bool, true, false, cond,
 use Rattle.hashlink_model.proofs.Names.{Some, Result, Ok, Err, inl, inr, refl, sym, ap, ◌∙◌, subst, is_some}
 use Rattle.hashlink_model.proofs.Names.{append-nil, IsEquivalence, lookup, lookup_entry, remove_entry}
 use Rattle.hashlink_model.proofs.Names.{set_value, MatchOption, IsEntries, IsKeyTest, NonePasses, put}
-use Rattle.hashlink_model.proofs.Names.{TakesFirst, arith}
-use Rattle.std.specs.Prelude.{IsSome, OnOk}
-use Rattle.std.specs.Map.{AreApart, KeepsOthers}
-use Rattle.std.specs.Map.Iter.{TakesLast}
-use Rattle.std.proofs.Common.{⊎_elim}
-use Rattle.std.proofs.Math.Path.{fun_ext}
-use Rattle.std.proofs.lemmas.Bool.{cases_Bool, true≢false}
-use Rattle.std.proofs.lemmas.Map.{lookup-remove_entry, lookup-set_value}
-use Rattle.hashlink_model.specs.Entries.{moved_match}
-use Rattle.hashlink_model.specs.Lookups.{UpdatesBy, Updates, UpdatesPopped, KeepsLookups}
-use Rattle.hashlink_model.specs.Lookups.{UpdatesLent, UpdatesKept, AsAnswered}
-use Rattle.hashlink_model.specs.Retain.{KeepsInOrder}
+use Rattle.hashlink_model.specs.Lookups.{UpdatesBy, Updates, UpdatesPopped, KeepsLookups, UpdatesLent}
 use Rattle.hashlink_model.proofs.Splits.{splits, lookup-none, none_from_lookup, remove_entry-none}
-use Rattle.hashlink_model.proofs.Splits.{remove_entry-here}
+use Rattle.hashlink_model.proofs.{Names.{TakesFirst, arith}, Splits.remove_entry-here, Retains.none_kept}
+use Rattle.hashlink_model.specs.{Entries.moved_match, Lookups.{UpdatesKept, AsAnswered}, Retain.KeepsInOrder}
 use Rattle.hashlink_model.proofs.Distinct.{each-left, none_equal, none_others, IsEntries-head, IsEntries-tail}
 use Rattle.hashlink_model.proofs.Afterwards.{lookup-put, lookup-put_same, lookup-moved, moved_match-none}
-use Rattle.hashlink_model.proofs.Retains.{none_kept}
+use Rattle.std.specs.{Prelude.{IsSome, OnOk}, Map.{AreApart, KeepsOthers}, Map.Iter.TakesLast}
+use Rattle.std.proofs.{Common.⊎_elim, Math.Path.fun_ext, lemmas.Bool.{cases_Bool, true≢false}}
+use Rattle.std.proofs.lemmas.Map.{lookup-remove_entry, lookup-set_value}
 
 -- a key that a query finds fails each test that is apart from the query
 pub fails_apart : {K : Type 0} (test other : K → Bool) → AreApart test other → (k : K) → other k ≡ true

@@ -1,12 +1,10 @@
 -- The longest end of the entries within a budget.
 use Rattle.hashlink_model.proofs.Names.{◌≡◌, ℕ, ◌≤◌, Bool, true, false, cond, List, [], ◌∷◌, ◌++◌, length}
 use Rattle.hashlink_model.proofs.Names.{refl, ◌∙◌, ap, arith, le_refl, length-append, IsEntries, without}
-use Rattle.hashlink_model.proofs.Names.{stored_key, Option, nat_tests}
-use Rattle.std.proofs.Common.{zero-le, nat_le, le-leb}
-use Rattle.hashlink_model.proofs.Distinct.{IsEntries-tail}
-use Rattle.hashlink_model.proofs.Puts.{put_back}
+use Rattle.hashlink_model.proofs.{Names.{stored_key, Option, nat_tests}, Distinct.IsEntries-tail}
+use Rattle.hashlink_model.proofs.{Puts.put_back, CacheSteps.put_entries}
 use Rattle.hashlink_model.specs.Weights.{WeightedState, WeightedInserts, total_weight, fitting, weighted_put}
-use Rattle.hashlink_model.proofs.CacheSteps.{put_entries}
+use Rattle.std.proofs.Common.{zero-le, nat_le, le-leb}
 
 module _ {K V : Type 0} where
   pub fitting-fits : (es : List (K × (V × ℕ))) (budget : ℕ) → total_weight (fitting es budget) ≤ budget

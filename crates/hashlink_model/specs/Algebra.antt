@@ -1,7 +1,6 @@
 -- Set algebra: the results for two sets, as lists of elements, and the size hints of the lazy iterators.
 use Rattle.std.specs.Prelude.{ℕ, ◌+◌, ◌^◌, Bool, true, false, not, cond, List, [], ◌∷◌, ◌++◌, length, Option}
-use Rattle.std.specs.Prelude.{Some, None, nat_lt, filter}
-use Rattle.std.specs.Set.{is_member}
+use Rattle.std.specs.{Prelude.{Some, None, nat_lt, filter}, Set.is_member}
 
 -- a list without elements
 abbrev pub is_nil : {T : Type 0} → List T → Bool

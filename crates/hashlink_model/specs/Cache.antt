@@ -1,10 +1,8 @@
 -- Caches: a map and its capacity.
 use Rattle.std.specs.Prelude.{◌≡◌, ℕ, ◌+◌, ◌-◌, ◌≤◌, ◌<◌, Bool, cond, List, [], ◌∷◌, length, drop, nat_lt, Ok}
 use Rattle.std.specs.Prelude.{if◌then◌else◌, is_some, Option, Some, Result, MatchOption, MatchResult, fold}
-use Rattle.std.specs.Map.{lookup}
-use Rattle.std.specs.Option.{option_map_or}
-use Rattle.hashlink_model.specs.Entries.{put, moved}
-use Rattle.hashlink_model.specs.Entry.{EntryState, entry_of}
+use Rattle.std.specs.{Map.lookup, Option.option_map_or}
+use Rattle.hashlink_model.specs.{Entries.{put, moved}, Entry.{EntryState, entry_of}}
 use Rattle.hashlink_model.specs.MapState.{MapState, node_count, AddsEntry, PutsEntry, RefusesEntry}
 use Rattle.hashlink_model.specs.Steps.{KeepsOnly, MovesMatch, MovesMatchAndWrites}
 

@@ -1,8 +1,7 @@
 -- Comparisons of maps and sets, and what they feed to a hasher.
-use Rattle.std.specs.Prelude.{Bool, ◌&&◌, List, ◌++◌, Option, flat_map}
+use Rattle.std.specs.{Prelude.{Bool, ◌&&◌, List, ◌++◌, Option, flat_map}, declared.cmp.Ordering.Ordering}
 use Rattle.std.specs.Cmp.Lexicographic.{pointwise, slice_cmp, slice_partial_cmp}
 use Rattle.std.specs.Ordering.{ordering_then, partial_ordering_then}
-use Rattle.std.specs.declared.cmp.Ordering.{Ordering}
 
 module _ {K V : Type 0} where
   -- whether both have the same length, and at each place an equal key and an equal value

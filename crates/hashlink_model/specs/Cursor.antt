@@ -2,8 +2,7 @@
 -- guard.
 use Rattle.std.specs.Prelude.{◌≡◌, ℕ, ◌+◌, ◌%◌, ◌≤◌, Bool, List, length, slice_get, Option, Result}
 use Rattle.std.specs.Option.{option_map_or}
-use Rattle.hashlink_model.specs.Entries.{place_or_end}
-use Rattle.hashlink_model.specs.MapState.{MapState, Inserts, with_value}
+use Rattle.hashlink_model.specs.{Entries.place_or_end, MapState.{MapState, Inserts, with_value}}
 
 -- the place after i, and the place before i, in a list of n entries
 abbrev pub following_place : ℕ → ℕ → ℕ

@@ -3,8 +3,7 @@
 -- the list keeps.
 use Rattle.std.specs.Prelude.{◌≡◌, IsTrue, ℕ, zero, suc, ◌-◌, ◌+◌, Bool, List, [], ◌∷◌, length, Option, None}
 use Rattle.std.specs.Prelude.{Some, cond, if◌then◌else◌, nat_lt, unwrap_or, insert, remove, slice_get, fold}
-use Rattle.std.specs.List.{IsDistinct}
-use Rattle.std.specs.Option.{option_map, option_map_or}
+use Rattle.std.specs.{List.IsDistinct, Option.{option_map, option_map_or}}
 use Rattle.std.specs.Map.{keys_of, lookup_key, remove_entry}
 
 -- if a test of keys passes a key, it passes exactly the keys that equal it

@@ -1,10 +1,8 @@
 -- Entries: the place of a key that was looked up in a map, occupied or vacant, and the steps at it.
 use Rattle.std.specs.Prelude.{◌≡◌, ℕ, ◌<◌, Bool, List, length, slice_get, Option, Some, MatchOption, Result}
-use Rattle.std.specs.Prelude.{MatchResult}
-use Rattle.std.specs.Option.{option_map, option_map_or}
-use Rattle.std.specs.Map.{lookup}
-use Rattle.hashlink_model.specs.Entries.{place_of, put, set_value_at, set_key_at, moved_at}
+use Rattle.std.specs.{Prelude.MatchResult, Option.{option_map, option_map_or}, Map.lookup}
 use Rattle.hashlink_model.specs.MapState.{MapState, Changes, AddsEntry, RefusesEntry, RemovesAt, MovesAt}
+use Rattle.hashlink_model.specs.Entries.{place_of, put, set_value_at, set_key_at, moved_at}
 use Rattle.hashlink_model.specs.MapState.{WritesAt, SetsKeyAt}
 
 -- the map, the place of the entry, or `None` if it is vacant, and the given key

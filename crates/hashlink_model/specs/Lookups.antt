@@ -1,10 +1,7 @@
 -- What a lookup finds after a change of the entries, in the words of std's maps and sets.
 use Rattle.std.specs.Prelude.{◌≡◌, ◌⊎◌, ℕ, ◌<◌, Bool, false, cond, List, length, Option, Some, None, IfSome}
-use Rattle.std.specs.Prelude.{MatchOption}
-use Rattle.std.specs.List.{list_any}
+use Rattle.std.specs.{Prelude.MatchOption, List.list_any, Set.{is_member, KeepsOthers as KeepsOtherElements}}
 use Rattle.std.specs.Map.{AreApart, lookup, lookup_entry, set_value, KeepsOthers}
-use Rattle.std.specs.Set.{is_member}
-use Rattle.std.specs.Set.{KeepsOthers as KeepsOtherElements}
 use Rattle.hashlink_model.specs.Entries.{IsKeyTest, put}
 
 module _ {K V : Type 0} (eq : K → K → Bool) where

@@ -1,9 +1,7 @@
 -- A map, as contracts see it, and the steps between two such states. The contract of a call names its step.
 use Rattle.std.specs.Prelude.{◌≡◌, ℕ, ◌-◌, ◌+◌, ◌*◌, ◌≤◌, ◌<◌, max, Bool, List, [], length, Option, None}
-use Rattle.std.specs.Prelude.{Some, Result, MatchOption, MatchResult, insert, remove, refl}
-use Rattle.std.specs.Coded.{Coded, code_by, coded×, coded_list, coded_ℕ}
-use Rattle.std.specs.Int.{IsPowerOfTwo}
-use Rattle.std.specs.Map.{lookup}
+use Rattle.std.specs.{Prelude.{Some, Result, MatchOption, MatchResult, insert, remove, refl}, Map.lookup}
+use Rattle.std.specs.{Coded.{Coded, code_by, coded×, coded_list, coded_ℕ}, Int.IsPowerOfTwo}
 use Rattle.hashlink_model.specs.Entries.{put, moved_at, set_value_at, set_key_at}
 
 -- the entries, the number of free nodes, the room (for how many nodes), how many links were stored so far,

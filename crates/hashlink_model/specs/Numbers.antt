@@ -1,9 +1,7 @@
 -- The definitions for keys, values and elements that are numbers, for examples to which they compute.
 use Rattle.std.specs.Prelude.{ℕ, Bool, true, not, List, length, fold, Option, nat_eq}
 use Rattle.std.specs.Map as map
-use Rattle.std.specs.Ordering.{nat_cmp}
-use Rattle.std.specs.Set.{is_member}
-use Rattle.std.specs.declared.cmp.Ordering.{Ordering}
+use Rattle.std.specs.{Ordering.nat_cmp, Set.is_member, declared.cmp.Ordering.Ordering}
 use Rattle.hashlink_model.specs.Algebra as algebra
 use Rattle.hashlink_model.specs.Cache as cache
 use Rattle.hashlink_model.specs.Compare as compare

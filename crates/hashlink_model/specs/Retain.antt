@@ -1,10 +1,8 @@
 -- Retains. T f k v b w g states that a call of the closure f on the key k and the value v may return b, leave
 -- the value w, and leave the closure as g.
-use Rattle.std.specs.Prelude.{◌≡◌, Bool, List, [], ◌∷◌, cond, IsPermutation}
-use Rattle.std.specs.List.{filter_map}
+use Rattle.std.specs.{Prelude.{◌≡◌, Bool, List, [], ◌∷◌, cond, IsPermutation}, List.filter_map}
 use Rattle.std.specs.Map.{lookup_entry}
-use Rattle.hashlink_model.specs.MapState.{MapState}
-use Rattle.hashlink_model.specs.Steps.{KeepsOnly}
+use Rattle.hashlink_model.specs.{MapState.MapState, Steps.KeepsOnly}
 
 -- the pairs `kept`, in the order that their keys have in es
 abbrev pub in_order_of : {K V : Type 0} → (K → K → Bool) → List (K × V) → List (K × V) → List (K × V)

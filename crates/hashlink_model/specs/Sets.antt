@@ -1,11 +1,8 @@
 -- Sets: a set is a map with `()` as value, so its state is a map's, and its steps are the map's steps.
 use Rattle.std.specs.Prelude.{◌≡◌, ℕ, Bool, cond, List, [], ◌∷◌, ◌++◌, length, map, unwrap_or, Option, None}
-use Rattle.std.specs.Prelude.{Some, Result, Ok, Err, MatchOption, MatchResult}
-use Rattle.std.specs.List.{find}
-use Rattle.std.specs.Map.{keys_of}
+use Rattle.std.specs.{Prelude.{Some, Result, Ok, Err, MatchOption, MatchResult}, List.find, Map.keys_of}
 use Rattle.std.specs.Set.{is_member, swap_key}
-use Rattle.hashlink_model.specs.Entries.{place_of, put}
-use Rattle.hashlink_model.specs.Entry.{ReplacesKey}
+use Rattle.hashlink_model.specs.{Entries.{place_of, put}, Entry.ReplacesKey}
 use Rattle.hashlink_model.specs.MapState.{MapState, AddsEntry, RefusesEntry, Inserts}
 
 -- a set as a contract sees it, and its elements, front first

@@ -3,9 +3,8 @@
 use Rattle.std.specs.Prelude.{◌≡◌, ℕ, ◌+◌, ◌-◌, ◌*◌, ◌≤◌, max, Bool, List, [], length, Option, Some}
 use Rattle.std.specs.Prelude.{MatchOption, Result, MatchResult, IsOk, OnOk, OnErr}
 use Rattle.std.specs.Map.{lookup, lookup_entry, remove_entry, set_value}
-use Rattle.hashlink_model.specs.Entries.{moved_match}
 use Rattle.hashlink_model.specs.MapState.{MapState, empty_map, StoresAtMost, Changes, Removes, Grows}
-use Rattle.hashlink_model.specs.MapState.{AddsEntry, RefusesEntry}
+use Rattle.hashlink_model.specs.{Entries.moved_match, MapState.{AddsEntry, RefusesEntry}}
 use Rattle.hashlink_model.specs.Walk.{first_of, after_first_of, last_of, before_last_of}
 
 module _ {K V S : Type 0} where

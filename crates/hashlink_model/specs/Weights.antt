@@ -1,9 +1,7 @@
 -- Entries whose values have a weight, and their longest end within a budget.
 use Rattle.std.specs.Prelude.{◌≡◌, ◌≤◌, ◌<◌, Option, ℕ, Bool, List, [], ◌∷◌, length, sum_by, if◌then◌else◌}
 use Rattle.std.specs.Prelude.{nat_le}
-use Rattle.hashlink_model.specs.Cache.{InsertsLast}
-use Rattle.hashlink_model.specs.Entries.{put}
-use Rattle.hashlink_model.specs.MapState.{MapState, RefusesEntry}
+use Rattle.hashlink_model.specs.{Cache.InsertsLast, Entries.put, MapState.{MapState, RefusesEntry}}
 use Rattle.hashlink_model.specs.Steps.{KeepsOnly}
 
 module _ {K V : Type 0} where

@@ -1,17 +1,12 @@
 //! Examples and laws of set algebra.
 ghost use Rattle.std.specs.Prelude.{◌≡◌, ℕ, ◌+◌, ◌-◌, ◌^◌, ◌≤◌, Bool, true, false, not, List, [], ◌∷◌, None};
-ghost use Rattle.std.specs.Prelude.{Some, length, filter};
-ghost use Rattle.std.specs.Cmp.{IsEquivalence};
-ghost use Rattle.std.specs.List.{IsDistinct};
-ghost use Rattle.std.specs.Option.{IsSomeAnd};
-ghost use Rattle.std.specs.Map.Iter.{TakesFirst};
+ghost use Rattle.std.specs.{Prelude.{Some, length, filter}, Cmp.IsEquivalence, List.IsDistinct};
+ghost use Rattle.std.specs.{Option.IsSomeAnd, Map.Iter.TakesFirst};
 ghost use Rattle.std.specs.Set.{is_member, IsUnion, IsIntersection, IsDifference, IsSymmetricDifference};
 ghost use Rattle.hashlink_model.specs.Algebra.{PairWalk, first_passing, difference_of, intersection_of};
-ghost use Rattle.hashlink_model.specs.Algebra.{union_of};
-ghost use Rattle.hashlink_model.specs.Algebra.{symmetric_difference_of, is_subset, is_disjoint, left_to_give};
-ghost use Rattle.hashlink_model.specs.Algebra.{pair_step, at_most_both, union_hint};
-ghost use Rattle.hashlink_model.specs.Algebra.{symmetric_difference_hint};
-ghost use Rattle.hashlink_model.specs.Algebra.{part_hint};
+ghost use Rattle.hashlink_model.specs.Algebra.{union_of, symmetric_difference_of, is_subset, is_disjoint};
+ghost use Rattle.hashlink_model.specs.Algebra.{left_to_give, pair_step, at_most_both, union_hint};
+ghost use Rattle.hashlink_model.specs.Algebra.{symmetric_difference_hint, part_hint};
 ghost use Rattle.hashlink_model.specs.Numbers as numbers;
 
 /// `1 2` and `3 1` combined, in both orders.

@@ -1,17 +1,12 @@
 //! Examples and laws of caches.
 ghost use Rattle.std.specs.Prelude.{◌≡◌, ℕ, ◌+◌, ◌-◌, ◌*◌, ◌≤◌, ◌<◌, min, max, Bool, true, false, nat_eq};
-ghost use Rattle.std.specs.Prelude.{List, []};
-ghost use Rattle.std.specs.Prelude.{◌∷◌, ◌++◌, Option, None, Some, Result, Ok, Err, length, drop, take};
-ghost use Rattle.std.specs.Prelude.{unwrap_or};
-ghost use Rattle.std.specs.Cmp.{IsEquivalence};
-ghost use Rattle.hashlink_model.specs.Entries.{IsEntries, put, without, stored_key};
+ghost use Rattle.std.specs.Prelude.{List, [], ◌∷◌, ◌++◌, Option, None, Some, Result, Ok, Err, length, drop};
+ghost use Rattle.std.specs.{Prelude.{take, unwrap_or}, Cmp.IsEquivalence, Map.{lookup, lookup_entry}};
 ghost use Rattle.hashlink_model.specs.Cache.{CacheState, OnMap, IsWithin, HasNodeToSpare, InsertsLast};
-ghost use Rattle.hashlink_model.specs.Cache.{CacheInserts};
-ghost use Rattle.hashlink_model.specs.Cache.{CacheGets, CacheGetsAndWrites, SetsCapacity, EntersCache};
-ghost use Rattle.hashlink_model.specs.Cache.{CacheUses};
-ghost use Rattle.hashlink_model.specs.Cache.{front_evicted};
-ghost use Rattle.hashlink_model.specs.Cache.{last_entries, cache_put, cache_get, cache_use, cache_extended};
-ghost use Rattle.std.specs.Map.{lookup, lookup_entry};
+ghost use Rattle.hashlink_model.specs.Cache.{CacheInserts, CacheGets, CacheGetsAndWrites, SetsCapacity};
+ghost use Rattle.hashlink_model.specs.Cache.{EntersCache, CacheUses, front_evicted, last_entries, cache_put};
+ghost use Rattle.hashlink_model.specs.Entries.{IsEntries, put, without, stored_key};
+ghost use Rattle.hashlink_model.specs.Cache.{cache_get, cache_use, cache_extended};
 ghost use Rattle.hashlink_model.specs.MapState.{MapState, StoresAtMost, Changes, node_count};
 ghost use Rattle.hashlink_model.specs.Steps.{KeepsOnly, Clears, RemovesKey, PopsFront, PopsBack};
 ghost use Rattle.hashlink_model.specs.Entry.{EntryState, VacantInserts};

@@ -1,14 +1,11 @@
 //! Examples and laws of comparisons and of hashing.
 ghost use Rattle.std.specs.Prelude.{◌≡◌, ℕ, Bool, true, false, nat_eq, List, [], ◌∷◌, Option, None, Some};
 ghost use Rattle.std.specs.Cmp.{IsEquivalence, IsPartialEquivalence, IsPartialOrder, IsTotalOrder};
-ghost use Rattle.std.specs.List.{AllZip};
-ghost use Rattle.std.specs.Ordering.{eq_by_cmp, nat_cmp};
-ghost use Rattle.std.specs.declared.cmp.Ordering.{Ordering};
+ghost use Rattle.std.specs.{List.AllZip, Ordering.{eq_by_cmp, nat_cmp}, declared.cmp.Ordering.Ordering};
 ghost use Rattle.std.specs.declared.cmp.Ordering.TheVariants.{Less, Greater};
-ghost use Rattle.hashlink_model.specs.Entries.{IsEntries, extended};
 ghost use Rattle.hashlink_model.specs.Compare.{entries_eq, entries_cmp, entries_partial_cmp};
-ghost use Rattle.hashlink_model.specs.Compare.{entries_hash_input};
-ghost use Rattle.hashlink_model.specs.Compare.{elements_eq, elements_hash_input};
+ghost use Rattle.hashlink_model.specs.Entries.{IsEntries, extended};
+ghost use Rattle.hashlink_model.specs.Compare.{entries_hash_input, elements_eq, elements_hash_input};
 ghost use Rattle.hashlink_model.specs.Numbers as numbers;
 
 /// Equality depends on the order of the entries and on the values.

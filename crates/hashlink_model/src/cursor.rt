@@ -1,14 +1,11 @@
 //! Examples and laws of cursors.
 ghost use Rattle.std.specs.Prelude.{Result, Err, ◌≡◌, ℕ, ◌+◌, ◌<◌, ◌≤◌, Bool, List, [], ◌∷◌, ◌++◌, Option};
-ghost use Rattle.std.specs.Prelude.{None, Some, length, slice_get, cond};
-ghost use Rattle.std.specs.Cmp.{IsEquivalence};
+ghost use Rattle.std.specs.{Prelude.{None, Some, length, slice_get, cond}, Cmp.IsEquivalence};
 ghost use Rattle.std.proofs.lemmas.Map.{NonePasses};
-ghost use Rattle.hashlink_model.specs.Entries.{IsEntries, put, without, stored_key};
 ghost use Rattle.hashlink_model.specs.Cursor.{CursorState, IsCursor, CursorInserts, InsertsBefore};
-ghost use Rattle.hashlink_model.specs.Cursor.{InsertsAfter};
-ghost use Rattle.hashlink_model.specs.Cursor.{at_place, place_next, place_previous, place_kept};
-ghost use Rattle.hashlink_model.specs.Cursor.{following_place};
-ghost use Rattle.hashlink_model.specs.Cursor.{preceding_place};
+ghost use Rattle.hashlink_model.specs.Cursor.{InsertsAfter, at_place, place_next, place_previous, place_kept};
+ghost use Rattle.hashlink_model.specs.Entries.{IsEntries, put, without, stored_key};
+ghost use Rattle.hashlink_model.specs.Cursor.{following_place, preceding_place};
 ghost use Rattle.hashlink_model.specs.Numbers as numbers;
 
 /// In an empty map a cursor is on the guard before and after each move.

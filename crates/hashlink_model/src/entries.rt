@@ -1,8 +1,6 @@
 //! Examples and laws of lists of entries.
-ghost use Rattle.std.specs.Prelude.{◌≡◌, ℕ, ◌+◌, Bool, true, false, List, [], ◌∷◌, ◌++◌, None, Some};
-ghost use Rattle.std.specs.Prelude.{length};
-ghost use Rattle.std.specs.Cmp.{IsEquivalence};
-ghost use Rattle.std.specs.Map.{keys_of, lookup, lookup_entry, set_value};
+ghost use Rattle.std.specs.Prelude.{◌≡◌, ℕ, ◌+◌, Bool, true, false, List, [], ◌∷◌, ◌++◌, None, Some, length};
+ghost use Rattle.std.specs.{Cmp.IsEquivalence, Map.{keys_of, lookup, lookup_entry, set_value}};
 ghost use Rattle.hashlink_model.specs.Entries.{IsEntries, place_of, without, put, stored_key, moved};
 ghost use Rattle.hashlink_model.specs.Entries.{extended};
 ghost use Rattle.hashlink_model.specs.Labels as labels;

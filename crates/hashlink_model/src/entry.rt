@@ -1,15 +1,11 @@
 //! Examples and laws of entries and raw entries.
 ghost use Rattle.std.specs.Prelude.{◌≡◌, ◌+◌, ◌≤◌, ◌<◌, ℕ, Bool, true, List, [], ◌∷◌, ◌++◌, None, Some};
-ghost use Rattle.std.specs.Prelude.{length, cond, slice_get, remove, nat_eq};
-ghost use Rattle.std.specs.Cmp.{IsEquivalence};
+ghost use Rattle.std.specs.{Prelude.{length, cond, slice_get, remove, nat_eq}, Cmp.IsEquivalence};
 ghost use Rattle.std.specs.Map.{lookup, lookup_entry};
 ghost use Rattle.hashlink_model.specs.Entries.{IsEntries, place_of, put, moved, moved_at, without};
-ghost use Rattle.hashlink_model.specs.Entries.{set_value_at};
-ghost use Rattle.hashlink_model.specs.Entries.{set_key_at};
 ghost use Rattle.hashlink_model.specs.Entry.{insert_value, insert_entry, or_insert, replace_entry};
-ghost use Rattle.hashlink_model.specs.Entry.{InsertsEntry};
-ghost use Rattle.hashlink_model.specs.Entry.{ReplacesKey, EntryState, RawEntryState, IsEntry, IsRawEntry};
-ghost use Rattle.hashlink_model.specs.Entry.{raw_entry_of};
+ghost use Rattle.hashlink_model.specs.Entry.{InsertsEntry, ReplacesKey, EntryState, RawEntryState, IsEntry};
+ghost use Rattle.hashlink_model.specs.{Entries.{set_value_at, set_key_at}, Entry.{IsRawEntry, raw_entry_of}};
 ghost use Rattle.hashlink_model.specs.MapState.{MapState};
 ghost use Rattle.hashlink_model.specs.Labels as labels;
 ghost use Rattle.hashlink_model.specs.Numbers as numbers;

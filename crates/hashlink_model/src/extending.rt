@@ -1,9 +1,7 @@
 //! Examples and laws of many items in turn.
 ghost use Rattle.std.specs.Prelude.{◌≡◌, ℕ, ◌+◌, ◌-◌, ◌^◌, ◌≤◌, ◌<◌, Bool, nat_eq, List, [], ◌∷◌, ◌++◌};
 ghost use Rattle.std.specs.Prelude.{length};
-ghost use Rattle.hashlink_model.specs.Entries.{extended};
-ghost use Rattle.hashlink_model.specs.MapState.{MapState};
-ghost use Rattle.hashlink_model.specs.Steps.{Drains};
+ghost use Rattle.hashlink_model.specs.{Entries.extended, MapState.MapState, Steps.Drains};
 ghost use Rattle.hashlink_model.specs.Many.{AcceptsAll, StopsAt, MadeFrom, InsertsPair};
 
 /// Three pairs, the last with the key of the first, make a map of two entries. Two pairs extend it, and the

@@ -1,10 +1,8 @@
 //! Examples and laws of retains.
-ghost use Rattle.std.specs.Prelude.{◌≡◌, ℕ, Bool, true, List, [], ◌∷◌, filter, nat_eq};
-ghost use Rattle.std.specs.Cmp.{IsEquivalence};
+ghost use Rattle.std.specs.{Prelude.{◌≡◌, ℕ, Bool, true, List, [], ◌∷◌, filter, nat_eq}, Cmp.IsEquivalence};
 ghost use Rattle.std.specs.Map.Calls.{CalledAtPair};
-ghost use Rattle.hashlink_model.specs.Entries.{IsEntries};
+ghost use Rattle.hashlink_model.specs.{Entries.IsEntries, RetainRows.{PushesOdd, TimesTen, one_to_six}};
 ghost use Rattle.hashlink_model.specs.Retain.{KeepsInSomeOrder, KeepsInOrder, in_order_of};
-ghost use Rattle.hashlink_model.specs.RetainRows.{PushesOdd, TimesTen, one_to_six};
 
 /// A closure that pushes odd keys to a list and returns false for them: it has pushed them in the list's
 /// order, and the even keys are left.

@@ -1,21 +1,13 @@
 //! Examples and laws of sets.
 ghost use Rattle.std.specs.Prelude.{◌≡◌, ℕ, ◌+◌, Bool, true, false, not, ◌||◌, nat_eq, List, [], ◌∷◌, ◌++◌};
-ghost use Rattle.std.specs.Prelude.{Option};
-ghost use Rattle.std.specs.Prelude.{Some, Ok, Err, is_some, length, filter, cond, slice_get, slice_set};
-ghost use Rattle.std.specs.Cmp.{IsEquivalence};
-ghost use Rattle.std.specs.List.{IsDistinct, AllZip, find};
-ghost use Rattle.std.specs.Fn.{CalledAt};
-ghost use Rattle.std.specs.Option.{option_map};
-ghost use Rattle.std.specs.Map.{keys_of};
-ghost use Rattle.std.specs.Set.{is_member, remove_key};
-ghost use Rattle.hashlink_model.specs.Compare.{elements_eq};
-ghost use Rattle.hashlink_model.specs.Entries.{IsEntries, put, extended};
-ghost use Rattle.hashlink_model.specs.MapState.{Inserts};
-ghost use Rattle.hashlink_model.specs.Retain.{KeepsInOrder, KeepsInSomeOrder};
-ghost use Rattle.hashlink_model.specs.Steps.{RemovesKey, Moves, PopsFront, PopsBack};
+ghost use Rattle.std.specs.Prelude.{Option, Some, Ok, Err, is_some, length, filter, cond, slice_get};
+ghost use Rattle.std.specs.{Prelude.slice_set, Cmp.IsEquivalence, List.{IsDistinct, AllZip, find}};
+ghost use Rattle.std.specs.{Fn.CalledAt, Option.option_map, Map.keys_of, Set.{is_member, remove_key}};
 ghost use Rattle.hashlink_model.specs.Sets.{SetState, elements_of, at_element, pairs_of, put_element};
-ghost use Rattle.hashlink_model.specs.Sets.{replaced};
-ghost use Rattle.hashlink_model.specs.Sets.{stored_element, SetInserts, GetsOrInserts, SetReplaces};
+ghost use Rattle.hashlink_model.specs.{Compare.elements_eq, Entries.{IsEntries, put, extended}};
+ghost use Rattle.hashlink_model.specs.{MapState.Inserts, Retain.{KeepsInOrder, KeepsInSomeOrder}};
+ghost use Rattle.hashlink_model.specs.Steps.{RemovesKey, Moves, PopsFront, PopsBack};
+ghost use Rattle.hashlink_model.specs.Sets.{replaced, stored_element, SetInserts, GetsOrInserts, SetReplaces};
 ghost use Rattle.hashlink_model.specs.Labels as labels;
 ghost use Rattle.hashlink_model.specs.Numbers as numbers;
 

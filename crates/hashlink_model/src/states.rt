@@ -1,17 +1,12 @@
 //! Examples and laws of the states of a map, and of the steps between them.
 ghost use Rattle.std.specs.Prelude.{◌≡◌, ℕ, ◌+◌, ◌≤◌, ◌<◌, max, Bool, true, false, List, [], ◌∷◌, ◌++◌};
-ghost use Rattle.std.specs.Prelude.{Option, None};
-ghost use Rattle.std.specs.Prelude.{Some, Result, Ok, Err, IsOk, length, nat_eq};
-ghost use Rattle.std.specs.Cmp.{IsEquivalence};
-ghost use Rattle.std.specs.Map.{keys_of, lookup, lookup_entry};
-ghost use Rattle.hashlink_model.specs.Entries.{IsEntries, without};
+ghost use Rattle.std.specs.Prelude.{Option, None, Some, Result, Ok, Err, IsOk, length, nat_eq};
+ghost use Rattle.std.specs.{Cmp.IsEquivalence, Map.{keys_of, lookup, lookup_entry}};
 ghost use Rattle.hashlink_model.specs.MapState.{MapState, empty_map, node_count, HasRoom, MayRefuse, Changes};
-ghost use Rattle.hashlink_model.specs.MapState.{Adds};
-ghost use Rattle.hashlink_model.specs.MapState.{Removes, Grows, AddsEntry, PutsEntry, Inserts};
-ghost use Rattle.hashlink_model.specs.MapState.{KeepsNodes};
+ghost use Rattle.hashlink_model.specs.MapState.{Adds, Removes, Grows, AddsEntry, PutsEntry, Inserts};
 ghost use Rattle.hashlink_model.specs.Steps.{PopsFront, PopsBack, KeepsOnly, WritesEntry, Replaces, Moves};
 ghost use Rattle.hashlink_model.specs.Steps.{MovesAndWrites, RemovesKey, Clears, Drains, Reserves, Shrinks};
-ghost use Rattle.hashlink_model.specs.Steps.{IsMadeWith};
+ghost use Rattle.hashlink_model.specs.{Entries.{IsEntries, without}, MapState.KeepsNodes, Steps.IsMadeWith};
 
 /// An insert fails only if its key is absent and no node is free. It then returns the pair and changes no
 /// entry.

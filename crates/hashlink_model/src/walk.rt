@@ -1,12 +1,9 @@
 //! Examples and laws of iterators.
 ghost use Rattle.std.specs.Prelude.{◌≡◌, ℕ, ◌-◌, Bool, List, [], ◌∷◌, ◌++◌, Option, None, Some, length};
-ghost use Rattle.std.specs.Map.{keys_of, set_value};
-ghost use Rattle.std.specs.Map.Iter.{TakesFirst, TakesLast};
-ghost use Rattle.hashlink_model.specs.Entries.{place_of, set_value_at};
+ghost use Rattle.std.specs.{Map.{keys_of, set_value}, Map.Iter.{TakesFirst, TakesLast}};
 ghost use Rattle.hashlink_model.specs.Walk.{End, Front, Back, first_of, after_first_of, last_of};
-ghost use Rattle.hashlink_model.specs.Walk.{before_last_of};
-ghost use Rattle.hashlink_model.specs.Walk.{step_gives, step_leaves, walk_gives, walk_leaves, given_front};
-ghost use Rattle.hashlink_model.specs.Walk.{given_back};
+ghost use Rattle.hashlink_model.specs.Walk.{before_last_of, step_gives, step_leaves, walk_gives, walk_leaves};
+ghost use Rattle.hashlink_model.specs.{Entries.{place_of, set_value_at}, Walk.{given_front, given_back}};
 ghost use Rattle.hashlink_model.specs.Numbers as numbers;
 
 /// Two steps from the front, two from the back, and then `None` from both.

@@ -1,12 +1,9 @@
 //! Examples and laws of entries with weights.
 ghost use Rattle.std.specs.Prelude.{Bool, true, false, ◌≡◌, ℕ, ◌+◌, ◌^◌, ◌-◌, ◌≤◌, nat_eq, Option, List, []};
-ghost use Rattle.std.specs.Prelude.{◌∷◌};
-ghost use Rattle.std.specs.Prelude.{◌++◌, Some, None, length};
-ghost use Rattle.std.specs.Cmp.{IsEquivalence};
+ghost use Rattle.std.specs.{Prelude.{◌∷◌, ◌++◌, Some, None, length}, Cmp.IsEquivalence};
 ghost use Rattle.std.specs.Map.{lookup, lookup_entry};
-ghost use Rattle.hashlink_model.specs.Entries.{IsEntries};
 ghost use Rattle.hashlink_model.specs.Weights.{WeightedState, WeightedInserts, WeightedRefuses, IsTooHeavy};
-ghost use Rattle.hashlink_model.specs.Weights.{total_weight, fitting, weighted_put};
+ghost use Rattle.hashlink_model.specs.{Entries.IsEntries, Weights.{total_weight, fitting, weighted_put}};
 ghost use Rattle.hashlink_model.specs.Numbers as numbers;
 
 /// Inserts into caches with the budgets 10 and 5, with the greatest budget, and with 0.

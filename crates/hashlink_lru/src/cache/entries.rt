@@ -7,10 +7,8 @@
 //! the entry is gone, unless a method takes the entry by value at once. `make_room` followed by an entry of
 //! `map_mut` does the same, and the proof then knows everything. `hashlink_uses` has a proved caller for each
 //! form.
-ghost use Rattle.std.specs.Prelude.{◌≡◌};
-ghost use Rattle.std.specs.Borrow.{sem};
-ghost use Rattle.hashlink_model.specs.Cache.{EntersCache, EvictsFront};
-ghost use Rattle.hashlink_model.specs.Entries.{IsEntries};
+ghost use Rattle.std.specs.{Prelude.◌≡◌, Borrow.sem};
+ghost use Rattle.hashlink_model.specs.{Cache.{EntersCache, EvictsFront}, Entries.IsEntries};
 ghost use Rattle.hashlink_core.specs.Keyed as keyed;
 
 use super::LruCache;
@@ -18,10 +16,8 @@ use hashlink_map::{Entry, LinkedHashMap, RawEntryBuilder, RawEntryBuilderMut};
 use std::hash::{BuildHasher, Hash};
 
 impl<K: Eq + Hash, V, S: BuildHasher> LruCache<K, V, S> {
-    ghost use Rattle.hashlink_map.specs.Entry.{entry_map, entry_state};
-    ghost use Rattle.hashlink_map.specs.RawEntry.{read_map, found_map};
-    ghost use Rattle.hashlink_lru.specs.Cached.{entries_of, map_of, state_of};
-    ghost use Rattle.hashlink_lru.specs.Lends.{HandsOnMap, LendsMap};
+    ghost use Rattle.hashlink_map.specs.{Entry.{entry_map, entry_state}, RawEntry.{read_map, found_map}};
+    ghost use Rattle.hashlink_lru.specs.{Cached.{entries_of, map_of, state_of}, Lends.{HandsOnMap, LendsMap}};
 
     /// Returns a mutable reference to the map of the cache, for any of its methods. It takes constant time.
     ///

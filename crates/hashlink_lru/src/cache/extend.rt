@@ -1,12 +1,9 @@
 //! Inserts of many items, and clones.
 ghost use Rattle.std.specs.Prelude.{◌≡◌, Bool, true, List, [], OnOk, OnErr, IfOk, IfErr};
 ghost use Rattle.std.specs.Iterator.{ExtendsWithItems, IsFinite, IsFiniteIterable};
-ghost use Rattle.hashlink_model.specs.Cache.{OnMap};
-ghost use Rattle.hashlink_model.specs.Compare.{entries_eq};
+ghost use Rattle.hashlink_model.specs.{Cache.OnMap, Compare.entries_eq, MapState.Grows};
 ghost use Rattle.hashlink_model.specs.Many.{AcceptsAll, StopsAt, StopsAtLast, MadeFrom, InsertsPair};
-ghost use Rattle.hashlink_model.specs.MapState.{Grows};
-ghost use Rattle.hashlink_map.specs.Cloning.{ArePairClones, IsOfPairClones};
-ghost use Rattle.hashlink_map.specs.Extending.{TakesItems};
+ghost use Rattle.hashlink_map.specs.{Cloning.{ArePairClones, IsOfPairClones}, Extending.TakesItems};
 ghost use Rattle.hashlink_map.specs.Reading.{GivesAll, GivesSome, ReadsAll, ReadsSome};
 
 use super::LruCache;

@@ -1,11 +1,8 @@
 //! Uses of a key that may be absent. A hit returns a reference to the value, as `get_mut` does; a miss makes
 //! the value and inserts it.
-ghost use Rattle.std.specs.Prelude.{◌≡◌, None, Ok, OnOk, IfOk, IfErr};
-ghost use Rattle.std.specs.Borrow.{sem};
+ghost use Rattle.std.specs.{Prelude.{◌≡◌, None, Ok, OnOk, IfOk, IfErr}, Borrow.sem, Map.lookup};
 ghost use Rattle.std.specs.Option.{option_copied_mut, option_map, UnwrapsOrElse};
-ghost use Rattle.std.specs.Map.{lookup};
-ghost use Rattle.hashlink_model.specs.Entries.{IsEntries};
-ghost use Rattle.hashlink_model.specs.Walk.{last_of};
+ghost use Rattle.hashlink_model.specs.{Entries.IsEntries, Walk.last_of};
 ghost use Rattle.hashlink_core.specs.Keyed as keyed;
 ghost use Rattle.hashlink_map.specs.TryInsert.{FailsToInsert, HandsBack};
 ghost use Rattle.hashlink_lru.specs.Cached.{MovesOrMakes, UpdatesUsed};

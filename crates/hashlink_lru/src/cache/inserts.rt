@@ -1,7 +1,6 @@
 //! Inserts, and the evictions of the least recently used entries that make room for them.
 ghost use Rattle.std.specs.Prelude.{◌≡◌, OnOk};
-ghost use Rattle.hashlink_model.specs.Cache.{CacheInserts, EvictsFront, IsWithin, OnMap};
-ghost use Rattle.hashlink_model.specs.Entries.{IsEntries};
+ghost use Rattle.hashlink_model.specs.{Cache.{CacheInserts, EvictsFront, IsWithin, OnMap}, Entries.IsEntries};
 ghost use Rattle.hashlink_model.specs.Lookups.{UpdatesWithin};
 ghost use Rattle.hashlink_lru.specs.Evicted.{EvictsSome};
 

@@ -1,12 +1,7 @@
 //! Inserts that return the pair that leaves the cache.
-ghost use Rattle.std.specs.Prelude.{◌≡◌, IfOk, IsOk, IsSome, OnOk, length};
-ghost use Rattle.std.specs.Map.{lookup};
-ghost use Rattle.std.specs.Option.{option_map};
-ghost use Rattle.hashlink_model.specs.Cache.{IsWithin, KeepsLast, OnMap, cache_put};
-ghost use Rattle.hashlink_model.specs.Entries.{IsEntries};
-ghost use Rattle.hashlink_model.specs.Lookups.{UpdatesWithin};
-ghost use Rattle.hashlink_model.specs.MapState.{Inserts};
-ghost use Rattle.hashlink_model.specs.Walk.{first_of};
+ghost use Rattle.std.specs.{Prelude.{◌≡◌, IfOk, IsOk, IsSome, OnOk, length}, Map.lookup, Option.option_map};
+ghost use Rattle.hashlink_model.specs.{Cache.{IsWithin, KeepsLast, OnMap, cache_put}, Entries.IsEntries};
+ghost use Rattle.hashlink_model.specs.{Lookups.UpdatesWithin, MapState.Inserts, Walk.first_of};
 ghost use Rattle.hashlink_core.specs.Keyed as keyed;
 ghost use Rattle.hashlink_lru.specs.Evicted.{Pushes, evicted_entries, insert_answer, pushed_out};
 

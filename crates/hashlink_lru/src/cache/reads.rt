@@ -1,12 +1,9 @@
 //! Reads of a cache. A `get` is a use and moves its entry to the back; a `peek` does not change the order.
 //! Each hashes the key once, does not allocate, and looks at the entries of one bucket.
-ghost use Rattle.std.specs.Prelude.{◌≡◌, [], IfNone, IfSome, is_some, length, option_copied};
-ghost use Rattle.std.specs.Borrow.{sem};
-ghost use Rattle.std.specs.Option.{option_map, option_copied_mut};
-ghost use Rattle.std.specs.Map.{lookup, remove_entry};
+ghost use Rattle.std.specs.{Prelude.{◌≡◌, [], IfNone, IfSome, is_some, length, option_copied}, Borrow.sem};
+ghost use Rattle.std.specs.{Option.{option_map, option_copied_mut}, Map.{lookup, remove_entry}};
 ghost use Rattle.std.specs.Map.Iter.{deref_pair};
-ghost use Rattle.hashlink_model.specs.Entries.{IsEntries, moved_match};
-ghost use Rattle.hashlink_model.specs.Lookups.{KeepsLookups, UpdatesLent};
+ghost use Rattle.hashlink_model.specs.{Entries.{IsEntries, moved_match}, Lookups.{KeepsLookups, UpdatesLent}};
 ghost use Rattle.hashlink_model.specs.Walk.{first_of, last_of};
 ghost use Rattle.hashlink_lru.specs.Evicted.{evicted_by};
 

@@ -1,14 +1,10 @@
 //! Removals. The other entries keep their order. Except for `clear`, each removal leaves a free node, which
 //! the next insert of an absent key uses. No removal allocates.
-ghost use Rattle.std.specs.Prelude.{◌≡◌, IfSome, None, Contains};
-ghost use Rattle.std.specs.Map.{lookup, lookup_entry, remove_entry};
-ghost use Rattle.std.specs.Map.Calls.{CalledAtPair, TakesPair, CallableOnEachPair};
-ghost use Rattle.std.specs.Map.Iter.{TakesFirst};
-ghost use Rattle.hashlink_model.specs.Cache.{IsWithin, KeepsLast, OnMap, SetsCapacity};
-ghost use Rattle.hashlink_model.specs.Entries.{IsEntries};
+ghost use Rattle.std.specs.{Prelude.{◌≡◌, IfSome, None, Contains}, Map.{lookup, lookup_entry, remove_entry}};
+ghost use Rattle.std.specs.Map.{Calls.{CalledAtPair, TakesPair, CallableOnEachPair}, Iter.TakesFirst};
+ghost use Rattle.hashlink_model.specs.{Cache.{IsWithin, KeepsLast, OnMap, SetsCapacity}, Entries.IsEntries};
 ghost use Rattle.hashlink_model.specs.Lookups.{UpdatesBy, UpdatesKept, UpdatesPopped};
-ghost use Rattle.hashlink_model.specs.Retain.{RetainsInOrder};
-ghost use Rattle.hashlink_model.specs.Steps.{RemovesMatch, PopsFront, Clears};
+ghost use Rattle.hashlink_model.specs.{Retain.RetainsInOrder, Steps.{RemovesMatch, PopsFront, Clears}};
 ghost use Rattle.hashlink_lru.specs.Evicted.{EvictsSome};
 
 use super::LruCache;

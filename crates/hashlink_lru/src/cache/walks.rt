@@ -1,10 +1,8 @@
 //! Iterators over a cache, from both ends. They do not count as uses. No iterator allocates, and each step
 //! takes constant time.
-ghost use Rattle.std.specs.Prelude.{◌≡◌, ◌^◌, ◌<◌, length};
-ghost use Rattle.std.specs.Borrow.{sem};
-ghost use Rattle.std.specs.Map.{keys_of, values_of};
-ghost use Rattle.std.specs.Map.Iter.{ShowsInOrder, ShowsInReverse, deref, deref_pair};
-ghost use Rattle.std.specs.Map.Iter.{GivesInOrder, GivesInReverse};
+ghost use Rattle.std.specs.Map.Iter.{ShowsInOrder, ShowsInReverse, deref, deref_pair, GivesInOrder};
+ghost use Rattle.std.specs.{Prelude.{◌≡◌, ◌^◌, ◌<◌, length}, Borrow.sem, Map.{keys_of, values_of}};
+ghost use Rattle.std.specs.Map.Iter.{GivesInReverse};
 ghost use Rattle.hashlink_model.specs.Entries.{IsEntries};
 
 use super::LruCache;
@@ -13,10 +11,8 @@ use std::hash::{BuildHasher, Hash};
 
 impl<K: Eq + Hash, V, S: BuildHasher> LruCache<K, V, S> {
     ghost use Rattle.hashlink_core.specs.Keyed.{state_of};
-    ghost use Rattle.hashlink_map.specs.IterMut.{walk_map, walk_state};
-    ghost use Rattle.hashlink_map.specs.WritingWalk.{writing_walk};
-    ghost use Rattle.hashlink_lru.specs.Cached.{entries_of, map_of};
-    ghost use Rattle.hashlink_lru.specs.Lends.{HandsOnMap};
+    ghost use Rattle.hashlink_map.specs.{IterMut.{walk_map, walk_state}, WritingWalk.writing_walk};
+    ghost use Rattle.hashlink_lru.specs.{Cached.{entries_of, map_of}, Lends.HandsOnMap};
 
     /// Returns an iterator over the entries, from front to back, so the least recently used one is first. It
     /// is not a use. It does not allocate, and each step takes constant time.

@@ -1,9 +1,7 @@
 use Rattle.std.proofs.Common.{◌+◌, ◌≤◌, Bool, length, Option, None, Some, MatchOption, ap, arith}
 use Rattle.std.specs.Map.{lookup}
-use Rattle.hashlink_model.specs.Cache.{front_evicted}
-use Rattle.hashlink_model.specs.MapState.{MapState, AddsEntry, PutsEntry}
-use Rattle.hashlink_model.proofs.Afterwards.{length-put_there}
-use Rattle.hashlink_model.proofs.Caches.{front_evicted-at_most}
+use Rattle.hashlink_model.specs.{Cache.front_evicted, MapState.{MapState, AddsEntry, PutsEntry}}
+use Rattle.hashlink_model.proofs.{Afterwards.length-put_there, Caches.front_evicted-at_most}
 use Rattle.hashlink_lru.proofs.laws.what_a_raw_entry_of_a_cache_lets_in.Goals as goal
 
 -- a put lengthens a map by at most one entry

@@ -1,6 +1,5 @@
-use Rattle.hashlink_model.proofs.Names.{arith, difference_of, intersection_of}
 use Rattle.hashlink_model.proofs.Members.{difference_members, intersection_members, nil_has_none}
-use Rattle.hashlink_model.proofs.Members.{nil_from_none}
+use Rattle.hashlink_model.proofs.{Names.{arith, difference_of, intersection_of}, Members.nil_from_none}
 use Rattle.hashlink_model.proofs.algebra.subset_and_disjoint_by_membership.Goals as goal
 
 pub returns : goal.returns

@@ -1,6 +1,5 @@
-use Rattle.hashlink_model.proofs.Caches.{cache_use-at_most}
 use Rattle.hashlink_model.proofs.CacheBounds.{within-inserts, within-inserted, within-gets, within-removes}
-use Rattle.hashlink_model.proofs.CacheBounds.{within-gets_match_and_writes}
+use Rattle.hashlink_model.proofs.{Caches.cache_use-at_most, CacheBounds.within-gets_match_and_writes}
 use Rattle.hashlink_model.proofs.cache.a_bound_beyond_the_capacity_is_kept.Goals as goal
 
 pub returns-clause-insert : goal.returns-clause-insert

@@ -1,9 +1,7 @@
 use Rattle.hashlink_model.proofs.Names.{◌≡◌, ◌<◌, ◌+◌, ◌-◌, ◌∷◌, ◌++◌, ap, ◌∙◌, refl, le_refl, arith, length}
-use Rattle.hashlink_model.proofs.Names.{length-append, insert, put}
-use Rattle.std.proofs.Common.{mod-eq_of_lt}
-use Rattle.std.proofs.lemmas.List.Edits.{insert-append_right}
-use Rattle.hashlink_model.proofs.Cursors.{following_place-guard}
+use Rattle.hashlink_model.proofs.{Names.{length-append, insert, put}, Cursors.following_place-guard}
 use Rattle.hashlink_model.proofs.Puts.{put-absent, put_front}
+use Rattle.std.proofs.{Common.mod-eq_of_lt, lemmas.List.Edits.insert-append_right}
 use Rattle.hashlink_model.proofs.cursor.cursor_inserts_an_absent_key.Goals as goal
 
 pub returns : goal.returns

@@ -1,9 +1,8 @@
 use Rattle.hashlink_model.proofs.Names.{slice_get, length, ap, ◌∙◌, cond, Some, le_refl, arith, option_map_or}
-use Rattle.hashlink_model.proofs.Names.{put, place_or_end, stored_key}
-use Rattle.std.proofs.lemmas.Option.{slice_get_past}
+use Rattle.hashlink_model.proofs.{Names.{put, place_or_end, stored_key}, Puts.lookup_entry-put}
 use Rattle.hashlink_model.proofs.Places.{slice_get-place_or_end, lookup_entry_at, stored_key_at}
-use Rattle.hashlink_model.proofs.Puts.{lookup_entry-put}
 use Rattle.hashlink_model.proofs.Cursors.{place_kept-same, place_kept-within}
+use Rattle.std.proofs.lemmas.Option.{slice_get_past}
 use Rattle.hashlink_model.proofs.cursor.cursor_stays_on_its_entry.Goals as goal
 
 pub returns : goal.returns

@@ -1,5 +1,4 @@
-use Rattle.hashlink_model.proofs.Puts.{put_back, put_front}
-use Rattle.hashlink_model.proofs.Afterwards.{without-put}
+use Rattle.hashlink_model.proofs.{Puts.{put_back, put_front}, Afterwards.without-put}
 use Rattle.hashlink_model.proofs.entries.put_at_either_end.Goals as goal
 
 pub returns : goal.returns

@@ -1,5 +1,4 @@
-use Rattle.hashlink_model.proofs.Puts.{IsEntries-put, IsEntries-without}
-use Rattle.hashlink_model.proofs.Afterwards.{IsEntries-moved}
+use Rattle.hashlink_model.proofs.{Puts.{IsEntries-put, IsEntries-without}, Afterwards.IsEntries-moved}
 use Rattle.hashlink_model.proofs.entries.steps_keep_keys_unequal.Goals as goal
 
 pub returns : goal.returns

@@ -1,5 +1,4 @@
-use Rattle.hashlink_model.specs.Entries.{without}
-use Rattle.hashlink_model.proofs.Finds.{stored_key-equal}
+use Rattle.hashlink_model.{specs.Entries.without, proofs.Finds.stored_key-equal}
 use Rattle.hashlink_model.proofs.Puts.{put_back, put_front}
 use Rattle.hashlink_model.proofs.entries.the_end_after_an_insert.Goals as goal
 

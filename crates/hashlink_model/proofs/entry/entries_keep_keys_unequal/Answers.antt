@@ -1,7 +1,6 @@
-use Rattle.hashlink_model.proofs.Names.{length, [], append-nil, without}
-use Rattle.hashlink_model.proofs.Distinct.{IsEntries-insert}
-use Rattle.hashlink_model.proofs.Puts.{IsEntries-put, IsEntries-without}
 use Rattle.hashlink_model.proofs.Occupied.{insert_entry-last, none_last, IsEntries-replace_entry}
+use Rattle.hashlink_model.proofs.{Names.{length, [], append-nil, without}, Distinct.IsEntries-insert}
+use Rattle.hashlink_model.proofs.Puts.{IsEntries-put, IsEntries-without}
 use Rattle.hashlink_model.proofs.Occupied.{insert_value-put, set_key_at-entry, set_value_at-entry}
 use Rattle.hashlink_model.proofs.entry.entries_keep_keys_unequal.Goals as goal
 

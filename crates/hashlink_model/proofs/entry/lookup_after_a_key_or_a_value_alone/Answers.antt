@@ -1,8 +1,6 @@
 use Rattle.std.proofs.Common.{refl, length}
-use Rattle.hashlink_model.proofs.Puts.{lookup_entry-put}
-use Rattle.hashlink_model.proofs.Places.{stored_key_at}
 use Rattle.hashlink_model.proofs.Occupied.{lookup_entry-replace_entry, insert_value-put, set_key_at-entry}
-use Rattle.hashlink_model.proofs.Occupied.{set_value_at-entry}
+use Rattle.hashlink_model.proofs.{Puts.lookup_entry-put, Places.stored_key_at, Occupied.set_value_at-entry}
 use Rattle.hashlink_model.proofs.entry.lookup_after_a_key_or_a_value_alone.Goals as goal
 
 pub returns : goal.returns

@@ -1,5 +1,4 @@
-use Rattle.hashlink_model.proofs.Names.{ap, sym, ◌∙◌, length, option_map_or, put}
-use Rattle.hashlink_model.proofs.ByPlace.{moved-there}
+use Rattle.hashlink_model.proofs.{Names.{ap, sym, ◌∙◌, length, option_map_or, put}, ByPlace.moved-there}
 use Rattle.hashlink_model.proofs.entry.or_insert_is_a_move_or_an_insert.Goals as goal
 
 pub returns-clause-there : goal.returns-clause-there

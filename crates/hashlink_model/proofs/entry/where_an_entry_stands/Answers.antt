@@ -1,8 +1,6 @@
-use Rattle.hashlink_model.proofs.Splits.{stands_from_place}
-use Rattle.hashlink_model.proofs.Places.{slice_get_here}
-use Rattle.std.proofs.Common.{ap₂, slice_get, ◌∙◌, sym}
-use Rattle.hashlink_model.proofs.Occupied.{raw_entry_stands}
+use Rattle.hashlink_model.proofs.{Splits.stands_from_place, Places.slice_get_here, Occupied.raw_entry_stands}
 use Rattle.hashlink_model.proofs.Pops.{vacant}
+use Rattle.std.proofs.Common.{ap₂, slice_get, ◌∙◌, sym}
 use Rattle.hashlink_model.proofs.entry.where_an_entry_stands.Goals as goal
 
 pub returns-clause-occupied : goal.returns-clause-occupied

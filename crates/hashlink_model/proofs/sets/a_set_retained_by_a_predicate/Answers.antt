@@ -1,6 +1,5 @@
-use Rattle.hashlink_model.proofs.Names.{ap, ◌∙◌, refl, keys_of}
+use Rattle.hashlink_model.proofs.{Names.{ap, ◌∙◌, refl, keys_of}, SetElements.keys-filter}
 use Rattle.hashlink_model.proofs.Retains.{keeps_is_filter, keeps_in_order_is_filter}
-use Rattle.hashlink_model.proofs.SetElements.{keys-filter}
 use Rattle.hashlink_model.proofs.sets.a_set_retained_by_a_predicate.Goals as goal
 
 pub returns : goal.returns

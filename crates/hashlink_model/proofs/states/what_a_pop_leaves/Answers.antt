@@ -1,7 +1,5 @@
 use Rattle.std.proofs.Common.{[], ◌∙◌, append-nil}
-use Rattle.hashlink_model.proofs.Splits.{remove_entry-here}
-use Rattle.hashlink_model.proofs.Places.{none_before}
-use Rattle.hashlink_model.proofs.Pops.{pops_back}
+use Rattle.hashlink_model.proofs.{Splits.remove_entry-here, Places.none_before, Pops.pops_back}
 use Rattle.hashlink_model.proofs.states.what_a_pop_leaves.Goals as goal
 
 pub returns-clause-back : goal.returns-clause-back

@@ -1,6 +1,5 @@
-use Rattle.hashlink_model.proofs.Names.{length, put}
+use Rattle.hashlink_model.proofs.{Names.{length, put}, Weighted.{fitting-end, length-weighted_put}}
 use Rattle.hashlink_model.proofs.Remaining.{lookup-put_remaining, lookup_entry-put_remaining}
-use Rattle.hashlink_model.proofs.Weighted.{fitting-end, length-weighted_put}
 use Rattle.hashlink_model.proofs.weights.lookup_after_an_insert_within_a_budget.Goals as goal
 
 pub returns : goal.returns

@@ -1,51 +1,30 @@
 -- `entry` makes room, and then passes the map on to the map's own `entry`.
-use Rattle.std.proofs.Common.{◌≡◌, List, [], ◌∷◌, ◌++◌, refl, sym, ap, subst}
+use Rattle.std.{proofs.Common.{◌≡◌, List, [], ◌∷◌, ◌++◌, refl, sym, ap, subst}, specs.Borrow.GName}
+use Rattle.std.{proofs.raw_atomic.Walks.{proved_at, leaves}, specs.Map.lookup}
 use base.Logic.{SProp, ent, id⊢, emp}
-use mir.Syntax.{a_type, named, dcons, dnil}
-use mir.MapTy.{inst_fn}
-use mir.Val.{Val, vptr}
+use mir.{Syntax.{a_type, named, dcons, dnil}, MapTy.inst_fn, Val.{Val, vptr}}
 use prog.Wp.{WpFn}
-use types.Logic.{sem}
 use types.Kit.{‵, raw, ◌⊛◌, some, later, ◌$◌, ◌∵◌, !, qed, by, move, keep, drop, split, join, fsplit, fjoin}
-use types.Kit.{pick, await, rewrite, use0, use1}
+use types.{Logic.sem, Kit.{pick, await, rewrite, use0, use1}}
 use types.Run.{stop, of_opd, addr, and_then, no_more, returns, enter}
 use types.ByLocal.{alloc_all, pass_all, free_all, look_at, get, through, sets, lands_as}
-use contract.BorrowLft.{◌⊑◌}
-use contract.Lifetimes.{Lfts}
-use contract.Monad.{fact, fact_i}
-use contract.Running.{tables}
-use denote.Exit.{no}
-use denote.Laws.{Is, shows}
-use denote.Param.{bounded, param}
-use denote.Param.Laws.{Laws, param_laws}
-use denote.RattleType.{RattleType, Valss, owns}
-use denote.Ref.{MutRef, NamedLft, mut_vals, mut_Tells}
-use denote.Signature.{plain, mut_ref_to, types_at}
-use denote.Steps.{nothing, peeks, only, heard}
-use denote.Triple.Call.{calls_at}
-use denote.Triple.Clauses.{lasts, Lasts}
-use denote.Triple.Entry.{alive}
-use denote.Triple.Spec.{triple_of}
-use denote.Triple.Table.{framed}
+use contract.{BorrowLft.◌⊑◌, Lifetimes.Lfts, Monad.{fact, fact_i}, Running.tables}
+use denote.{Exit.no, Laws.{Is, shows}, Param.{bounded, param}, Param.Laws.{Laws, param_laws}}
+use denote.{RattleType.{RattleType, Valss, owns}, Ref.{MutRef, NamedLft, mut_vals, mut_Tells}}
+use denote.{Signature.{plain, mut_ref_to, types_at}, Steps.{nothing, peeks, only, heard}, Triple.Entry.alive}
+use denote.Triple.{Call.calls_at, Clauses.{lasts, Lasts}, Spec.triple_of, Table.framed}
 use denote.Triple.Walked.{Stays, stay_dropped, walk_of, Goes-spent_ref, Goes-dropped}
-use Rattle.std.proofs.raw_atomic.Walks.{proved_at, leaves}
-use Rattle.std.specs.Borrow.{GName}
-use Rattle.std.specs.Map.{lookup}
-use Rattle.hashlink_model.specs.Cache.{EntersCache, EvictsFront}
-use Rattle.hashlink_model.specs.Entries.{IsEntries}
-use Rattle.hashlink_model.specs.Entry.{entry_of}
+use Rattle.hashlink_model.specs.{Cache.{EntersCache, EvictsFront}, Entries.IsEntries, Entry.entry_of}
 use Rattle.hashlink_core.specs.Keyed as keyed
 use Rattle.hashlink_core.specs.Keyed.{entries_of}
 use Rattle.hashlink_map.specs.Entry.{entry_map, entry_state, entry_value}
 use Rattle.hashlink_map.specs.contracts.entry.Entry as place
 use Rattle.hashlink_map.specs.contracts.map.LinkedHashMap as map
 use Rattle.hashlink_map.specs.contracts.map.LinkedHashMap.entry as finds
-use Rattle.hashlink_map.proofs.PairSteps.{Asks, asks_again}
-use Rattle.hashlink_map.proofs.PairValues.{value_of}
+use Rattle.hashlink_map.proofs.{PairSteps.{Asks, asks_again}, PairValues.value_of}
 use Rattle.hashlink_map.proofs.entry.Entry.TheLaws as place_laws
 use Rattle.hashlink_map.proofs.map.LinkedHashMap.entry.Met as found
-use Rattle.hashlink_lru.specs.Cached.{state_of}
-use Rattle.hashlink_lru.specs.Lends.{HandsOnMap}
+use Rattle.hashlink_lru.specs.{Cached.state_of, Lends.HandsOnMap}
 use Rattle.hashlink_lru.specs.contracts.cache.LruCache as cache
 use Rattle.hashlink_lru.specs.contracts.cache.LruCache.entry as f
 use Rattle.hashlink_lru.specs.contracts.cache.LruCache.roomy_map as makes

@@ -1,8 +1,7 @@
 use Rattle.std.proofs.Common.{[], ◌∷◌, ◌++◌, ◌∙◌}
 use Rattle.std.proofs.iter.Next as it
-use Rattle.hashlink_lru.specs.Cached.{InsertsPairIn}
+use Rattle.hashlink_lru.{specs.Cached.InsertsPairIn, proofs.Extending.extended_within}
 use Rattle.hashlink_map.proofs.InTurn.{accepts_another, stops_after, counts_another}
-use Rattle.hashlink_lru.proofs.Extending.{extended_within}
 use Rattle.hashlink_lru.proofs.cache.LruCache.extend_from.Goals as goal
 
 pub returns-in-Err-clause-stopped : goal.returns-in-Err-clause-stopped

@@ -1,5 +1,4 @@
-use Rattle.std.proofs.Common.{refl, ap, sym, ◌∙◌, None, Some}
-use Rattle.std.specs.Option.{option_copied_mut}
+use Rattle.std.{proofs.Common.{refl, ap, sym, ◌∙◌, None, Some}, specs.Option.option_copied_mut}
 use Rattle.hashlink_core.specs.Keyed.{state_of}
 use Rattle.hashlink_model.proofs.MovedLast.{moved_match_last}
 use Rattle.hashlink_lru.proofs.Ends.{used}

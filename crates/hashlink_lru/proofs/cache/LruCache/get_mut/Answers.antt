@@ -1,6 +1,5 @@
 use Rattle.std.proofs.Common.{refl, ap}
-use Rattle.hashlink_lru.specs.Cached.{state_of}
-use Rattle.hashlink_lru.proofs.Ends.{used_and_written}
+use Rattle.hashlink_lru.{specs.Cached.state_of, proofs.Ends.used_and_written}
 use Rattle.hashlink_lru.proofs.cache.LruCache.get_mut.Goals as goal
 
 pub returns : goal.returns

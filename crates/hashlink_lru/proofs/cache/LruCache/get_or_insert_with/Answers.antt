@@ -1,9 +1,8 @@
 use Rattle.std.proofs.Common.{refl}
 use Rattle.hashlink_core.specs.Keyed as keyed
 use Rattle.hashlink_map.proofs.Walking.{on-some}
-use Rattle.hashlink_lru.specs.Cached.{state_of}
+use Rattle.hashlink_lru.{specs.Cached.state_of, proofs.Updating.updates-used}
 use Rattle.hashlink_lru.proofs.Using.{moved_or_made, lent_value, some_lent, used_and_written}
-use Rattle.hashlink_lru.proofs.Updating.{updates-used}
 use Rattle.hashlink_lru.proofs.cache.LruCache.get_or_insert_with.Goals as goal
 
 pub unwrap-requires : goal.unwrap-requires

@@ -1,8 +1,7 @@
 use Rattle.std.proofs.Common.{refl}
 use Rattle.hashlink_core.specs.Keyed as keyed
 use Rattle.hashlink_map.proofs.Walking.{on-some}
-use Rattle.hashlink_lru.specs.Cached.{state_of}
-use Rattle.hashlink_lru.proofs.Using.{lent_value, some_lent, used_and_written}
+use Rattle.hashlink_lru.{specs.Cached.state_of, proofs.Using.{lent_value, some_lent, used_and_written}}
 use Rattle.hashlink_lru.proofs.Updating.{updates-used}
 use Rattle.hashlink_lru.proofs.cache.LruCache.get_or_try_insert_with.Goals as goal
 

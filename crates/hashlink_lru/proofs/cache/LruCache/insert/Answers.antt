@@ -1,8 +1,6 @@
-use Rattle.std.proofs.Common.{rules, subst, sym, length, ◌+◌, ◌≤◌}
-use Rattle.std.specs.Prelude.{Ok}
+use Rattle.std.{proofs.Common.{rules, subst, sym, length, ◌+◌, ◌≤◌}, specs.Prelude.Ok}
 use Rattle.hashlink_core.specs.Keyed as keyed
-use Rattle.hashlink_model.specs.Cache.{CacheInserts}
-use Rattle.hashlink_model.proofs.CacheBounds.{within-inserted, within-inserts}
+use Rattle.hashlink_model.{specs.Cache.CacheInserts, proofs.CacheBounds.{within-inserted, within-inserts}}
 use Rattle.hashlink_model.proofs.CacheUpdates.{updates-kept_last}
 use Rattle.hashlink_lru.specs.Cached.{state_of}
 use Rattle.hashlink_lru.proofs.cache.LruCache.insert.Goals as goal

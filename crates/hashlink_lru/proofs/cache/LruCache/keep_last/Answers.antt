@@ -1,8 +1,7 @@
 use Rattle.std.proofs.Common.{◌≡◌, ◌-◌, ◌+◌, length, drop, subst, arith}
 use Rattle.hashlink_model.specs.Steps.{KeepsOnly}
 use Rattle.hashlink_core.specs.Keyed.{state_of, entries_of}
-use Rattle.hashlink_lru.proofs.Dropping.{drops_more}
-use Rattle.hashlink_lru.proofs.Updating.{evicts-some}
+use Rattle.hashlink_lru.proofs.{Dropping.drops_more, Updating.evicts-some}
 use Rattle.hashlink_lru.proofs.cache.LruCache.keep_last.Goals as goal
 
 pub loop-preserved : goal.loop-preserved

@@ -1,6 +1,5 @@
 use Rattle.std.proofs.Common.{◌≡◌, ◌-◌, ◌≤◌, length, drop}
-use Rattle.hashlink_model.specs.Entries.{IsEntries}
-use Rattle.hashlink_model.specs.Steps.{KeepsOnly}
+use Rattle.hashlink_model.specs.{Entries.IsEntries, Steps.KeepsOnly}
 use Rattle.hashlink_core.specs.Keyed.{state_of, entries_of}
 use Rattle.hashlink_lru.proofs.cache.LruCache.keep_last.Given as goal
 

@@ -1,8 +1,5 @@
-use Rattle.std.proofs.Common.{refl, ap, sym, ◌∙◌, inl, inr}
-use Rattle.std.specs.Option.{option_map}
-use Rattle.hashlink_lru.specs.Cached.{FitsUnless, state_of}
-use Rattle.hashlink_lru.proofs.Ends.{on_some}
-use Rattle.hashlink_lru.proofs.Using.{same_last}
+use Rattle.std.{proofs.Common.{refl, ap, sym, ◌∙◌, inl, inr}, specs.Option.option_map}
+use Rattle.hashlink_lru.{specs.Cached.{FitsUnless, state_of}, proofs.Ends.on_some, proofs.Using.same_last}
 use Rattle.hashlink_lru.proofs.cache.LruCache.lend_last.Goals as goal
 use Rattle.hashlink_lru.proofs.cache.LruCache.lend_last.Goals.{then-len-before, else-len-before}
 

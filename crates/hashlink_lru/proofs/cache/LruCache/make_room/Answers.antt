@@ -1,6 +1,5 @@
 use Rattle.hashlink_core.specs.Keyed.{entries_of}
-use Rattle.hashlink_lru.proofs.Dropping.{pops_keeps}
-use Rattle.hashlink_lru.proofs.Updating.{evicts-some}
+use Rattle.hashlink_lru.proofs.{Dropping.pops_keeps, Updating.evicts-some}
 use Rattle.hashlink_lru.proofs.cache.LruCache.make_room.Goals as goal
 
 pub returns-then-len-self-clause-updates : goal.returns-then-len-self-clause-updates

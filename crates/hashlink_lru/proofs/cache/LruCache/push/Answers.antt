@@ -1,12 +1,8 @@
-use Rattle.std.proofs.Common.{refl, subst, sym}
-use Rattle.std.specs.Prelude.{Ok}
+use Rattle.std.{proofs.Common.{refl, subst, sym}, specs.Prelude.Ok}
 use Rattle.hashlink_core.specs.Keyed as keyed
-use Rattle.hashlink_model.proofs.CacheBounds.{within-inserted, within-inserts}
-use Rattle.hashlink_model.proofs.CacheUpdates.{updates-pushed}
+use Rattle.hashlink_model.proofs.{CacheBounds.{within-inserted, within-inserts}, CacheUpdates.updates-pushed}
 use Rattle.hashlink_model.proofs.CacheSteps.{inserts_entries}
-use Rattle.hashlink_lru.specs.Cached.{state_of}
-use Rattle.hashlink_lru.specs.Evicted.{Pushes}
-use Rattle.hashlink_lru.proofs.Pushing.{pushes}
+use Rattle.hashlink_lru.{specs.Cached.state_of, specs.Evicted.Pushes, proofs.Pushing.pushes}
 use Rattle.hashlink_lru.proofs.cache.LruCache.push.Goals as goal
 
 pub returns : goal.returns

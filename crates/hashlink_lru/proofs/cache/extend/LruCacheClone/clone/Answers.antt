@@ -1,5 +1,4 @@
-use Rattle.std.proofs.Common.{Result, Ok, Err}
-use Rattle.std.specs.Prelude.{IfOk, MatchResult}
+use Rattle.std.{proofs.Common.{Result, Ok, Err}, specs.Prelude.{IfOk, MatchResult}}
 use Rattle.hashlink_map.proofs.Clones.{clone_by_answer}
 use Rattle.hashlink_lru.specs.Cached.{entries_of, state_of}
 use Rattle.hashlink_lru.proofs.cache.extend.LruCacheClone.clone.Goals as goal

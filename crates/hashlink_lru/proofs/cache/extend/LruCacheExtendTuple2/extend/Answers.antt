@@ -1,6 +1,5 @@
 use Rattle.std.proofs.Common.{refl}
-use Rattle.hashlink_model.specs.Cache.{OnMap}
-use Rattle.hashlink_model.specs.MapState.{Grows}
+use Rattle.hashlink_model.specs.{Cache.OnMap, MapState.Grows}
 use Rattle.hashlink_map.proofs.Extending.{grows-none, took_all, took_some, stopped_at_last, cuts_item}
 use Rattle.hashlink_lru.specs.Cached.{state_of, InsertsPairIn}
 use Rattle.hashlink_lru.proofs.cache.extend.LruCacheExtendTuple2.extend.Goals as goal
