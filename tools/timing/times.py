@@ -10,6 +10,8 @@ MEANS = {
 }
 #: the end of the name of a row whose call has one caller in the program
 FROM_ONE = "_from_one"
+#: the name for the port where such a row and the same call from ten places are timed side by side
+BESIDE_ONE = "beside one"
 
 
 class Times:
@@ -97,8 +99,7 @@ class Times:
         return shown_spread(self.ratios(program, row, size))
 
     def shown_beside_one(self, row, size):
-        port = self.programs[0]
-        return shown_spread(self.ratios_of((port, row), (port, row + FROM_ONE), size))
+        return shown_spread(self.ratios_of((BESIDE_ONE, row), (BESIDE_ONE, row + FROM_ONE), size))
 
     def shown_times(self, row, size):
         medians = [self.median(program, row, size) for program in self.programs]
