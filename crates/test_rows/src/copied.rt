@@ -1,7 +1,7 @@
 //! Maps and sets of items that can be copied, which accept items by reference.
 use crate::calls::say_kept;
 use crate::hashers::Hashing;
-use crate::items::{Answer, Line, Name, Pair, Read, Stop, Word, done, rest_of};
+use crate::items::{Answer, Line, Name, Pair, Read, Shown, Stop, Word, rest_of};
 use crate::spoken::Spoken;
 use hashlink::linked_hash_map::ExtendError;
 use hashlink::{LinkedHashMap, LinkedHashSet};
@@ -59,7 +59,7 @@ impl Copies<Pair> for LinkedHashMap<Name, Name, Hashing> {
     fn extend_by(&mut self, is_by_trait: bool, pairs: &[Pair]) -> (Answer, usize) {
         let mut lent = pairs.iter().map(lend_pair);
         let answer = if is_by_trait {
-            Answer::Word(done(Extend::extend(self, &mut lent)))
+            Answer::Word(Extend::extend(self, &mut lent).shown())
         } else {
             match self.extend_ref(&mut lent) {
                 Ok(()) => Answer::Word(Word::Done),
@@ -74,7 +74,7 @@ impl Copies<Name> for LinkedHashSet<Name, Hashing> {
     fn extend_by(&mut self, is_by_trait: bool, elements: &[Name]) -> (Answer, usize) {
         let mut lent = elements.iter();
         let answer = if is_by_trait {
-            Answer::Word(done(Extend::extend(self, &mut lent)))
+            Answer::Word(Extend::extend(self, &mut lent).shown())
         } else {
             match self.extend_ref(&mut lent) {
                 Ok(()) => Answer::Word(Word::Done),

@@ -19,9 +19,7 @@ pub use items::{Home, Item};
 pub use keep::{Keep, has_room, is_even, is_other, is_raised, read_keep};
 pub use line::{Line, Read, push, rest_of};
 pub use raw_call::{RawAsk, RawCall, RawGive};
-pub use said::{
-    Shown, done, made, made_with_room, no_memory, put, room, set, write, write_item, write_pair,
-};
+pub use said::{Shown, made, no_memory, put, set, write, write_item, write_pair};
 pub use steps::{Goes, Step};
 pub use walk::{Exact, Walk, go, walk_and_clone, walk_and_forget, walk_whole};
 pub use words::Words;

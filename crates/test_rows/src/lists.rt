@@ -1,15 +1,14 @@
 //! Lists of commands, in two runs, and lists of uses.
 use crate::hashers::Hashing;
-use crate::items::{Answer, Answers, Home, Name, Stop, Word, Words, are_written, number, push};
-use crate::row::cut;
+use crate::items::{Answer, Line, Name, Shown, Stop, Word, Words, are_written, number, push};
+use crate::row::{Row, cut};
+use crate::rows::begin;
 use crate::spoken::{Stands, Voice, say_all, say_room, say_word, say_words};
-use crate::texts::refuse;
 use hashlink::run::{
-    CacheCommand, Command, EntryStep, Pair, PairCommand, Reply, Uses, run, run_cache, run_pair,
-    run_uses,
+    CacheCommand, Command, EntryStep, PairCommand, Reply, run, run_cache, run_pair, run_uses,
 };
 use hashlink::{LinkedHashMap, LruCache};
-use hashlink_text::{CacheLine, Line, pair_command};
+use hashlink_text::{CacheLine, Line as MapLine, pair_command};
 use std::alloc::{AllocError, Global};
 
 type Map = LinkedHashMap<u64, u64, Hashing>;
@@ -40,8 +39,8 @@ impl Listed for Map {
             ("remove_entry", "") => Ok(Command::RemoveEntry(key)),
             ("entry", "replace_key") => Ok(Command::Entry(key, EntryStep::ReplaceKey)),
             ("entry", "remove_entry") => Ok(Command::Entry(key, EntryStep::RemoveEntry)),
-            _ => match Line::parse(alloc, line.as_bytes())? {
-                Some(Line::Do(command)) => Ok(command),
+            _ => match MapLine::parse(alloc, line.as_bytes())? {
+                Some(MapLine::Do(command)) => Ok(command),
                 _ => Err(Stop::Unread),
             },
         }
@@ -111,59 +110,49 @@ fn said(reply: Reply<u64, u64>) -> Answer {
     }
 }
 
-/// Runs the lines in two halves, each as one list, or as one list with a closure that returns true for every
-/// pair. Returns whether each reply is the one that is written.
-pub fn are_runs_right<C: Listed + Stands + Drop>(
-    capacity: usize,
-    is_one: bool,
-    home: Home<'_>,
-    lines: &str,
-    answers: &mut Answers,
-    voice: Voice<'_>,
-) -> Result<bool, Stop> {
-    let lines: Vec<&str> = lines.split('\n').collect(home.alloc)?;
+/// Runs the lines on an empty container, whose capacity, if it has one, is the next word: in two halves, each
+/// as one list, or after the word `whole` as one list with a closure that returns true for every pair.
+pub fn run_list<C: Listed + Stands + Drop>(row: Row<'_>, line: &mut Line<'_>) -> Result<(), Stop> {
+    let container = &mut C::make(line.home, line.words.capacity());
+    let is_one = line.words.has("whole");
+    let lines: Vec<&str> = row.lines.split('\n').collect(line.home.alloc)?;
     let (first, second) = lines.split_at(if is_one { 0 } else { lines.len() / 2 });
-    let container = &mut C::make(home, capacity);
-    Ok(
-        (is_one || is_run_right(container, home.alloc, first, false, answers, voice)?)
-            && is_run_right(container, home.alloc, second, is_one, answers, voice)?,
-    )
+    if !is_one {
+        run_part(container, first, false, line)?;
+    }
+    run_part(container, second, is_one, line)
 }
 
-fn is_run_right<C: Listed + Stands>(
+fn run_part<C: Listed + Stands>(
     container: &mut C,
-    alloc: Global,
     lines: &[&str],
     is_any: bool,
-    answers: &mut Answers,
-    voice: Voice<'_>,
-) -> Result<bool, Stop> {
-    answers.words.clear();
-    let commands = commands_of::<C>(alloc, lines)?;
-    say_replies(container.replies(commands, is_any), answers, voice)?;
-    say_stand(container, voice);
-    Ok(answers.tally.refused > 0 || are_replies_written(lines, answers.words.as_slice()))
+    line: &mut Line<'_>,
+) -> Result<(), Stop> {
+    line.answers.words.clear();
+    let commands = commands_of::<C>(line.home.alloc, lines)?;
+    say_replies(container.replies(commands, is_any), line)?;
+    if let Some(rt) = line.voice {
+        container.stand(rt);
+    }
+    let replies = line.answers.words.as_slice();
+    Stop::Reply.unless(line.answers.tally.refused > 0 || are_replies_written(lines, replies))
 }
 
 /// Records and prints the replies of a run, or that there was no memory for it.
-fn say_replies(replies: Replies, answers: &mut Answers, voice: Voice<'_>) -> Result<(), Stop> {
+fn say_replies(replies: Replies, line: &mut Line<'_>) -> Result<(), Stop> {
     let Ok(replies) = replies else {
-        refuse(answers, voice);
+        line.refuse();
         return Ok(());
     };
     for reply in replies.iter() {
-        answers.give(said(*reply))?;
+        line.give(said(*reply))?;
     }
-    let _ = answers.count_refused();
-    say_words(voice, answers.words.as_slice());
+    let _ = line.answers.count_refused();
+    if let Some(rt) = line.voice {
+        say_words(rt, line.answers.words.as_slice());
+    }
     Ok(())
-}
-
-fn say_stand<C: Stands>(container: &C, voice: Voice<'_>) {
-    if let Some(rt) = voice {
-        container.stand(rt);
-        let _ = println!(rt; "");
-    }
 }
 
 /// Whether the replies to the lines are the written ones.
@@ -202,27 +191,22 @@ fn count_names(words: &str) -> usize {
     count
 }
 
-/// Runs the lines on two caches. What they find is compared only with the reference model. The number of a
-/// key is that of its line, so the stored entries show which of several equal keys was stored.
-pub fn run_lines_of_pair(
-    alloc: Global,
-    capacities: (usize, usize),
-    lines: &str,
-    answers: &mut Answers,
-    voice: Voice<'_>,
-) -> Result<bool, Stop> {
-    let commands = commands_of_pair(alloc, lines)?;
-    let (small, large) = (capacities.0.min(capacities.1), capacities.1);
-    match run_pair(alloc, small, large, &commands) {
-        Ok(pair) => say_found_by_both(&pair, voice),
-        Err(AllocError) => refuse(answers, voice),
+/// Runs the lines on two caches, whose capacities are the next words. What they find is compared only with
+/// the reference model. The number of a key is that of its line, so the stored entries show which of several
+/// equal keys was stored.
+pub fn run_on_pair<'f>(row: Row<'f>, line: &mut Line<'f>) -> Result<(), Stop> {
+    begin(row, Hashing::Default, line);
+    let alloc = line.home.alloc;
+    let (small, large) = (line.words.capacity(), line.words.capacity());
+    let commands = commands_of_pair(alloc, row.lines)?;
+    match run_pair(alloc, small.min(large), large, &commands) {
+        Ok(pair) => {
+            say_found(&pair.small, &pair.small_replies, line.voice);
+            say_found(&pair.large, &pair.large_replies, line.voice);
+        }
+        Err(AllocError) => line.refuse(),
     }
-    Ok(true)
-}
-
-fn say_found_by_both(pair: &Pair<Name, u64>, voice: Voice<'_>) {
-    say_found(&pair.small, &pair.small_replies, voice);
-    say_found(&pair.large, &pair.large_replies, voice);
+    Ok(())
 }
 
 /// The commands of the lines, for two caches.
@@ -250,19 +234,15 @@ fn numbered(command: PairCommand<u64, u64>, number: u64) -> PairCommand<Name, u6
 }
 
 /// Runs the lines, which are all uses, on a cache, with keys that are numbered in the same way.
-pub fn run_lines_of_uses(
-    alloc: Global,
-    capacity: usize,
-    lines: &str,
-    answers: &mut Answers,
-    voice: Voice<'_>,
-) -> Result<bool, Stop> {
-    let pairs = uses_of(alloc, lines)?;
-    match run_uses(alloc, capacity, &pairs) {
-        Ok(uses) => say_found(&uses.cache, &uses.replies, voice),
-        Err(AllocError) => refuse(answers, voice),
+pub fn run_as_uses<'f>(row: Row<'f>, line: &mut Line<'f>) -> Result<(), Stop> {
+    begin(row, Hashing::Default, line);
+    let alloc = line.home.alloc;
+    let pairs = uses_of(alloc, row.lines)?;
+    match run_uses(alloc, line.words.capacity(), &pairs) {
+        Ok(uses) => say_found(&uses.cache, &uses.replies, line.voice),
+        Err(AllocError) => line.refuse(),
     }
-    Ok(true)
+    Ok(())
 }
 
 /// The pairs that the lines use.
@@ -282,17 +262,10 @@ fn say_found(cache: &LruCache<Name, u64>, found: &[Option<u64>], voice: Voice<'_
     if let Some(rt) = voice {
         let _ = print!(rt; "=");
         for value in found {
-            say_word(
-                rt,
-                match *value {
-                    Some(value) => Word::Item(value, 0),
-                    None => Word::Nothing,
-                },
-            );
+            say_word(rt, value.as_ref().shown());
         }
         let _ = println!(rt; "");
         say_room(rt, cache.len(), cache.capacity());
         say_all(rt, cache.iter());
-        let _ = println!(rt; "");
     }
 }

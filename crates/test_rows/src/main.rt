@@ -18,9 +18,9 @@ mod spoken;
 mod texts;
 
 use crate::hashers::Hashing;
-use crate::items::{Answers, Counts, Home, Line, Tally, Words, number};
-use row::{Row, Why, Wrong};
-use rows::wrong;
+use crate::items::{Answers, Counts, Home, Line, Stop, Tally, Words, number};
+use row::Row;
+use rows::run;
 use spoken::{Voice, say_words};
 use std::alloc::AllocError;
 use std::io::ErrorKind;
@@ -68,31 +68,25 @@ fn end(rt: &HostRuntime, is_said: bool, tally: Tally) {
     }
 }
 
-/// The output for answers and contents, if they are printed.
-fn voice_of(rt: &HostRuntime, is_said: bool) -> Voice<'_> {
-    if is_said { Some(rt) } else { None }
-}
-
-/// Runs the rows of a file, or one of them, and prints what is wrong.
+/// Runs the rows of a file, or one of them, and prints what is wrong. A file for which there is no memory is
+/// left out, and is not wrong.
 fn is_file_right(rt: &HostRuntime, name: &str, is_said: bool, tally: &mut Tally) -> bool {
     let (name, only) = match name.split_once('#') {
         Some((name, place)) => (name, number(place)),
         None => (name, None),
     };
-    match fs::read_to_string(rt, name) {
+    let is_right = match fs::read_to_string(rt, name) {
         Ok(text) => is_text_right(rt, (name, only), text.as_str(), is_said, tally),
-        Err(error) if error.kind() == ErrorKind::OutOfMemory => leave_out(tally),
+        Err(error) if error.kind() == ErrorKind::OutOfMemory => Err(AllocError),
         Err(error) => {
             let _ = println!(rt; "{name}: {error}");
-            false
+            Ok(false)
         }
+    };
+    if is_right.is_err() {
+        tally.left_out = tally.left_out.saturating_add(1);
     }
-}
-
-/// Skips a file for which there is no memory, which is not wrong.
-fn leave_out(tally: &mut Tally) -> bool {
-    tally.left_out = tally.left_out.saturating_add(1);
-    true
+    is_right.unwrap_or(true)
 }
 
 /// Runs the rows of a text, or the one of this number, with items that are counted.
@@ -102,42 +96,36 @@ fn is_text_right(
     text: &str,
     is_said: bool,
     tally: &mut Tally,
-) -> bool {
-    match Rc::new(rt.alloc(), Counts::new()) {
-        Ok(counts) => is_counted_right(rt, named, text, is_said, &counts, tally),
-        Err(_counts) => leave_out(tally),
-    }
+) -> Result<bool, AllocError> {
+    let counts = Rc::new(rt.alloc(), Counts::new())?;
+    let voice = if is_said { Some(rt) } else { None };
+    is_counted_right(rt, named, text, voice, &counts, tally)
 }
 
-/// The same with answers.
-fn is_counted_right(
+/// The same with these counts.
+fn is_counted_right<'f>(
     rt: &HostRuntime,
     named: (&str, Option<u64>),
-    text: &str,
-    is_said: bool,
-    counts: &Rc<Counts>,
+    text: &'f str,
+    voice: Voice<'f>,
+    counts: &'f Rc<Counts>,
     tally: &mut Tally,
-) -> bool {
+) -> Result<bool, AllocError> {
     let alloc = rt.alloc();
-    match Answers::new(alloc, *tally) {
-        Ok(answers) => {
-            let home = Home {
-                alloc,
-                counts,
-                hashing: Hashing::Default,
-            };
-            let words = Words::new("");
-            let line = &mut Line {
-                home,
-                words,
-                answers,
-            };
-            let are_right = are_rows_right(rt, named, text, is_said, line);
-            *tally = line.answers.tally;
-            are_right
-        }
-        Err(AllocError) => leave_out(tally),
-    }
+    let line = &mut Line {
+        home: Home {
+            alloc,
+            counts,
+            hashing: Hashing::Default,
+        },
+        voice,
+        place: (0, ""),
+        words: Words::new(""),
+        answers: Answers::new(alloc, *tally)?,
+    };
+    let are_right = are_rows_right(rt, named, text, line);
+    *tally = line.answers.tally;
+    Ok(are_right)
 }
 
 /// Runs the rows of a text, or the one of this number, and prints what is wrong.
@@ -145,7 +133,6 @@ fn are_rows_right<'f>(
     rt: &HostRuntime,
     (name, only): (&str, Option<u64>),
     text: &'f str,
-    is_said: bool,
     line: &mut Line<'f>,
 ) -> bool {
     let mut text = text;
@@ -158,53 +145,40 @@ fn are_rows_right<'f>(
         text = rest;
         number = next;
         if only.is_none() || only == Some(count) {
-            are_right = is_row_right(rt, name, row, is_said, line) && are_right;
+            are_right = is_row_right(rt, name, row, line) && are_right;
         }
     }
     are_right
 }
 
-fn is_row_right<'f>(
-    rt: &HostRuntime,
-    file: &str,
-    row: Row<'f>,
-    is_said: bool,
-    line: &mut Line<'f>,
-) -> bool {
+fn is_row_right<'f>(rt: &HostRuntime, file: &str, row: Row<'f>, line: &mut Line<'f>) -> bool {
     line.answers.tally.rows = line.answers.tally.rows.saturating_add(1);
-    match wrong(row, line, voice_of(rt, is_said)) {
-        None => true,
-        Some(what) => {
-            report(rt, file, row, what, &line.answers);
+    match run(row, line) {
+        Ok(()) => true,
+        Err(stop) => {
+            report(rt, file, row.name, stop, line);
             false
         }
     }
 }
 
-fn report(rt: &HostRuntime, file: &str, row: Row<'_>, wrong: Wrong<'_>, answers: &Answers) {
-    let name = row.name;
-    match wrong {
-        Wrong::Line(number, line, why) => {
-            let _ = println!(rt; "{file}:{number}: {name}: {line}");
-            say_why(rt, why, answers);
-        }
-        Wrong::Row => {
-            let _ = println!(rt; "{file}: {name}: a wrong answer");
-        }
+fn report(rt: &HostRuntime, file: &str, name: &str, stop: Stop, line: &Line<'_>) {
+    if matches!(stop, Stop::Reply) {
+        let _ = println!(rt; "{file}: {name}: a wrong answer");
+        return;
     }
-}
-
-fn say_why(rt: &HostRuntime, why: Why, answers: &Answers) {
-    match why {
-        Why::Answer => {
+    let (number, text) = line.place;
+    let _ = println!(rt; "{file}:{number}: {name}: {text}");
+    match stop {
+        Stop::Answer => {
             let _ = print!(rt; "  came ");
-            say_words(Some(rt), answers.words.as_slice());
+            say_words(rt, line.answers.words.as_slice());
         }
-        Why::Unread => {
-            let _ = println!(rt; "  this is no line of such a row");
-        }
-        Why::Living => {
+        Stop::Living => {
             let _ = println!(rt; "  other keys and values live then than those that are held");
+        }
+        _ => {
+            let _ = println!(rt; "  this is no line of such a row");
         }
     }
 }

@@ -1,4 +1,4 @@
-//! A row, and what is wrong with it.
+//! A row of a file.
 use crate::items::Words;
 
 /// A row of a file.
@@ -9,26 +9,6 @@ pub struct Row<'f> {
     pub lines: &'f str,
     /// The number of the row's first line.
     pub first: usize,
-}
-
-/// What is wrong with a row.
-#[derive(Clone, Copy)]
-pub enum Wrong<'f> {
-    /// The line of this number and text.
-    Line(usize, &'f str, Why),
-    /// A row of commands or a text, for which no line is given.
-    Row,
-}
-
-/// What is wrong with a line.
-#[derive(Clone, Copy)]
-pub enum Why {
-    /// Its answer is not the one that is written; the answer is in `Answers`.
-    Answer,
-    /// It is not a line of such a row.
-    Unread,
-    /// After it the number of live items is not the number that the containers hold.
-    Living,
 }
 
 impl<'f> Row<'f> {

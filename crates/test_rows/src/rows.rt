@@ -2,40 +2,26 @@
 use crate::calls::{Cache, Map, Set, Weighted};
 use crate::hashers::Hashing;
 use crate::items::{Answers, Home, Line, Name, Stop, Word, Words, are_written};
-use crate::lists::{Listed, are_runs_right, run_lines_of_pair, run_lines_of_uses};
-use crate::row::{Row, Why, Wrong, cut, words_of};
-use crate::spoken::{Spoken, Stands, Voice, say_words};
-use crate::texts::is_text_right;
+use crate::lists::{run_as_uses, run_list, run_on_pair};
+use crate::row::{Row, cut, words_of};
+use crate::spoken::{Spoken, Stands, say_words};
+use crate::texts::run_as_text;
 use hashlink::{LinkedHashMap, LinkedHashSet, LruCache};
 
-/// Returns what is wrong with the row, if anything is. A row for which an allocation fails is counted as left
-/// out, and is not wrong.
-pub fn wrong<'f>(row: Row<'f>, line: &mut Line<'f>, voice: Voice<'_>) -> Option<Wrong<'f>> {
-    match run(row, line, voice) {
-        Err(Stop::Memory) => leave_out(&mut line.answers, voice),
-        Err(Stop::Unread) => return Some(Wrong::Line(row.first, row.mode, Why::Unread)),
-        Ok(Some(wrong)) => return Some(wrong),
-        Ok(None) => {}
+/// Runs the row, after which no item may live. A row for which an allocation fails is counted as left out.
+pub fn run<'f>(row: Row<'f>, line: &mut Line<'f>) -> Result<(), Stop> {
+    match run_under_all(row, line) {
+        Err(Stop::Memory) => leave_out(line),
+        ended => ended?,
     }
-    if line.home.living() > 0 {
-        return Some(Wrong::Line(row.first, row.mode, Why::Living));
-    }
-    None
+    line.place = (row.first, row.mode);
+    Stop::Living.unless(line.home.living() == 0)
 }
 
-fn leave_out(answers: &mut Answers, voice: Voice<'_>) {
-    answers.tally.left_out = answers.tally.left_out.saturating_add(1);
-    if let Some(rt) = voice {
+fn leave_out(line: &mut Line<'_>) {
+    line.answers.tally.left_out = line.answers.tally.left_out.saturating_add(1);
+    if let Some(rt) = line.voice {
         let _ = println!(rt; "left out");
-    }
-}
-
-/// Prints the row and the hasher to which the following output belongs.
-fn head(row: Row<'_>, hashing: Hashing, voice: Voice<'_>) {
-    if let Some(rt) = voice {
-        let first = row.first;
-        let hasher = name_of(hashing);
-        let _ = println!(rt; "row {first} {hasher}");
     }
 }
 
@@ -46,6 +32,55 @@ const HASHERS: [(&str, Hashing); 3] = [
     ("two_hashes", Hashing::Two),
 ];
 
+/// Runs the row under the hasher that it names, or else under each. Commands to two caches, uses and texts
+/// are run only under the default one.
+fn run_under_all<'f>(row: Row<'f>, line: &mut Line<'f>) -> Result<(), Stop> {
+    line.words = Words::new(row.mode);
+    if let Some(hashing) = line.words.known(&HASHERS) {
+        return run_under(row, hashing, line);
+    }
+    let words = line.words;
+    match line.words.word() {
+        "pair_commands" => run_on_pair(row, line),
+        "uses" => run_as_uses(row, line),
+        "text" => run_as_text(row, line),
+        _ => {
+            for (_, hashing) in HASHERS {
+                line.words = words;
+                run_under(row, hashing, line)?;
+            }
+            Ok(())
+        }
+    }
+}
+
+/// Runs the row under one hasher. The words name the container.
+fn run_under<'f>(row: Row<'f>, hashing: Hashing, line: &mut Line<'f>) -> Result<(), Stop> {
+    begin(row, hashing, line);
+    match line.words.word() {
+        "map" => speak::<Map>(row, line),
+        "set" => speak::<Set>(row, line),
+        "cache" => speak::<Cache>(row, line),
+        "weighted" => speak::<Weighted>(row, line),
+        "copied_map" => speak::<LinkedHashMap<Name, Name, Hashing>>(row, line),
+        "copied_set" => speak::<LinkedHashSet<Name, Hashing>>(row, line),
+        "commands" => run_list::<LinkedHashMap<u64, u64, Hashing>>(row, line),
+        "cache_commands" => run_list::<LruCache<u64, u64, Hashing>>(row, line),
+        _ => Err(Stop::Unread),
+    }
+}
+
+/// Prints the row and the hasher to which the following output belongs.
+pub fn begin<'f>(row: Row<'f>, hashing: Hashing, line: &mut Line<'f>) {
+    line.place = (row.first, row.mode);
+    line.home.hashing = hashing;
+    if let Some(rt) = line.voice {
+        let first = row.first;
+        let hasher = name_of(hashing);
+        let _ = println!(rt; "row {first} {hasher}");
+    }
+}
+
 fn name_of(hashing: Hashing) -> &'static str {
     match hashing {
         Hashing::Default => "default",
@@ -54,117 +89,8 @@ fn name_of(hashing: Hashing) -> &'static str {
     }
 }
 
-/// The kinds of rows that are run only under the default hasher.
-#[derive(Clone, Copy)]
-enum Alone {
-    PairCommands,
-    Uses,
-    Text,
-}
-
-const ALONE: [(&str, Alone); 3] = [
-    ("pair_commands", Alone::PairCommands),
-    ("uses", Alone::Uses),
-    ("text", Alone::Text),
-];
-
-fn run<'f>(row: Row<'f>, line: &mut Line<'f>, voice: Voice<'_>) -> Result<Option<Wrong<'f>>, Stop> {
-    line.words = Words::new(row.mode);
-    if let Some(hashing) = line.words.known(&HASHERS) {
-        return under(row, hashing, line, voice);
-    }
-    match line.words.known(&ALONE) {
-        Some(kind) => whole(is_right_alone(row, kind, line, voice)),
-        None => each(row, line, voice),
-    }
-}
-
-fn is_right_alone(
-    row: Row<'_>,
-    kind: Alone,
-    line: &mut Line<'_>,
-    voice: Voice<'_>,
-) -> Result<bool, Stop> {
-    head(row, Hashing::Default, voice);
-    let alloc = line.home.alloc;
-    let capacity = line.words.capacity();
-    match kind {
-        Alone::PairCommands => {
-            let capacities = (capacity, line.words.capacity());
-            run_lines_of_pair(alloc, capacities, row.lines, &mut line.answers, voice)
-        }
-        Alone::Uses => run_lines_of_uses(alloc, capacity, row.lines, &mut line.answers, voice),
-        Alone::Text => is_text_right(alloc, row.lines, &mut line.answers, voice),
-    }
-}
-
-/// Runs the row under each hasher.
-fn each<'f>(
-    row: Row<'f>,
-    line: &mut Line<'f>,
-    voice: Voice<'_>,
-) -> Result<Option<Wrong<'f>>, Stop> {
-    let words = line.words;
-    for (_, hashing) in HASHERS {
-        line.words = words;
-        if let Some(wrong) = under(row, hashing, line, voice)? {
-            return Ok(Some(wrong));
-        }
-    }
-    Ok(None)
-}
-
-/// Runs the row under one hasher. The words name the container.
-fn under<'f>(
-    row: Row<'f>,
-    hashing: Hashing,
-    line: &mut Line<'f>,
-    voice: Voice<'_>,
-) -> Result<Option<Wrong<'f>>, Stop> {
-    head(row, hashing, voice);
-    line.home.hashing = hashing;
-    match line.words.word() {
-        "map" => speak::<Map>(row, line, voice),
-        "set" => speak::<Set>(row, line, voice),
-        "cache" => speak::<Cache>(row, line, voice),
-        "weighted" => speak::<Weighted>(row, line, voice),
-        "copied_map" => speak::<LinkedHashMap<Name, Name, Hashing>>(row, line, voice),
-        "copied_set" => speak::<LinkedHashSet<Name, Hashing>>(row, line, voice),
-        "commands" => list::<LinkedHashMap<u64, u64, Hashing>>(row, line, voice),
-        "cache_commands" => list::<LruCache<u64, u64, Hashing>>(row, line, voice),
-        _ => Err(Stop::Unread),
-    }
-}
-
-/// Runs a list of commands on an empty container. Its capacity, if it has one, is the next word. After
-/// the word `whole` it is a single run.
-fn list<'f, C: Listed + Stands + Drop>(
-    row: Row<'f>,
-    line: &mut Line<'f>,
-    voice: Voice<'_>,
-) -> Result<Option<Wrong<'f>>, Stop> {
-    let capacity = line.words.capacity();
-    let is_one = line.words.has("whole");
-    whole(are_runs_right::<C>(
-        capacity,
-        is_one,
-        line.home,
-        row.lines,
-        &mut line.answers,
-        voice,
-    ))
-}
-
-fn whole<'f>(is_right: Result<bool, Stop>) -> Result<Option<Wrong<'f>>, Stop> {
-    Ok(if is_right? { None } else { Some(Wrong::Row) })
-}
-
 /// Makes the calls on two empty containers. Their capacity, if they have one, is the next word.
-fn speak<'f, C: Spoken + Stands + Drop>(
-    row: Row<'f>,
-    line: &mut Line<'f>,
-    voice: Voice<'_>,
-) -> Result<Option<Wrong<'f>>, Stop> {
+fn speak<'f, C: Spoken + Stands + Drop>(row: Row<'f>, line: &mut Line<'f>) -> Result<(), Stop> {
     let (home, capacity) = (line.home, line.words.capacity());
     let mut speech = Speech {
         first: C::make(home, capacity),
@@ -172,43 +98,7 @@ fn speak<'f, C: Spoken + Stands + Drop>(
         is_sure: true,
     };
     count_anew(home);
-    speech.wrong(row, line, voice)
-}
-
-/// The counts for which a line asks.
-#[derive(Clone, Copy)]
-enum Counted {
-    /// How many hashes and how many comparisons there were since this was last asked for.
-    Cost,
-    /// How many clones there were since this was last asked for.
-    Clones,
-    /// None: the counts restart.
-    Anew,
-}
-
-const COUNTED: [(&str, Counted); 3] = [
-    ("cost", Counted::Cost),
-    ("clones", Counted::Clones),
-    ("count_anew", Counted::Anew),
-];
-
-/// Records the counts. The line has to have its answer, because the reference model does not know the counts.
-fn say_counted(counted: Counted, is_answered: bool, line: &mut Line<'_>) -> Result<(), Stop> {
-    match counted {
-        Counted::Anew => {
-            count_anew(line.home);
-            Ok(())
-        }
-        _ if !is_answered => Err(Stop::Unread),
-        Counted::Cost => {
-            let (hashes, comparisons) = line.home.cost();
-            line.say_all(&[Word::Item(hashes, 0), Word::Item(comparisons, 0)])
-        }
-        Counted::Clones => {
-            let clones = line.home.clones();
-            line.say(Word::Item(clones, 0))
-        }
-    }
+    speech.run(row, line)
 }
 
 fn count_anew(home: Home<'_>) {
@@ -227,95 +117,74 @@ struct Speech<C> {
 }
 
 impl<C: Spoken + Stands> Speech<C> {
-    /// What is wrong with the lines of the row, if anything is.
-    fn wrong<'f>(
-        &mut self,
-        row: Row<'f>,
-        line: &mut Line<'f>,
-        voice: Voice<'_>,
-    ) -> Result<Option<Wrong<'f>>, Stop> {
+    /// Runs the lines of the row, except for comments, which begin with `#`.
+    fn run<'f>(&mut self, row: Row<'f>, line: &mut Line<'f>) -> Result<(), Stop> {
         let mut number = row.first;
         for text in row.lines.split('\n') {
-            if let Some(wrong) = self.wrong_line(number, text, line, voice)? {
-                return Ok(Some(wrong));
+            line.place = (number, text);
+            if !text.starts_with('#') {
+                self.run_line(text, line)?;
             }
             number = number.saturating_add(1);
         }
-        Ok(None)
+        Ok(())
     }
 
-    /// What is wrong with the line of this number, if anything is. A line that begins with `#` is a comment.
-    fn wrong_line<'f>(
-        &mut self,
-        number: usize,
-        text: &'f str,
-        line: &mut Line<'f>,
-        voice: Voice<'_>,
-    ) -> Result<Option<Wrong<'f>>, Stop> {
-        if text.starts_with('#') {
-            return Ok(None);
-        }
+    fn run_line<'f>(&mut self, text: &'f str, line: &mut Line<'f>) -> Result<(), Stop> {
         let (call, wanted) = cut(text);
         let (words, last) = words_of(call);
         for n in words.n..last.saturating_add(1) {
             line.words = Words { n, ..words };
             line.answers.words.clear();
-            match self.call(wanted.is_some(), line) {
-                Ok(()) if !line.words.is_unread => {}
-                Err(Stop::Memory) => return Err(Stop::Memory),
-                _ => return Ok(Some(Wrong::Line(number, text, Why::Unread))),
-            }
-            self.say(&line.answers, voice);
-            if let Some(wrong) = self.judge((number, text), wanted, line) {
-                return Ok(Some(wrong));
-            }
+            self.call(wanted.is_some(), line)?;
+            Stop::Unread.unless(!line.words.is_unread)?;
+            self.say(line);
+            self.judge(wanted, line)?;
         }
-        Ok(None)
+        Ok(())
     }
 
-    /// What is wrong with the answer, or with the number of live items.
-    fn judge<'f>(
-        &mut self,
-        (number, text): (usize, &'f str),
-        wanted: Option<&str>,
-        line: &mut Line<'_>,
-    ) -> Option<Wrong<'f>> {
-        if !self.is_written(wanted, &mut line.answers) {
-            return Some(Wrong::Line(number, text, Why::Answer));
-        }
-        if line.home.living() != self.count_items() {
-            return Some(Wrong::Line(number, text, Why::Living));
-        }
-        None
-    }
-
-    fn count_items(&self) -> usize {
-        self.first
-            .count_items()
-            .saturating_add(self.second.count_items())
-    }
-
-    /// Makes the call that the words name on the first container or, after `other`, on the second.
-    /// `is_answered` is whether the line has its answer.
+    /// Makes the call that the words name on the first container or, after `other`, on the second, or records
+    /// the counts. A line that asks for counts has to have its answer, which `is_answered` tells, because the
+    /// reference model does not know the counts.
     fn call(&mut self, is_answered: bool, line: &mut Line<'_>) -> Result<(), Stop> {
-        if line.words.has("other") {
-            return self.second.call(&self.first, line);
-        }
-        match line.words.known(&COUNTED) {
-            Some(counted) => say_counted(counted, is_answered, line),
-            None => self.first.call(&self.second, line),
+        let words = line.words;
+        match line.words.word() {
+            "other" => self.second.call(&self.first, line),
+            "count_anew" => {
+                count_anew(line.home);
+                Ok(())
+            }
+            "cost" | "clones" if !is_answered => Err(Stop::Unread),
+            "cost" => {
+                let (hashes, comparisons) = line.home.cost();
+                line.say_all(&[Word::Item(hashes, 0), Word::Item(comparisons, 0)])
+            }
+            "clones" => {
+                let clones = line.home.clones();
+                line.say(Word::Item(clones, 0))
+            }
+            _ => {
+                line.words = words;
+                self.first.call(&self.second, line)
+            }
         }
     }
 
     /// Prints the answer, and the contents of each container afterwards.
-    fn say(&self, answers: &Answers, voice: Voice<'_>) {
-        say_words(voice, answers.words.as_slice());
-        if let Some(rt) = voice {
+    fn say(&self, line: &Line<'_>) {
+        if let Some(rt) = line.voice {
+            say_words(rt, line.answers.words.as_slice());
             self.first.stand(rt);
-            let _ = println!(rt; "");
             self.second.stand(rt);
-            let _ = println!(rt; "");
         }
+    }
+
+    /// Judges the answer, and the number of live items.
+    fn judge(&mut self, wanted: Option<&str>, line: &mut Line<'_>) -> Result<(), Stop> {
+        Stop::Answer.unless(self.is_written(wanted, &mut line.answers))?;
+        let (first, second) = (self.first.count_items(), self.second.count_items());
+        Stop::Living.unless(line.home.living() == first.saturating_add(second))
     }
 
     /// Whether the answer is the written one, if it has to be.

@@ -12,14 +12,12 @@ use std::hash::Hash;
 pub type Voice<'v> = Option<&'v HostRuntime>;
 
 /// Prints the words of an answer.
-pub fn say_words(voice: Voice<'_>, words: &[Word]) {
-    if let Some(rt) = voice {
-        let _ = print!(rt; "=");
-        for word in words {
-            say_word(rt, *word);
-        }
-        let _ = println!(rt; "");
+pub fn say_words(rt: &HostRuntime, words: &[Word]) {
+    let _ = print!(rt; "=");
+    for word in words {
+        say_word(rt, *word);
     }
+    let _ = println!(rt; "");
 }
 
 pub fn say_word(rt: &HostRuntime, word: Word) {
@@ -30,6 +28,7 @@ pub fn say_room(rt: &HostRuntime, len: usize, capacity: usize) {
     let _ = print!(rt; "+ {len} {capacity}");
 }
 
+/// Prints the words for all that are left, and ends the line.
 pub fn say_all<I: Iterator>(rt: &HostRuntime, all: I)
 where
     I::Item: Shown,
@@ -39,6 +38,7 @@ where
     for it in all {
         say_word(rt, it.shown());
     }
+    let _ = println!(rt; "");
 }
 
 /// A container of a row.
@@ -46,7 +46,7 @@ pub trait Stands: Sized {
     /// An empty container, of this capacity or budget if it has one.
     fn make(home: Home<'_>, capacity: usize) -> Self;
 
-    /// Prints its length, its capacity or budget, and its pairs.
+    /// Prints a line of its length, its capacity or budget, and its pairs.
     fn stand(&self, rt: &HostRuntime);
 }
 

@@ -1,27 +1,25 @@
 //! Texts that are run.
-use crate::items::{Answers, Stop, push};
+use crate::hashers::Hashing;
+use crate::items::{Line, Stop, push};
+use crate::row::Row;
+use crate::rows::begin;
 use crate::spoken::Voice;
 use hashlink::run::run_text;
-use std::alloc::{AllocError, Global};
+use std::alloc::Global;
 use std::str::from_utf8;
 
-/// Returns whether the answer of `run_text` is the one that is written after the text and a line `=`, if
+/// Runs the text of the row. The answer has to be the one that is written after the text and a line `=`, if
 /// there is one and no allocation failed. Each line of the answer is printed.
-pub fn is_text_right(
-    alloc: Global,
-    lines: &str,
-    answers: &mut Answers,
-    voice: Voice<'_>,
-) -> Result<bool, Stop> {
-    let (text, written) = cut_text(lines);
+pub fn run_as_text<'f>(row: Row<'f>, line: &mut Line<'f>) -> Result<(), Stop> {
+    begin(row, Hashing::Default, line);
+    let alloc = line.home.alloc;
+    let (text, written) = cut_text(row.lines);
     let bytes = bytes_of(alloc, text)?;
-    match run_text(alloc, bytes.as_slice()) {
-        Ok(answer) => Ok(is_answer_right(answer.as_slice(), written, voice)),
-        Err(AllocError) => {
-            refuse(answers, voice);
-            Ok(true)
-        }
-    }
+    let Ok(answer) = run_text(alloc, bytes.as_slice()) else {
+        line.refuse();
+        return Ok(());
+    };
+    Stop::Reply.unless(is_answer_right(answer.as_slice(), written, line.voice))
 }
 
 /// The text of the lines, and the answer that is written after it, if there is one.
@@ -52,14 +50,6 @@ fn is_answer_right(answer: &[u8], written: Option<&str>, voice: Voice<'_>) -> bo
     }
 }
 
-/// Counts and prints that an allocation for a whole run failed.
-pub fn refuse(answers: &mut Answers, voice: Voice<'_>) {
-    answers.add_refused(1);
-    if let Some(rt) = voice {
-        let _ = println!(rt; "refused");
-    }
-}
-
 fn say_lines(answer: &str, voice: Voice<'_>) {
     if let Some(rt) = voice {
         for line in answer.split('\n') {
@@ -70,7 +60,7 @@ fn say_lines(answer: &str, voice: Voice<'_>) {
 
 /// The bytes of a text, in which `\r` is byte 13, `\x` byte 255, and another `\` nothing, so a line of a
 /// single `\` is empty.
-pub fn bytes_of(alloc: Global, text: &str) -> Result<Vec<u8>, Stop> {
+fn bytes_of(alloc: Global, text: &str) -> Result<Vec<u8>, Stop> {
     let mut bytes = Vec::with_capacity(alloc, text.len())?;
     let mut is_escaped = false;
     for byte in text.as_bytes() {

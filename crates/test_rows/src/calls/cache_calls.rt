@@ -16,39 +16,22 @@ impl Spoken for Cache {
     }
 
     fn call(&mut self, _other: &Cache, line: &mut Line<'_>) -> Result<(), Stop> {
-        call_cache(self, line)
+        let name = line.words.word();
+        let word = match name {
+            "len" => Word::count(self.len()),
+            "is_empty" => Word::Is(self.is_empty()),
+            "capacity" => Word::count(self.capacity()),
+            "peek_lru" => self.peek_lru().shown(),
+            "back" => self.back().shown(),
+            "make_room" => self.make_room().shown(),
+            "remove_lru" => self.remove_lru().shown(),
+            "clear" => self.clear().shown(),
+            "clone" => made(self.clone(), self),
+            "set_capacity" => self.set_capacity(line.words.size()).shown(),
+            _ => return call_many(self, name, line),
+        };
+        line.say(word)
     }
-}
-
-/// Makes the call that a line names.
-fn call_cache(cache: &mut Cache, line: &mut Line<'_>) -> Result<(), Stop> {
-    let name = line.words.word();
-    let word = match name {
-        "len" => Word::count(cache.len()),
-        "is_empty" => Word::Is(cache.is_empty()),
-        "capacity" => Word::count(cache.capacity()),
-        "peek_lru" => cache.peek_lru().shown(),
-        "back" => cache.back().shown(),
-        "make_room" => {
-            cache.make_room();
-            Word::Done
-        }
-        "remove_lru" => cache.remove_lru().shown(),
-        "clear" => {
-            cache.clear();
-            Word::Done
-        }
-        "clone" => {
-            let clone = cache.clone();
-            made(cache, clone)
-        }
-        "set_capacity" => {
-            cache.set_capacity(line.words.size());
-            Word::Done
-        }
-        _ => return call_many(cache, name, line),
-    };
-    line.say(word)
 }
 
 /// Makes the call of this name, if it takes the key that the next word names. What is lent for writing is

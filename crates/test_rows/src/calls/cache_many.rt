@@ -1,11 +1,11 @@
 //! Lines that call a cache about many pairs, or by its map, an iterator or an entry.
 use crate::calls::cache_calls::{Cache, call_of_key};
 use crate::calls::entries::call_entry;
-use crate::calls::extended::{TakesMany, extended, extended_by_trait, put_rest};
+use crate::calls::extended::{TakesMany, extended, put_rest};
 use crate::calls::map_calls::call_map;
 use crate::calls::raw_entries::{call_found, put_found};
 use crate::items::{
-    Answer, EntryCall, Exact, Item, Line, RawCall, RawGive, Shown, Stop, Word, is_even, is_raised,
+    Answer, Exact, Item, Line, RawCall, RawGive, Shown, Stop, Word, is_even, is_raised,
     walk_and_clone, walk_and_forget, walk_whole,
 };
 use hashlink_lru::LruCache;
@@ -18,7 +18,7 @@ pub fn call_many(cache: &mut Cache, name: &str, line: &mut Line<'_>) -> Result<(
     match name {
         "retain" | "retain_from" => retain(cache, name, line),
         "inside" => call_map(cache.map_mut(), line),
-        "entry" => call_entry_of(cache, line),
+        "entry" => call_entry(cache.entry(line.item()?), line),
         "raw" => call_raw(cache, line),
         "raw_read" => read_raw(cache, line),
         "iter" => walk_and_clone(cache.iter(), line),
@@ -34,13 +34,12 @@ pub fn call_many(cache: &mut Cache, name: &str, line: &mut Line<'_>) -> Result<(
 }
 
 impl TakesMany<(Item, Item)> for Cache {
-    fn extend_by(&mut self, name: &str, pairs: &mut IntoIter<(Item, Item)>) -> Option<Answer> {
-        match name {
-            "extend" | "extend_kept" => Some(extended(self.extend(&mut *pairs))),
-            "extend_from" => Some(extended(self.extend_from(&mut *pairs))),
-            "extend_by_trait" => Some(extended_by_trait(self, pairs)),
-            _ => None,
-        }
+    fn extend_by(&mut self, is_from: bool, pairs: &mut IntoIter<(Item, Item)>) -> Answer {
+        extended(if is_from {
+            self.extend_from(&mut *pairs)
+        } else {
+            self.extend(&mut *pairs)
+        })
     }
 }
 
@@ -62,19 +61,14 @@ fn take(cache: &mut Cache, alloc: Global) -> Cache {
     mem::replace(cache, empty)
 }
 
-/// Makes the call that the words name on the entry of a key.
-fn call_entry_of(cache: &mut Cache, line: &mut Line<'_>) -> Result<(), Stop> {
-    let (key, call) = EntryCall::of_key(line)?;
-    call_entry(cache.entry(key), call, line)
-}
-
 /// Makes the call that the words name on a raw entry.
 fn call_raw(cache: &mut Cache, line: &mut Line<'_>) -> Result<(), Stop> {
     let _way = line.words.word();
-    let (key, call) = RawCall::of_key(line)?;
+    let key = line.item()?;
     let entries = cache.raw_entry_mut();
-    match call {
-        RawCall::Give(call @ (RawGive::OrInsert | RawGive::OrInsertWith), value, new) => {
+    match RawCall::read(&mut line.words)? {
+        RawCall::Give(call @ (RawGive::OrInsert | RawGive::OrInsertWith)) => {
+            let (value, new) = line.lent_item()?;
             line.give(put_found(entries, call, key, value, new))
         }
         call => call_found(entries.from_key(&key), call, line),

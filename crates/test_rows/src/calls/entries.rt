@@ -1,5 +1,4 @@
 //! Calls of the entry of a given key, for a map and for a cache.
-use crate::calls::map_calls::Map;
 use crate::calls::map_cursors::take_all_steps;
 use crate::hashers::Hashing;
 use crate::items::{
@@ -9,19 +8,22 @@ use hashlink_map::{Entry, TryInsertError};
 
 type InHand<'m> = Entry<'m, Item, Item, Hashing>;
 
-/// Makes the call that the words name on the entry of a map's key.
-pub fn call_entry_of(map: &mut Map, line: &mut Line<'_>) -> Result<(), Stop> {
-    let (key, call) = EntryCall::of_key(line)?;
-    call_entry(map.entry(key), call, line)
-}
-
-/// Makes a call of an entry, which may be followed by steps of a cursor. A call of an occupied entry returns
-/// nothing if the key is absent, and a call of a vacant entry returns nothing if it is present.
-pub fn call_entry(entry: InHand<'_>, call: EntryCall, line: &mut Line<'_>) -> Result<(), Stop> {
-    match call {
-        EntryCall::Ask(call, new) => line.say(ask(entry, call, new)),
-        EntryCall::Give(call, value, new) => line.give(give(entry, call, value, new)),
-        EntryCall::TryMake(made, new) => line.give(try_make_at(entry, made, new)),
+/// Makes the call of an entry that the words name, which may be followed by steps of a cursor. A call of an
+/// occupied entry returns nothing if the key is absent, and a call of a vacant entry if it is present.
+pub fn call_entry(entry: InHand<'_>, line: &mut Line<'_>) -> Result<(), Stop> {
+    match EntryCall::read(&mut line.words)? {
+        EntryCall::Ask(call) => {
+            let new = line.words.optional();
+            line.say(ask(entry, call, new))
+        }
+        EntryCall::Give(call) => {
+            let (value, new) = line.lent_item()?;
+            line.give(give(entry, call, value, new))
+        }
+        EntryCall::TryMake => {
+            let (made, new) = line.tried()?;
+            line.give(try_make_at(entry, made, new))
+        }
         EntryCall::Cursor => steps_of(entry, line),
     }
 }
@@ -142,15 +144,9 @@ fn insert(entry: InHand<'_>, call: Give, value: Item, new: Option<Name>) -> Answ
 }
 
 /// Steps of a cursor that starts at the entry.
-fn steps_of(entry: InHand<'_>, line: &mut Line<'_>) -> Result<(), Stop> {
+pub fn steps_of(entry: InHand<'_>, line: &mut Line<'_>) -> Result<(), Stop> {
     match entry {
         Entry::Occupied(entry) => take_all_steps(&mut entry.cursor_mut(), line),
         Entry::Vacant(_vacant) => line.say(Word::Nothing),
     }
-}
-
-/// Steps of a cursor that starts at the key of the line.
-pub fn call_cursor_of(map: &mut Map, line: &mut Line<'_>) -> Result<(), Stop> {
-    let key = line.item()?;
-    steps_of(map.entry(key), line)
 }

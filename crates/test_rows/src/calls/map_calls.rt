@@ -2,8 +2,7 @@
 use crate::calls::map_many::call_many;
 use crate::hashers::Hashing;
 use crate::items::{
-    Answer, Item, Line, Name, Shown, Stop, Word, done, has_room, made, made_with_room, no_memory,
-    put, room, write, write_item,
+    Answer, Item, Line, Name, Shown, Stop, Word, has_room, made, no_memory, put, write, write_item,
 };
 use hashlink_map::LinkedHashMap;
 
@@ -19,15 +18,9 @@ pub fn call_map(map: &mut Map, line: &mut Line<'_>) -> Result<(), Stop> {
         "is_empty" => Word::Is(map.is_empty()),
         "pop_front" => map.pop_front().shown(),
         "pop_back" => map.pop_back().shown(),
-        "clear" => {
-            map.clear();
-            Word::Done
-        }
-        "shrink" => done(map.shrink_to_fit()),
-        "clone" => {
-            let clone = map.clone();
-            made(map, clone)
-        }
+        "clear" => map.clear().shown(),
+        "shrink" => map.shrink_to_fit().shown(),
+        "clone" => made(map.clone(), map),
         "back_value_mut" => write(map.back_value_mut(), line.words.optional()),
         _ => return ask_room(map, name, line),
     };
@@ -37,15 +30,17 @@ pub fn call_map(map: &mut Map, line: &mut Line<'_>) -> Result<(), Stop> {
 /// Makes the call of this name, if it takes the number that comes next.
 fn ask_room(map: &mut Map, name: &str, line: &mut Line<'_>) -> Result<(), Stop> {
     let word = match name {
-        "reserve" => room(map.reserve(line.words.size())),
-        "try_reserve" => room(map.try_reserve(line.words.size())),
+        "reserve" => map.reserve(line.words.size()).shown(),
+        "try_reserve" => map.try_reserve(line.words.size()).shown(),
         "room" => has_room(map.capacity(), map.len(), line.words.size()),
         "capacity" => Word::Is(map.capacity() == line.words.size()),
         "under" => Word::Is(map.capacity() < line.words.size()),
         "with_capacity" => {
             let (alloc, size) = (line.home.alloc, line.words.size());
-            let new = LinkedHashMap::with_capacity_and_hasher(alloc, size, *map.hasher());
-            made_with_room(map, new)
+            made(
+                LinkedHashMap::with_capacity_and_hasher(alloc, size, *map.hasher()),
+                map,
+            )
         }
         _ => return call_many(map, name, line),
     };

@@ -1,8 +1,6 @@
 //! Lines that call a map about many pairs, or by an iterator, a cursor or an entry.
-use crate::calls::entries::{call_cursor_of, call_entry_of};
-use crate::calls::extended::{
-    TakesMany, extended, extended_by_trait, make_of_kept, make_of_rest, put_rest,
-};
+use crate::calls::entries::{call_entry, steps_of};
+use crate::calls::extended::{TakesMany, extended, make_of_kept, make_of_rest, put_rest};
 use crate::calls::map_calls::{Map, call_of_key};
 use crate::calls::map_cursors::call_cursor;
 use crate::calls::raw_entries::{call_end, call_raw, read_raw};
@@ -24,8 +22,8 @@ pub fn call_many(map: &mut Map, name: &str, line: &mut Line<'_>) -> Result<(), S
         "collect" => line.say(collect(map, line.home.alloc)),
         "retain" | "retain_with_order" | "retain_from" => retain(map, name, line),
         "cursor" => call_cursor(map, line),
-        "cursor_of" => call_cursor_of(map, line),
-        "entry" => call_entry_of(map, line),
+        "cursor_of" => steps_of(map.entry(line.item()?), line),
+        "entry" => call_entry(map.entry(line.item()?), line),
         "raw" => call_raw(map, line),
         "raw_read" => read_raw(map, line),
         "front_entry" | "back_entry" => call_end(map, name == "front_entry", line),
@@ -51,13 +49,12 @@ fn walk_map(map: &mut Map, name: &str, line: &mut Line<'_>) -> Result<(), Stop> 
 }
 
 impl TakesMany<(Item, Item)> for Map {
-    fn extend_by(&mut self, name: &str, pairs: &mut IntoIter<(Item, Item)>) -> Option<Answer> {
-        match name {
-            "extend" | "extend_kept" => Some(extended(self.extend(&mut *pairs))),
-            "extend_from" => Some(extended(self.extend_from(&mut *pairs))),
-            "extend_by_trait" => Some(extended_by_trait(self, pairs)),
-            _ => None,
-        }
+    fn extend_by(&mut self, is_from: bool, pairs: &mut IntoIter<(Item, Item)>) -> Answer {
+        extended(if is_from {
+            self.extend_from(&mut *pairs)
+        } else {
+            self.extend(&mut *pairs)
+        })
     }
 }
 
@@ -99,7 +96,7 @@ fn say_all(pairs: IterFrom<'_, Item, Item, Hashing>, line: &mut Line<'_>) -> Res
 /// Makes the map anew from its own pairs.
 fn collect(map: &mut Map, alloc: Global) -> Word {
     let own = take(map, alloc);
-    made(map, LinkedHashMap::from_iter(alloc, own))
+    made(LinkedHashMap::from_iter(alloc, own), map)
 }
 
 /// Takes the map, and leaves an empty one in its place.

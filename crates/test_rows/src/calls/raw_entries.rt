@@ -88,10 +88,13 @@ fn raw_of_test<'m>(map: &'m mut Map, way: Way, key: &Item) -> Raw<'m> {
 /// inserts an absent key has another name than one that needs an entry.
 pub fn call_raw(map: &mut Map, line: &mut Line<'_>) -> Result<(), Stop> {
     let way = line.words.named(&WAYS)?;
-    let (key, call) = RawCall::of_key(line)?;
-    match call {
+    let key = line.item()?;
+    match RawCall::read(&mut line.words)? {
         RawCall::ReplaceKey => line.say(replace_key(map, key)),
-        RawCall::Give(call, value, new) => line.give(give_at(map, call, key, value, new)),
+        RawCall::Give(call) => {
+            let (value, new) = line.lent_item()?;
+            line.give(give_at(map, call, key, value, new))
+        }
         call => call_found(raw_of(map, way, &key), call, line),
     }
 }
@@ -111,15 +114,23 @@ fn give_at(map: &mut Map, call: RawGive, key: Item, value: Item, new: Option<Nam
 /// Makes a call of a raw entry that has to be occupied.
 pub fn call_found(entry: Raw<'_>, call: RawCall, line: &mut Line<'_>) -> Result<(), Stop> {
     match call {
-        RawCall::Ask(RawAsk::Modify, new) => line.say(modify(entry, new)),
-        RawCall::Ask(call, new) => line.say(ask(entry, call, new)),
-        RawCall::ReplaceValue(value) => line.say(replace_at(entry, value)),
+        RawCall::Ask(call) => {
+            let new = line.words.optional();
+            line.say(ask(entry, call, new))
+        }
+        RawCall::ReplaceValue => {
+            let value = line.item()?;
+            line.say(replace_at(entry, value))
+        }
         RawCall::Cursor => steps_at(entry, line),
         _ => Err(Stop::Unread),
     }
 }
 
 fn ask(entry: Raw<'_>, call: RawAsk, new: Option<Name>) -> Word {
+    if matches!(call, RawAsk::Modify) {
+        return modify(entry, new);
+    }
     match entry {
         RawEntryMut::Occupied(mut entry) => match call {
             RawAsk::Get => (entry.key(), entry.get()).shown(),
@@ -187,7 +198,7 @@ fn steps_at(entry: Raw<'_>, line: &mut Line<'_>) -> Result<(), Stop> {
 
 /// Makes a call of the entry at an end.
 pub fn call_end(map: &mut Map, is_front: bool, line: &mut Line<'_>) -> Result<(), Stop> {
-    let call = RawCall::read(line)?;
+    let call = RawCall::read(&mut line.words)?;
     let entry = if is_front {
         map.front_entry()
     } else {

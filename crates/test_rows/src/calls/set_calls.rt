@@ -1,10 +1,7 @@
 //! Lines that call a set and need at most one of its elements. The others are in `set_many`.
 use crate::calls::set_many::call_many;
 use crate::hashers::Hashing;
-use crate::items::{
-    Answer, Item, Line, Shown, Stop, Word, done, has_room, made, made_with_room, no_memory, put,
-    room,
-};
+use crate::items::{Answer, Item, Line, Shown, Stop, Word, has_room, made, no_memory, put};
 use hashlink_set::LinkedHashSet;
 
 pub type Set = LinkedHashSet<Item, Hashing>;
@@ -19,15 +16,9 @@ pub fn call_set(set: &mut Set, line: &mut Line<'_>) -> Result<(), Stop> {
         "is_empty" => Word::Is(set.is_empty()),
         "pop_front" => set.pop_front().shown(),
         "pop_back" => set.pop_back().shown(),
-        "clear" => {
-            set.clear();
-            Word::Done
-        }
-        "shrink" => done(set.shrink_to_fit()),
-        "clone" => {
-            let clone = set.clone();
-            made(set, clone)
-        }
+        "clear" => set.clear().shown(),
+        "shrink" => set.shrink_to_fit().shown(),
+        "clone" => made(set.clone(), set),
         _ => return ask_room(set, name, line),
     };
     line.say(word)
@@ -36,15 +27,17 @@ pub fn call_set(set: &mut Set, line: &mut Line<'_>) -> Result<(), Stop> {
 /// Makes the call of this name, if it takes the number that comes next.
 fn ask_room(set: &mut Set, name: &str, line: &mut Line<'_>) -> Result<(), Stop> {
     let word = match name {
-        "reserve" => room(set.reserve(line.words.size())),
-        "try_reserve" => room(set.try_reserve(line.words.size())),
+        "reserve" => set.reserve(line.words.size()).shown(),
+        "try_reserve" => set.try_reserve(line.words.size()).shown(),
         "room" => has_room(set.capacity(), set.len(), line.words.size()),
         "capacity" => Word::Is(set.capacity() == line.words.size()),
         "under" => Word::Is(set.capacity() < line.words.size()),
         "with_capacity" => {
             let (alloc, size) = (line.home.alloc, line.words.size());
-            let new = LinkedHashSet::with_capacity_and_hasher(alloc, size, *set.hasher());
-            made_with_room(set, new)
+            made(
+                LinkedHashSet::with_capacity_and_hasher(alloc, size, *set.hasher()),
+                set,
+            )
         }
         _ => return call_many(set, name, line),
     };

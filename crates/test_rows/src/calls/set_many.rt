@@ -1,7 +1,7 @@
 //! Lines that call a set about many elements, by an iterator, or about an element that the call makes.
 ghost use Rattle.std.specs.Prelude.{◌≡◌};
 
-use crate::calls::extended::{TakesMany, extended_by_trait, make_of_kept, make_of_rest, put_rest};
+use crate::calls::extended::{TakesMany, make_of_kept, make_of_rest, put_rest};
 use crate::calls::set_calls::{Set, call_of_element};
 use crate::items::{
     Answer, Exact, Item, Keep, Line, Shown, Stop, Word, is_other, put, read_keep, walk_and_clone,
@@ -50,13 +50,12 @@ fn get_or_make<'s>(set: &'s mut Set, element: &Item, made: Item) -> Result<&'s I
 }
 
 impl TakesMany<Item> for Set {
-    fn extend_by(&mut self, name: &str, elements: &mut IntoIter<Item>) -> Option<Answer> {
-        match name {
-            "extend" | "extend_kept" => Some(extended(self.extend(&mut *elements))),
-            "extend_from" => Some(extended(self.extend_from(&mut *elements))),
-            "extend_by_trait" => Some(extended_by_trait(self, elements)),
-            _ => None,
-        }
+    fn extend_by(&mut self, is_from: bool, elements: &mut IntoIter<Item>) -> Answer {
+        extended(if is_from {
+            self.extend_from(&mut *elements)
+        } else {
+            self.extend(&mut *elements)
+        })
     }
 }
 

@@ -14,22 +14,10 @@ pub fn call_sets(set: &mut Set, other: &Set, line: &mut Line<'_>) -> Result<(), 
         "is_disjoint" => Word::Is(set.is_disjoint(other)),
         "is_subset" => Word::Is(set.is_subset(other)),
         "is_superset" => Word::Is(set.is_superset(other)),
-        "|" => {
-            let new = &*set | other;
-            made(set, new)
-        }
-        "&" => {
-            let new = &*set & other;
-            made(set, new)
-        }
-        "^" => {
-            let new = &*set ^ other;
-            made(set, new)
-        }
-        "-" => {
-            let new = &*set - other;
-            made(set, new)
-        }
+        "|" => made(&*set | other, set),
+        "&" => made(&*set & other, set),
+        "^" => made(&*set ^ other, set),
+        "-" => made(&*set - other, set),
         _ => return iterate(set, other, name, line),
     };
     line.say(word)

@@ -33,12 +33,8 @@ impl Spoken for Weighted {
 
 fn put_pair(cache: &mut Weighted, line: &mut Line<'_>) -> Result<(), Stop> {
     let (key, value) = line.pair()?;
-    line.give(insert(cache, key, value))
-}
-
-fn insert(cache: &mut Weighted, key: Item, value: Item) -> Answer {
     let weight = value.name().number;
-    inserted(cache.insert(key, value, weight))
+    line.give(inserted(cache.insert(key, value, weight)))
 }
 
 /// Inserts a pair, with room to record each pair that it may evict.

@@ -137,16 +137,12 @@ impl Word {
 
     /// The text of a word without a number.
     fn text(self) -> &'static str {
-        match self {
-            Word::Nothing => "-",
-            Word::Done => "ok",
-            Word::Is(true) => "yes",
-            Word::Is(false) => "no",
-            Word::Memory => "memory",
-            Word::Overflow => "overflow",
-            Word::Heavy => "heavy",
-            Word::Wrong | Word::Item(..) | Word::Pair(..) => "wrong",
+        for (text, word) in PLAIN {
+            if word == self {
+                return text;
+            }
         }
+        "wrong"
     }
 }
 
@@ -188,13 +184,26 @@ pub enum Answer {
     Silent,
 }
 
-/// Why a line was not answered.
+/// Why a row stopped.
 #[derive(Clone, Copy)]
 pub enum Stop {
     /// There was no memory for what the row itself needs.
     Memory,
     /// It is not a line of this kind of row.
     Unread,
+    /// The answer, which is in `Answers`, is not the one that is written.
+    Answer,
+    /// A reply of a run, or the answer to a text, is not the one that is written.
+    Reply,
+    /// The number of live items is not the number that the containers hold.
+    Living,
+}
+
+impl Stop {
+    /// Stops for this reason, unless all is right.
+    pub fn unless(self, is_right: bool) -> Result<(), Stop> {
+        if is_right { Ok(()) } else { Err(self) }
+    }
 }
 
 impl From<AllocError> for Stop {
@@ -251,10 +260,6 @@ impl Answers {
             }
         }
         self.tally.refused > before
-    }
-
-    pub fn add_refused(&mut self, refused: usize) {
-        self.tally.refused = self.tally.refused.saturating_add(refused);
     }
 }
 

@@ -1,7 +1,6 @@
 //! Calls of an entry.
-use crate::items::Item;
-use crate::items::answers::{Name, Stop};
-use crate::items::line::Line;
+use crate::items::answers::Stop;
+use crate::items::words::Words;
 
 /// A call that takes no item. If a name follows, it is written into what is lent.
 #[derive(Clone, Copy)]
@@ -44,83 +43,56 @@ pub enum Give {
     VacantTake,
 }
 
-/// A call of an entry, with its arguments.
-#[derive(Drop)]
+/// A call of an entry.
+#[derive(Clone, Copy)]
 pub enum EntryCall {
-    Ask(Ask, Option<Name>),
-    Give(Give, Item, Option<Name>),
-    /// Inserts the made value, or passes on the reason why none was made.
-    TryMake(Result<Item, Item>, Option<Name>),
+    Ask(Ask),
+    Give(Give),
+    /// Inserts the value that the next word names as made or, after `fail`, passes on why none was made.
+    TryMake,
     /// Steps of a cursor follow.
     Cursor,
 }
 
-/// A call by its name only.
-#[derive(Clone, Copy)]
-enum Named {
-    Ask(Ask),
-    Give(Give),
-    TryMake,
-    Cursor,
-}
-
-const CALLS: [(&str, Named); 19] = [
-    ("get", Named::Ask(Ask::Get)),
-    ("to_front", Named::Ask(Ask::ToFront)),
-    ("to_back", Named::Ask(Ask::ToBack)),
-    ("key", Named::Ask(Ask::Key)),
-    ("replace_key", Named::Ask(Ask::ReplaceKey)),
-    ("into_key", Named::Ask(Ask::IntoKey)),
-    ("remove", Named::Ask(Ask::Remove)),
-    ("remove_entry", Named::Ask(Ask::RemoveEntry)),
-    ("and_modify", Named::Ask(Ask::Modify)),
-    ("get_mut", Named::Ask(Ask::GetMut)),
-    ("into_mut", Named::Ask(Ask::IntoMut)),
-    ("or_insert", Named::Give(Give::OrInsert)),
-    ("or_insert_with", Named::Give(Give::OrInsertWith)),
-    ("or_try_insert_with", Named::TryMake),
-    ("insert", Named::Give(Give::Insert)),
-    ("raw_replace_value", Named::Give(Give::RawReplaceValue)),
-    ("insert_entry", Named::Give(Give::InsertEntry)),
-    ("replace_entry", Named::Give(Give::ReplaceEntry)),
-    ("cursor", Named::Cursor),
+const CALLS: [(&str, EntryCall); 19] = [
+    ("get", EntryCall::Ask(Ask::Get)),
+    ("to_front", EntryCall::Ask(Ask::ToFront)),
+    ("to_back", EntryCall::Ask(Ask::ToBack)),
+    ("key", EntryCall::Ask(Ask::Key)),
+    ("replace_key", EntryCall::Ask(Ask::ReplaceKey)),
+    ("into_key", EntryCall::Ask(Ask::IntoKey)),
+    ("remove", EntryCall::Ask(Ask::Remove)),
+    ("remove_entry", EntryCall::Ask(Ask::RemoveEntry)),
+    ("and_modify", EntryCall::Ask(Ask::Modify)),
+    ("get_mut", EntryCall::Ask(Ask::GetMut)),
+    ("into_mut", EntryCall::Ask(Ask::IntoMut)),
+    ("or_insert", EntryCall::Give(Give::OrInsert)),
+    ("or_insert_with", EntryCall::Give(Give::OrInsertWith)),
+    ("or_try_insert_with", EntryCall::TryMake),
+    ("insert", EntryCall::Give(Give::Insert)),
+    ("raw_replace_value", EntryCall::Give(Give::RawReplaceValue)),
+    ("insert_entry", EntryCall::Give(Give::InsertEntry)),
+    ("replace_entry", EntryCall::Give(Give::ReplaceEntry)),
+    ("cursor", EntryCall::Cursor),
 ];
 
 /// The calls after the word `vacant`.
-const VACANT: [(&str, Named); 6] = [
-    ("key", Named::Ask(Ask::VacantKey)),
-    ("into_key", Named::Ask(Ask::VacantIntoKey)),
-    ("raw", Named::Ask(Ask::VacantRaw)),
-    ("insert", Named::Give(Give::VacantInsert)),
-    ("insert_entry", Named::Give(Give::VacantInsertEntry)),
-    ("take", Named::Give(Give::VacantTake)),
+const VACANT: [(&str, EntryCall); 6] = [
+    ("key", EntryCall::Ask(Ask::VacantKey)),
+    ("into_key", EntryCall::Ask(Ask::VacantIntoKey)),
+    ("raw", EntryCall::Ask(Ask::VacantRaw)),
+    ("insert", EntryCall::Give(Give::VacantInsert)),
+    ("insert_entry", EntryCall::Give(Give::VacantInsertEntry)),
+    ("take", EntryCall::Give(Give::VacantTake)),
 ];
 
 impl EntryCall {
-    /// The key and the call that the next words name.
-    pub fn of_key(line: &mut Line<'_>) -> Result<(Item, EntryCall), Stop> {
-        let key = line.item()?;
-        Ok((key, EntryCall::read(line)?))
-    }
-
     /// The call that the next words name.
-    fn read(line: &mut Line<'_>) -> Result<EntryCall, Stop> {
-        let calls: &[(&str, Named)] = if line.words.has("vacant") {
-            &VACANT
+    pub fn read(words: &mut Words<'_>) -> Result<EntryCall, Stop> {
+        if words.has("vacant") {
+            words.named(&VACANT)
         } else {
-            &CALLS
-        };
-        Ok(match line.words.named(calls)? {
-            Named::Ask(call) => EntryCall::Ask(call, line.words.optional()),
-            Named::Give(call) => {
-                let (value, new) = line.lent_item()?;
-                EntryCall::Give(call, value, new)
-            }
-            Named::TryMake => {
-                let (made, new) = line.tried()?;
-                EntryCall::TryMake(made, new)
-            }
-            Named::Cursor => EntryCall::Cursor,
-        })
+            words.named(&CALLS)
+        }
     }
 }

@@ -4,7 +4,7 @@ ghost use Rattle.std.specs.Cmp.Rules.{comparing, hashing};
 ghost use Rattle.std.specs.Hash as fed;
 
 use crate::hashers::Hashing;
-use crate::items::answers::{Name, Named, Pair, Stop};
+use crate::items::answers::{Name, Named};
 use crate::items::counts::{Counts, add};
 use std::alloc::{AllocError, Global};
 use std::hash::{Hash, Hasher};
@@ -36,11 +36,6 @@ impl Home<'_> {
     /// How many clones of items there were since the last call of this function.
     pub fn clones(self) -> u64 {
         self.counts.clones.replace(0)
-    }
-
-    /// Two new items with the given names.
-    pub fn pair(self, (key, value): Pair) -> Result<(Item, Item), Stop> {
-        Ok((Item::new(self, key)?, Item::new(self, value)?))
     }
 }
 

@@ -16,25 +16,14 @@ pub enum Keep {
     WithoutOdd,
 }
 
+const KEEPS: [(&str, Keep); 4] = [
+    ("even", Keep::Even),
+    ("odd", Keep::Odd),
+    ("others", Keep::Others),
+    ("without_odd", Keep::WithoutOdd),
+];
+
 impl Keep {
-    fn of(word: &str) -> Result<Keep, Stop> {
-        match word {
-            "even" => Ok(Keep::Even),
-            "odd" => Ok(Keep::Odd),
-            "others" => Ok(Keep::Others),
-            "without_odd" => Ok(Keep::WithoutOdd),
-            _ => Err(Stop::Unread),
-        }
-    }
-
-    /// How many words it may return for so many entries.
-    pub fn room(self, len: usize) -> usize {
-        match self {
-            Keep::Others | Keep::WithoutOdd => len,
-            Keep::Even | Keep::Odd => 0,
-        }
-    }
-
     /// Whether it keeps the entry.
     pub fn keeps(self, key: &Item, value: &mut Item, met: &mut Vec<Word>) -> bool {
         match self {
@@ -63,11 +52,10 @@ pub fn is_other(key: &Item, met: &mut Vec<Word>) -> bool {
     key.group % 2 == 0
 }
 
-/// The test that the next word names, of so many entries, for whose words there is then room.
+/// The test that the next word names, of so many entries. There is then room to record each of them.
 pub fn read_keep(len: usize, line: &mut Line<'_>) -> Result<Keep, Stop> {
-    let keep = Keep::of(line.words.word())?;
-    line.answers.words.reserve(keep.room(len))?;
-    Ok(keep)
+    line.answers.words.reserve(len)?;
+    line.words.named(&KEEPS)
 }
 
 /// Whether a container of this capacity and length has room for so many more.

@@ -1,13 +1,18 @@
 //! A line that is being run, and what is read from its words.
-use crate::items::answers::{Answer, Answers, Name, Pair, Stop, Word};
+use crate::items::answers::{Answer, Answers, Name, Stop, Word};
 use crate::items::words::Words;
 use crate::items::{Home, Item};
+use crate::spoken::Voice;
 
 /// A line that is being run.
 #[derive(Drop)]
 pub struct Line<'l> {
     /// What the items that it names are made from.
     pub home: Home<'l>,
+    /// Where answers and contents are printed.
+    pub voice: Voice<'l>,
+    /// Its number and its text, or those of the row's first line.
+    pub place: (usize, &'l str),
     /// The words that have not been read yet.
     pub words: Words<'l>,
     /// Its answer, and the counts of the lines before it.
@@ -37,7 +42,7 @@ impl Line<'_> {
 
     /// The pair that the next two words name.
     pub fn pair(&mut self) -> Result<(Item, Item), Stop> {
-        self.home.pair(self.words.names())
+        <(Item, Item)>::read(self)
     }
 
     pub fn say(&mut self, word: Word) -> Result<(), Stop> {
@@ -50,6 +55,14 @@ impl Line<'_> {
 
     pub fn give(&mut self, answer: Answer) -> Result<(), Stop> {
         self.answers.give(answer)
+    }
+
+    /// Counts and prints that an allocation for a whole run failed.
+    pub fn refuse(&mut self) {
+        self.answers.tally.refused = self.answers.tally.refused.saturating_add(1);
+        if let Some(rt) = self.voice {
+            let _ = println!(rt; "refused");
+        }
     }
 }
 
@@ -64,39 +77,29 @@ impl Read for Item {
     }
 }
 
-impl Read for (Item, Item) {
-    fn read(line: &mut Line<'_>) -> Result<(Item, Item), Stop> {
-        line.pair()
-    }
-}
-
 impl Read for Name {
     fn read(line: &mut Line<'_>) -> Result<Name, Stop> {
         Ok(line.words.name())
     }
 }
 
-impl Read for Pair {
-    fn read(line: &mut Line<'_>) -> Result<Pair, Stop> {
-        Ok(line.words.names())
+impl<K: Read + Drop, V: Read + Drop> Read for (K, V) {
+    fn read(line: &mut Line<'_>) -> Result<(K, V), Stop> {
+        let key = K::read(line)?;
+        Ok((key, V::read(line)?))
     }
 }
 
 /// All that the rest of the line names.
 pub fn rest_of<T: Read + Drop>(line: &mut Line<'_>) -> Result<Vec<T>, Stop> {
     let mut named = Vec::with_capacity(line.home.alloc, 16)?;
-    push_rest(line, &mut named)?;
-    Ok(named)
-}
-
-pub fn push_rest<T: Read + Drop>(line: &mut Line<'_>, named: &mut Vec<T>) -> Result<(), Stop> {
     for _ in 0..64 {
         if line.words.rest.is_empty() {
             break;
         }
-        push(named, T::read(line)?)?;
+        push(&mut named, T::read(line)?)?;
     }
-    Ok(())
+    Ok(named)
 }
 
 /// Pushes an item that the row itself needs.

@@ -1,7 +1,6 @@
 //! Calls of a raw entry.
-use crate::items::Item;
-use crate::items::answers::{Name, Stop};
-use crate::items::line::Line;
+use crate::items::answers::Stop;
+use crate::items::words::Words;
 
 /// A call that takes no item. If a name follows, it is written into what is lent.
 #[derive(Clone, Copy)]
@@ -37,77 +36,55 @@ pub enum RawGive {
     InsertEntryWithHasher,
 }
 
-/// A call of a raw entry, with its arguments besides the key.
-#[derive(Drop)]
+/// A call of a raw entry.
+#[derive(Clone, Copy)]
 pub enum RawCall {
-    Ask(RawAsk, Option<Name>),
-    Give(RawGive, Item, Option<Name>),
-    ReplaceValue(Item),
+    Ask(RawAsk),
+    Give(RawGive),
+    ReplaceValue,
     ReplaceKey,
     /// Steps of a cursor follow.
     Cursor,
 }
 
-/// A call by its name only.
-#[derive(Clone, Copy)]
-enum Named {
-    Ask(RawAsk),
-    Give(RawGive),
-    ReplaceValue,
-    ReplaceKey,
-    Cursor,
-}
-
-const CALLS: [(&str, Named); 23] = [
-    ("get", Named::Ask(RawAsk::Get)),
-    ("get_key_value", Named::Ask(RawAsk::GetKeyValue)),
-    ("to_front", Named::Ask(RawAsk::ToFront)),
-    ("to_back", Named::Ask(RawAsk::ToBack)),
-    ("into_key", Named::Ask(RawAsk::IntoKey)),
-    ("remove", Named::Ask(RawAsk::Remove)),
-    ("remove_entry", Named::Ask(RawAsk::RemoveEntry)),
-    ("and_modify", Named::Ask(RawAsk::Modify)),
-    ("get_mut", Named::Ask(RawAsk::GetMut)),
-    ("get_key_value_mut", Named::Ask(RawAsk::GetKeyValueMut)),
-    ("into_mut", Named::Ask(RawAsk::IntoMut)),
-    ("into_key_value", Named::Ask(RawAsk::IntoKeyValue)),
-    ("or_insert", Named::Give(RawGive::OrInsert)),
-    ("or_insert_with", Named::Give(RawGive::OrInsertWith)),
-    ("replace_key", Named::ReplaceKey),
-    ("replace_value", Named::ReplaceValue),
-    ("insert", Named::Give(RawGive::Insert)),
-    ("insert_hashed", Named::Give(RawGive::InsertHashed)),
-    ("insert_with_hasher", Named::Give(RawGive::InsertWithHasher)),
-    ("insert_entry", Named::Give(RawGive::InsertEntry)),
+const CALLS: [(&str, RawCall); 23] = [
+    ("get", RawCall::Ask(RawAsk::Get)),
+    ("get_key_value", RawCall::Ask(RawAsk::GetKeyValue)),
+    ("to_front", RawCall::Ask(RawAsk::ToFront)),
+    ("to_back", RawCall::Ask(RawAsk::ToBack)),
+    ("into_key", RawCall::Ask(RawAsk::IntoKey)),
+    ("remove", RawCall::Ask(RawAsk::Remove)),
+    ("remove_entry", RawCall::Ask(RawAsk::RemoveEntry)),
+    ("and_modify", RawCall::Ask(RawAsk::Modify)),
+    ("get_mut", RawCall::Ask(RawAsk::GetMut)),
+    ("get_key_value_mut", RawCall::Ask(RawAsk::GetKeyValueMut)),
+    ("into_mut", RawCall::Ask(RawAsk::IntoMut)),
+    ("into_key_value", RawCall::Ask(RawAsk::IntoKeyValue)),
+    ("or_insert", RawCall::Give(RawGive::OrInsert)),
+    ("or_insert_with", RawCall::Give(RawGive::OrInsertWith)),
+    ("replace_key", RawCall::ReplaceKey),
+    ("replace_value", RawCall::ReplaceValue),
+    ("insert", RawCall::Give(RawGive::Insert)),
+    ("insert_hashed", RawCall::Give(RawGive::InsertHashed)),
+    (
+        "insert_with_hasher",
+        RawCall::Give(RawGive::InsertWithHasher),
+    ),
+    ("insert_entry", RawCall::Give(RawGive::InsertEntry)),
     (
         "insert_entry_hashed",
-        Named::Give(RawGive::InsertEntryHashed),
+        RawCall::Give(RawGive::InsertEntryHashed),
     ),
     (
         "insert_entry_with_hasher",
-        Named::Give(RawGive::InsertEntryWithHasher),
+        RawCall::Give(RawGive::InsertEntryWithHasher),
     ),
-    ("cursor", Named::Cursor),
+    ("cursor", RawCall::Cursor),
 ];
 
 impl RawCall {
-    /// The key and the call that the next words name.
-    pub fn of_key(line: &mut Line<'_>) -> Result<(Item, RawCall), Stop> {
-        let key = line.item()?;
-        Ok((key, RawCall::read(line)?))
-    }
-
-    /// The call that the next words name.
-    pub fn read(line: &mut Line<'_>) -> Result<RawCall, Stop> {
-        match line.words.named(&CALLS)? {
-            Named::Ask(call) => Ok(RawCall::Ask(call, line.words.optional())),
-            Named::Give(call) => {
-                let (value, new) = line.lent_item()?;
-                Ok(RawCall::Give(call, value, new))
-            }
-            Named::ReplaceValue => Ok(RawCall::ReplaceValue(line.item()?)),
-            Named::ReplaceKey => Ok(RawCall::ReplaceKey),
-            Named::Cursor => Ok(RawCall::Cursor),
-        }
+    /// The call that the next word names.
+    pub fn read(words: &mut Words<'_>) -> Result<RawCall, Stop> {
+        words.named(&CALLS)
     }
 }

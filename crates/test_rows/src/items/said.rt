@@ -37,6 +37,36 @@ impl<T: Shown> Shown for Option<T> {
     }
 }
 
+impl Shown for () {
+    fn shown(self) -> Word {
+        Word::Done
+    }
+}
+
+impl Shown for AllocError {
+    fn shown(self) -> Word {
+        Word::Memory
+    }
+}
+
+impl Shown for TryReserveError {
+    fn shown(self) -> Word {
+        match self {
+            TryReserveError::AllocError => Word::Memory,
+            TryReserveError::CapacityOverflow => Word::Overflow,
+        }
+    }
+}
+
+impl<T: Shown, E: Shown> Shown for Result<T, E> {
+    fn shown(self) -> Word {
+        match self {
+            Ok(it) => it.shown(),
+            Err(refused) => refused.shown(),
+        }
+    }
+}
+
 /// The word for a value that is lent for writing, which is then written.
 pub fn write(value: Option<&mut Item>, new: Option<Name>) -> Word {
     match value {
@@ -85,41 +115,13 @@ pub fn no_memory<T: Shown>(refused: T) -> Answer {
     Answer::Back(Word::Memory, refused.shown())
 }
 
-/// Done, or that an allocation failed.
-pub fn done(is_done: Result<(), AllocError>) -> Word {
-    match is_done {
-        Ok(()) => Word::Done,
-        Err(AllocError) => Word::Memory,
-    }
-}
-
 /// The row continues with the container that was made.
-pub fn made<C: Drop>(container: &mut C, made: Result<C, AllocError>) -> Word {
+pub fn made<C: Drop, E: Shown>(made: Result<C, E>, container: &mut C) -> Word {
     match made {
         Ok(new) => {
             *container = new;
             Word::Done
         }
-        Err(AllocError) => Word::Memory,
-    }
-}
-
-/// The same for a container that was made with room.
-pub fn made_with_room<C: Drop>(container: &mut C, made: Result<C, TryReserveError>) -> Word {
-    match made {
-        Ok(new) => {
-            *container = new;
-            Word::Done
-        }
-        Err(refused) => room(Err(refused)),
-    }
-}
-
-/// The result of a request for room.
-pub fn room(room: Result<(), TryReserveError>) -> Word {
-    match room {
-        Ok(()) => Word::Done,
-        Err(TryReserveError::AllocError) => Word::Memory,
-        Err(TryReserveError::CapacityOverflow) => Word::Overflow,
+        Err(refused) => refused.shown(),
     }
 }

@@ -1,5 +1,5 @@
 //! The words of a line.
-use crate::items::answers::{Name, Pair, Stop, find, number};
+use crate::items::answers::{Name, Stop, find, number};
 
 /// The words of a line that have not been read yet.
 #[derive(Clone, Copy)]
@@ -64,12 +64,6 @@ impl<'l> Words<'l> {
             return None;
         }
         Some(self.name())
-    }
-
-    /// The next two words as names.
-    pub fn names(&mut self) -> Pair {
-        let key = self.name();
-        (key, self.name())
     }
 
     pub fn number(&mut self) -> u64 {
