@@ -179,3 +179,11 @@ module _ {K V : Type 0} (eq : K → K → Bool) (laws : IsEquivalence eq) where
   answers_along c events e n =
       held_exactly eq laws c (used_keys events) (after_events eq c [] events) (key_of e)
       (holds_along c events n)
+
+pub ruleset parts = (after_events-append, answers-append, IsEntries-after_events, after_events-at_most)
+
+pub ruleset along = (holds_along, answers_along, keys_along, finds_along, entries_along, finds_the_same_along)
+
+pub ruleset recent = (HoldsRecent-start, HoldsRecent-cache_put, HoldsRecent-cache_use, held_exactly)
+
+pub ruleset runs = (parts, along, recent)

@@ -262,3 +262,5 @@ module _ {K V : Type 0} (eq : K → K → Bool) (laws : IsEquivalence eq) where
   pub missed_uses-history : (c : ℕ) (pairs : List (K × V))
       → missed_uses eq c [] pairs ≡ cache_misses eq c (keys_of pairs)
   missed_uses-history c pairs = missed_uses-held c [] [] pairs (HoldsRecent-start V eq c)
+
+pub ruleset schedules = (missed_uses-history, competitive)

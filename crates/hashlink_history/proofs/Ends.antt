@@ -215,3 +215,5 @@ module _ {K V : Type 0} (eq : K → K → Bool) (laws : IsEquivalence eq) where
       let none : NonePasses (eq k) e.front = elim (splits (eq k) e.front)
       [ inl n ↦ n | inr s ↦ absurd (none-some w (sym (lookup-none (eq k) e.back (behind s)) ∙ held)) ] in
       ap (lookup (eq k)) e.is ∙ lookup-right (eq k) e.front e.back none ∙ held
+
+pub ruleset same_end = (end-cache_use, same_end-answers)

@@ -60,3 +60,7 @@ module _ {K V S : Type 0} where
       → PassesInTurn b qs c → PassesInTurn a (ps ++ qs) c
   passes_in_parts a b c [] qs s t = subst (λ m. PassesInTurn m qs c) s t
   passes_in_parts a b c (p ∷ ps) qs s t = (s.0, s.1, passes_in_parts s.0 b c ps qs s.2 t)
+
+pub ruleset passes = (passes-kept, passes-clears, passes-shrinks, passes-cache_insert)
+
+pub ruleset peaks = (passes, peak-append, within_the_peak, passes_in_parts)

@@ -7,7 +7,7 @@ use Rattle.hashlink_model.proofs.Splits.{none_from_lookup, remove_entry-none, re
 use Rattle.hashlink_model.proofs.Finds.{lookup_is, lookup_key_is, stored_key-equal, lookup_entry-without}
 use Rattle.hashlink_model.{proofs.Names.{stored_key, put, moved, moved_at}, specs.Entries.moved_match}
 use Rattle.hashlink_model.proofs.{Splits.{place_of-none, splits}, Distinct.each-left, Finds.lookup-equal}
-use Rattle.hashlink_model.proofs.Puts.{put_back, put_front, lookup_entry-put, none_without, IsEntries-put}
+use Rattle.hashlink_model.proofs.Puts.{put_back, put_front, lookup_entry-put, none_without, IsEntries-put, puts}
 pub use Rattle.hashlink_model.proofs.ByPlace.{moved-there}
 
 pub moved_match-none : {K V : Type 0} (test : K → Bool) (es : List (K × V)) (b : ℕ) → NonePasses test es
@@ -148,3 +148,13 @@ module _ {K V : Type 0} (eq : K → K → Bool) (laws : IsEquivalence eq) where
   moved_twice es k b d twice =
       rw (moved_is eq (moved eq es k b) k b, lookup-moved k es k b d, moved_is eq es k b)
       (grind (arith, twice))
+
+pub ruleset ends = (put_back_twice, put_front_twice, without-put, moved_twice, IsEntries-moved)
+
+pub ruleset lookups = (lookup-moved, lookup-put_same, lookup_entry-put_other, lookup-without_same)
+
+pub ruleset lengths = (length-put_absent, length-put_there, length-without_absent, length-without_there)
+
+pub ruleset keys = (stored_key-put, stored_key-equal)
+
+pub ruleset afterwards = (ends, lookups, lengths, length-moved, keys, lookup_entry-without_other, puts)

@@ -85,3 +85,5 @@ moved-there eq es k b w l =
     let same = set_value_at-place (eq k) es (length s.0) w p ∙ set_value_same (eq k) es w l in
     sym (moved_at-place eq es k (length s.0) p b) ∙ ap (λ zs. moved_at zs (length s.0) b) (sym same)
     ∙ moved_at-put eq es k (length s.0) p w b
+
+pub ruleset by_place = (remove-place, moved_at-place, moved_at-put, set_value_at-place, keys-set_value_at)

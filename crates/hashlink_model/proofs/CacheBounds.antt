@@ -81,3 +81,7 @@ module _ {K V S : Type 0} (old new : CacheState K V S) where
         let left = ap length s.map.fits.entries in
         record { beyond = omega arith; spare = omega arith }
     to_spare-inserts (Err pair) s h = absurd (omega arith)
+
+pub ruleset inserts = (within-inserts, within-inserted, to_spare-inserts)
+
+pub ruleset bounds = (inserts, within-gets, within-removes, within-gets_match_and_writes)

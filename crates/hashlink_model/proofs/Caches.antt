@@ -125,3 +125,9 @@ pub ruleset lengths = (length-last_entries, length-put_there)
 pub ruleset others = (lookup_entry-put_other, moved_is)
 
 pub ruleset after_uses = (lookup-cache_put, lookup_entry-cache_put, lookup-equal, lookup-moved, others)
+
+pub ruleset at_most = (cache_put-at_most, cache_put-with_a_place, cache_put-evicts, cache_extended-at_most)
+
+pub ruleset kept = (IsEntries-cache_put, IsEntries-drop, IsEntries-cache_use, IsEntries-cache_extended)
+
+pub ruleset caches = (lengths, after_uses, at_most, kept, cache_use-at_most)

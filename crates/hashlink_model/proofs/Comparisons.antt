@@ -81,3 +81,11 @@ module _ {K V : Type 0} where
   entries_partial partk partv cmpk cmpv a b (x ∷ xs) [] = refl
   entries_partial partk partv cmpk cmpv a b (x ∷ xs) (y ∷ ys) =
       grind (arith, a x.0 y.0, b x.1 y.1, entries_partial partk partv cmpk cmpv a b xs ys)
+
+pub ruleset lists = (lists_per, lists_equiv)
+
+pub ruleset equalities = (entries_eq_equiv, entries_eq_same, entries_eq_partial, elements_alike, lists)
+
+pub ruleset orders = (entries_cmp_total, entries_ties, entries_partial, entries_partial_order, entries_alike)
+
+pub ruleset comparisons = (equalities, orders)

@@ -27,3 +27,5 @@ module _ {K V : Type 0} (eq : K → K → Bool) where
 
   pub place_kept-within : (old new : List (K × V)) (i : ℕ) → place_kept eq old new i ≤ length new
   place_kept-within old new i = grind (arith, λ (k : K). place_of-below (eq k) new)
+
+pub ruleset places = (place_kept-same, place_kept-within, following_place-guard)

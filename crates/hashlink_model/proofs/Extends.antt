@@ -23,3 +23,5 @@ module _ {K V : Type 0} (eq : K → K → Bool) (laws : IsEquivalence eq) where
   -- a list's own pairs, inserted in turn into an empty list, give the list
   pub extended-own : (es : List (K × V)) → IsEntries eq es → extended eq [] es ≡ es
   extended-own es d = extended-absent [] es d
+
+pub ruleset extends = (IsEntries-extended, extended-own)

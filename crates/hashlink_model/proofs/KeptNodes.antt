@@ -66,3 +66,5 @@ module _ {K V S : Type 0} (old new : MapState K V S) where
 pub ruleset moving = (kept-inserts, kept-replaces, kept-moves, kept-moves_and_writes, kept-changes)
 
 pub ruleset taking = (kept-removes_key, kept-pops_front, kept-pops_back, kept-keeps, kept-reserves)
+
+pub ruleset kept = (moving, taking)

@@ -44,4 +44,6 @@ module _ {T : Type 0} where
       let both = length-append (filter (λ _. true) w.left) (filter q w.right) in
       omega (arith, ap length (filter-all w.left))
 
-pub ruleset lazy_walks = (filter-all, pair_step-takes)
+pub ruleset hints = (left_to_give-at_most, union-at_least)
+
+pub ruleset lazy_walks = (filter-all, pair_step-takes, first_passing-takes, length-filter-le, hints)

@@ -98,4 +98,12 @@ module _ {T : Type 0} (eq : T → T → Bool) (laws : IsEquivalence eq) where
   nil_from_none (z ∷ zs) f =
       grind (arith, f z, laws.refl z)
 
+pub ruleset apart = (IsDistinct-symmetric_difference)
+
+pub ruleset distinct = (IsDistinct-union, IsDistinct-intersection, IsDistinct-difference, apart)
+
+pub ruleset none = (nil_has_none, nil_from_none)
+
 pub ruleset members = (difference_members, intersection_members, is_member-append)
+
+pub ruleset subsets = (members, distinct, none)

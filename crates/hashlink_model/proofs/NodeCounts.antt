@@ -4,6 +4,9 @@ use Rattle.hashlink_model.proofs.Names.{ap, ◌∙◌, arith, set_value, length-
 use Rattle.hashlink_model.proofs.Names.{node_count, Changes, Inserts, KeepsOnly, Moves, MovesMatch}
 use Rattle.hashlink_model.specs.{MapState.{HasRoom, Removes, PutsEntry}, Steps.{WritesEntry, Shrinks}}
 use Rattle.hashlink_model.proofs.Afterwards.{length-put_there, length-moved, moved-absent, length-moved_match}
+use Rattle.hashlink_model.proofs.Afterwards.{lookup-moved, IsEntries-moved}
+use Rattle.hashlink_model.proofs.{Names.keys-set_value, Puts.lookup_entry-set_value_other}
+use Rattle.std.proofs.lemmas.Map.{lookup-set_value}
 
 module _ {K V S : Type 0} (old new : MapState K V S) where
   pub node_count-removes : (es : List (K × V)) → Removes old new es → node_count new ≡ node_count old
@@ -87,3 +90,9 @@ module _ {K V S : Type 0} (eq : K → K → Bool) (old new : MapState K V S) (k 
     moves_nodes None s = ap node_count s.step
     moves_nodes (Some w) s =
         node_count-changes old new (moved eq old.entries k b) 6 s.step (length-moved eq old.entries k b)
+
+pub ruleset node_counts = (node_count-puts, HasRoom-inserts)
+
+pub ruleset writes = (writes_nodes, keys-set_value, lookup-set_value, lookup_entry-set_value_other)
+
+pub ruleset moves = (moves_entries, moves_length, moves_nodes, lookup-moved, IsEntries-moved)

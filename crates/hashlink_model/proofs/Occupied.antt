@@ -1,16 +1,15 @@
 -- Lists after the steps on an occupied entry.
-use Rattle.hashlink_model.proofs.Names.{insert, remove, zero, suc, ◌<◌, MatchOption, Option, arith, take}
-use Rattle.hashlink_model.proofs.Names.{drop, length-append, length-take, length-drop, ◌≡◌, ℕ, Bool, true}
-use Rattle.hashlink_model.proofs.Names.{cond, List, [], ◌∷◌, ◌++◌, length, slice_get, None, Some, refl, sym}
-use Rattle.hashlink_model.proofs.Names.{ap, ap₂, ◌∙◌, subst, IsEquivalence, option_map_or, lookup_entry}
-use Rattle.hashlink_model.proofs.Names.{NonePasses, append-nil, IsEntries, place_of, place_left, put}
+use Rattle.hashlink_model.proofs.Names
+use Names.{insert, remove, zero, suc, ◌<◌, MatchOption, Option, arith, take, drop, length-append, length-take}
+use Names.{length-drop, ◌≡◌, ℕ, Bool, true, cond, List, [], ◌∷◌, ◌++◌, length, slice_get, None, Some, refl}
+use Names.{sym, ap, ap₂, ◌∙◌, subst, IsEquivalence, option_map_or, lookup_entry, NonePasses, append-nil}
+use Names.{IsEntries, place_of, place_left, put, moved_at, without, set_value_at, set_key_at, MapState}
 use Rattle.hashlink_model.proofs.ByPlace.{set_value_at-here, set_key_at-here, remove-here, moved_at-last}
-use Rattle.hashlink_model.proofs.Names.{moved_at, without, set_value_at, set_key_at, MapState}
 use Rattle.hashlink_model.specs.Entry.{IsRawEntry, raw_entry_of, insert_value, insert_entry, replace_entry}
 use Rattle.hashlink_model.proofs.Distinct.{none_equal, none_others, IsEntries-middle, IsEntries-insert}
-use Rattle.hashlink_model.proofs.{Finds.lookup_entry-middle, Puts.none_without, Splits.stands_from_place}
+use Rattle.hashlink_model.proofs.{Finds.lookup_entry-middle, Puts.{none_without, unequal}, Splits.stands_from_place}
 use Rattle.hashlink_model.proofs.Places.{split_at, place_of_its_key}
-use Rattle.hashlink_model.proofs.ByPlace.{moved_at-put, remove-place, length-set_value_at}
+use Rattle.hashlink_model.proofs.ByPlace.{moved_at-put, remove-place, length-set_value_at, by_place}
 
 module _ {K V : Type 0} where
   -- in a list split at the entry
@@ -152,3 +151,7 @@ module _ {K V S : Type 0} (eq : K → K → Bool) where
           omega (arith, s.4, ap length s.3.is, length-append s.0 (s.1 ∷ s.2))
 
 pub ruleset lengths = (length-insert_value, length-insert_entry, length-replace_entry, length-moved_at)
+
+pub ruleset replaced = (lookup_entry-replace_entry, place_of-replace_entry, IsEntries-replace_entry, unequal)
+
+pub ruleset occupied = (lengths, replaced, insert_value-put, insert_entry-last, raw_entry_stands, by_place)

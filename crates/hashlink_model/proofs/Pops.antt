@@ -36,3 +36,5 @@ module _ {K V S : Type 0} (old new : MapState K V S) (e : K × V) where
     sym (last_splits old.entries) ∙ ap₂ (λ es o. es ++ option_to_list o) (sym s.step.entries) (sym s.answer),
     s.step.spare,
   )
+
+pub ruleset pops = (vacant, absent_is_vacant, pops_back, cursor_refused)

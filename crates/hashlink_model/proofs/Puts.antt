@@ -9,7 +9,7 @@ use Rattle.hashlink_model.proofs.Names.{without, stored_key, put, nat_tests}
 use Rattle.hashlink_model.proofs.Splits.{remove_entry-here, set_value-here}
 use Rattle.hashlink_model.proofs.Distinct.{none_equal, none_others, IsEntries-middle, IsEntries-insert}
 use Rattle.hashlink_model.proofs.Finds.{stored_key-equal, lookup_entry-middle, lookup_entry-without}
-use Rattle.std.{specs.Prelude.nat_lt, proofs.lemmas.List.{take_at, drop_at}}
+use Rattle.std.{specs.Prelude.nat_lt, proofs.lemmas.{List.{take_at, drop_at}, Map.keys-set_value}}
 
 module _ {K V : Type 0} (eq : K → K → Bool) where
   -- an absent key is inserted at the place
@@ -137,3 +137,9 @@ module _ {K V : Type 0} (eq : K → K → Bool) (laws : IsEquivalence eq) where
   lookup_entry-set_value_other q [] k v t = refl
   lookup_entry-set_value_other q (e ∷ es) k v t =
       grind (arith, lookup_entry-set_value_other q es k v t, laws.symm q e.0, laws.congr k e.0 q)
+
+pub ruleset puts_there = (put_at_its_place, put_after_its_place, place_of-set_value, keys-set_value)
+
+pub ruleset unequal = (IsEntries-put, IsEntries-without)
+
+pub ruleset puts = (put_back, put_front, puts_there, unequal)

@@ -173,3 +173,7 @@ module _ {F K V : Type 0} (T : F → K → V → Bool → V → F → Type 0) (a
 pub ruleset own_order = (in_own_order, IsPermutation-refl)
 
 pub ruleset unequal = (IsEntries-in_order_of, IsEntries-keeps_in_order)
+
+pub ruleset filters = (keeps_is_filter, keeps_in_order_is_filter)
+
+pub ruleset retains = (own_order, unequal, filters)

@@ -1,12 +1,11 @@
 -- The elements of a set after the map's steps.
-use Rattle.hashlink_model.proofs.Names.{◌≡◌, ℕ, Bool, true, false, not, cond, List, [], ◌∷◌, ◌++◌, length}
-use Rattle.hashlink_model.proofs.Names.{filter, None, slice_get, is_some, Option, Some, Ok, Err, option_map}
-use Rattle.hashlink_model.proofs.Names.{refl, unwrap_or, sym, ap, ap₂, ◌∙◌, subst, arith, zero, suc}
-use Rattle.hashlink_model.proofs.Names.{IsEquivalence, AllZip, find, keys_of, lookup, lookup_key}
-use Rattle.hashlink_model.proofs.Names.{lookup_entry, remove_entry, is_member, swap_key, length-keys_of}
-use Rattle.hashlink_model.proofs.Names.{is_some-lookup, entries_eq, elements_eq, IsEntries, place_of, without}
-use Rattle.hashlink_model.proofs.Names.{stored_key, extended, set_key_at, Inserts, RemovesKey, Moves}
-use Rattle.hashlink_model.proofs.Names.{PopsFront, PopsBack, pairs_of, put_element, replaced, stored_element}
+use Rattle.hashlink_model.proofs.Names
+use Names.{◌≡◌, ℕ, Bool, true, false, not, cond, List, [], ◌∷◌, ◌++◌, length, filter, None, slice_get}
+use Names.{is_some, Option, Some, Ok, Err, option_map, refl, unwrap_or, sym, ap, ap₂, ◌∙◌, subst, arith, zero}
+use Names.{suc, IsEquivalence, AllZip, find, keys_of, lookup, lookup_key, lookup_entry, remove_entry}
+use Names.{is_member, swap_key, length-keys_of, is_some-lookup, entries_eq, elements_eq, IsEntries, place_of}
+use Names.{without, stored_key, extended, set_key_at, Inserts, RemovesKey, Moves, PopsFront, PopsBack}
+use Names.{pairs_of, put_element, replaced, stored_element}
 use Rattle.hashlink_model.proofs.Puts.{put_back, put_back_absent, put_front, put_at_its_place}
 use Rattle.hashlink_model.proofs.{Names.keys-set_value, Finds.{lookup_is, lookup_key_is}, ByPlace.moved-there}
 use Rattle.hashlink_model.specs.Sets.{SetState, elements_of, SetInserts, SetReplaces}
@@ -196,3 +195,7 @@ pub ruleset pairs = (removed_pairs, stored_pairs, entries_of_pairs, length_pairs
 pub ruleset views = (pairs_of-keys_of, keys_of-pairs_of)
 
 pub ruleset at_ends = (pairs, views, put_element_back, put_front, put_back_twice, put_front_twice)
+
+pub ruleset made = (own_elements, clone_of_a_set, set_inserts, set_replaces)
+
+pub ruleset elements = (made, steps, at_places, at_ends)

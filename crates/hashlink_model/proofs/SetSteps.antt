@@ -123,3 +123,5 @@ pub ruleset swaps = (replaced-there, replaced-absent, member_here, swapped_here,
 pub ruleset others = (swapped_others, pushed_others)
 
 pub ruleset unequal = (IsEntries-put, IsDistinct-replaced, keys_of-pairs_of)
+
+pub ruleset set_steps = (members, counts, swaps, others, unequal)

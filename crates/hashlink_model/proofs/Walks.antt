@@ -65,3 +65,5 @@ module _ {X : Type 0} where
       let b = length_step s xs in
       let c : length (s ∷ ss) ≡ suc (length ss) = refl in
       omega arith
+
+pub ruleset walks = (takes_first, takes_last, length-walk_leaves, walk_splits)

@@ -60,3 +60,7 @@ module _ {K V S : Type 0} (eq : K → K → Bool) (old new : WeightedState K V S
 
   pub weighted_total : WeightedInserts eq old new k v weight w → total_weight new.map.entries ≤ new.budget
   weighted_total s = omega (arith, ap total_weight s.keeps.entries, fitting-fits s.between.entries old.budget)
+
+pub ruleset fits = (fitting-fits, fitting-end, fitting-longest, IsEntries-fitting)
+
+pub ruleset weighted = (fits, length-weighted_put, weighted_total)

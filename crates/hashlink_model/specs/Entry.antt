@@ -1,7 +1,7 @@
 -- Entries: the place of a key that was looked up in a map, occupied or vacant, and the steps at it.
 use Rattle.std.specs.Prelude.{◌≡◌, ℕ, ◌<◌, Bool, List, length, slice_get, Option, Some, MatchOption, Result}
 use Rattle.std.specs.{Prelude.MatchResult, Option.{option_map, option_map_or}, Map.lookup}
-use Rattle.hashlink_model.specs.MapState.{MapState, Changes, AddsEntry, RefusesEntry, RemovesAt, MovesAt}
+use Rattle.hashlink_model.specs.MapState.{MapState, Changes, AddsEntry, RefusesEntry, RemovesAt}
 use Rattle.hashlink_model.specs.Entries.{place_of, put, set_value_at, set_key_at, moved_at}
 use Rattle.hashlink_model.specs.MapState.{WritesAt, SetsKeyAt}
 
@@ -72,11 +72,6 @@ module _ {K V S : Type 0} where
   pub record TakesEntry (old new : MapState K V S) (j : ℕ) (e : K × V) : Type 0 where
     pub answer : slice_get old.entries j ≡ Some e
     pub step : RemovesAt old new j
-
-  -- the entry moves to the place b, and its value is returned
-  pub record MovesEntry (old new : MapState K V S) (j b : ℕ) (w : V) : Type 0 where
-    pub answer : value_at old.entries j ≡ Some w
-    pub step : MovesAt old new j b
 
   -- what a raw lookup by a test returns: the place of the first key that passes
   abbrev pub raw_entry_match : (K → Bool) → MapState K V S → RawEntryState K V S

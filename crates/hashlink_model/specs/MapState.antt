@@ -1,7 +1,7 @@
 -- A map, as contracts see it, and the steps between two such states. The contract of a call names its step.
 use Rattle.std.specs.Prelude.{◌≡◌, ℕ, ◌-◌, ◌+◌, ◌*◌, ◌≤◌, ◌<◌, max, Bool, List, [], length, Option, None}
-use Rattle.std.specs.{Prelude.{Some, Result, MatchOption, MatchResult, insert, remove, refl}, Map.lookup}
-use Rattle.std.specs.{Coded.{Coded, code_by, coded×, coded_list, coded_ℕ}, Int.IsPowerOfTwo}
+use Rattle.std.specs.{Prelude.{Some, Result, MatchOption, MatchResult, insert, remove}, Map.lookup}
+use Rattle.std.specs.Int.{IsPowerOfTwo}
 use Rattle.hashlink_model.specs.Entries.{put, moved_at, set_value_at, set_key_at}
 
 -- the entries, the number of free nodes, the room (for how many nodes), how many links were stored so far,
@@ -30,13 +30,6 @@ pub record RoomFor (n old new : ℕ) : Type 0 where
 module _ {K V S : Type 0} where
   abbrev pub map_state : List (K × V) → ℕ → ℕ → ℕ → S → MapState K V S
   map_state es n r w s = record { entries = es; spare = n; room = r; link_writes = w; hasher = s }
-
-  -- a state is coded as the tuple of its fields
-  abbrev pub map_state_code : Coded K → Coded V → Coded S → Coded (MapState K V S)
-  map_state_code k v s = code_by (List (K × V) × (ℕ × (ℕ × (ℕ × S))))
-      (coded× (coded_list (coded× k v)) (coded× coded_ℕ (coded× coded_ℕ (coded× coded_ℕ s))))
-      (λ m. (m.entries, (m.spare, (m.room, (m.link_writes, m.hasher)))))
-      (λ p. map_state p.0 p.1.0 p.1.1.0 p.1.1.1.0 p.1.1.1.1) (λ _. refl)
 
   -- a new map: no entry, and no memory
   abbrev pub empty_map : S → MapState K V S

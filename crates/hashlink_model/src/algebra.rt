@@ -90,7 +90,6 @@ pub fn subset_and_disjoint_by_membership<T>()
 
 /// A lazy iterator begins with the whole result of set algebra, and each step takes the first of the elements
 /// left.
-#[tactic(auto, using(crate::proofs::LazyWalks::lazy_walks))]
 pub fn lazy_walks_give_set_algebra<T>()
     ensures union { (eq : T → T → Bool) (xs ys : List T)
         → left_to_give (λ _. true) (λ y. not (is_member eq xs y)) (record { left = xs; right = ys })

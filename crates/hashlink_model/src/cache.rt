@@ -195,6 +195,7 @@ pub fn what_a_cache_insert_leaves<K, V, S>()
 
 /// A hit of `get` moves its entry to the back with the stored key and its value, and a miss changes nothing.
 /// Neither makes a node or changes the capacity.
+#[tactic(auto, using(crate::proofs::NodeCounts::moves_nodes))]
 pub fn what_a_hit_and_a_miss_leave<K, V, S>()
     ensures hit { (eq : K → K → Bool) (old new : CacheState K V S) (k : K) (w : V)
         → CacheGets eq old new k (Some w)
@@ -254,7 +255,6 @@ pub fn lookup_after_a_cache_insert<K, V>()
 
 /// After a use in a cache of at least capacity 1, the key has its old value, or the given one if it was
 /// absent. Every other key that is still present has its old pair.
-#[tactic(auto, using(crate::proofs::Caches::after_uses))]
 pub fn lookup_after_a_use<K, V>()
     ensures at_key { (eq : K → K → Bool) → IsEquivalence eq → (q : K) (es : List (K × V))
         (cap : ℕ) (k : K) (v : V)
@@ -340,7 +340,6 @@ pub fn what_an_entry_of_a_cache_lets_in<K, V, S, A>()
 /// The most links that an insert stores: four if the key is absent and six if it is present, and three for
 /// each entry that it evicts. So at most seven or nine if it evicts one entry, and four for an absent key if
 /// it evicts none.
-#[tactic(auto, using(crate::proofs::Caches::lengths))]
 pub fn links_of_a_cache_insert<K, V, S>()
     ensures new_key { (eq : K → K → Bool) (old new : CacheState K V S) (k : K) (v : V)
         → CacheInserts eq old new k v (Ok None)

@@ -63,7 +63,6 @@ pub fn retain_by_a_predicate_is_a_filter<K, V, F: FnMut(&K, &mut V) -> bool>()
 {}
 
 /// After a retain no two keys are equal, as before.
-#[tactic(auto, using(crate::proofs::Retains::unequal))]
 pub fn retain_keeps_keys_unequal<K, V, F: FnMut(&K, &mut V) -> bool>()
     ensures some_order { (eq : K → K → Bool) → IsEquivalence eq → (f : F) (es new : List (K × V)) (g : F)
         → IsEntries eq es → KeepsInSomeOrder (CalledAtPair F.FnMut) eq f es new g
@@ -74,7 +73,6 @@ pub fn retain_keeps_keys_unequal<K, V, F: FnMut(&K, &mut V) -> bool>()
 {}
 
 /// The list's own order is one of the orders that a retain may take.
-#[tactic(auto, using(crate::proofs::Retains::own_order))]
 pub fn retain_in_order_is_a_retain<K, V, F: FnMut(&K, &mut V) -> bool>()
     ensures { (eq : K → K → Bool) → IsEquivalence eq → (f : F) (es new : List (K × V))
         (g : F) → IsEntries eq es

@@ -36,7 +36,6 @@ pub fn a_set_is_a_map<T>()
 {}
 
 /// After an element is put anywhere or replaced, no two elements are equal, as before.
-#[tactic(auto, using(crate::proofs::SetSteps::unequal))]
 pub fn set_steps_keep_elements_unequal<T>()
     ensures put { (eq : T → T → Bool) → IsEquivalence eq → (ts : List T) (t : T) (b : ℕ) → IsDistinct eq ts
         → IsDistinct eq (put_element eq ts t b) }
@@ -46,7 +45,6 @@ pub fn set_steps_keep_elements_unequal<T>()
 
 /// After an element is put or replaced, the members are the old ones and the given one. The set is longer by
 /// one exactly if it was absent.
-#[tactic(auto, using(crate::proofs::SetSteps::members, crate::proofs::SetSteps::counts))]
 pub fn members_after_set_steps<T>()
     ensures put { (eq : T → T → Bool) → IsEquivalence eq → (ts : List T) (t : T) (b : ℕ) (q : T)
         → is_member eq (put_element eq ts t b) q ≡ (eq t q || is_member eq ts q) }
@@ -64,7 +62,6 @@ pub fn members_after_set_steps<T>()
 
 /// A replace stores the given element at the place of the equal one, or at the back if there is none. Every
 /// other element stays at its place.
-#[tactic(auto, using(crate::proofs::SetSteps::swaps, crate::proofs::SetSteps::others))]
 pub fn replacing_leaves_every_element<T>()
     ensures there { (eq : T → T → Bool) → IsEquivalence eq → (ts : List T) (t x : T)
         (j : ℕ) → IsDistinct eq ts
@@ -78,6 +75,7 @@ pub fn replacing_leaves_every_element<T>()
 {}
 
 /// The elements after the map's steps on a set, and the results of the steps.
+#[tactic(auto, using(crate::proofs::SetElements::steps))]
 pub fn elements_after_steps<T, S>()
     ensures insert { (eq : T → T → Bool) (old new : SetState T S) (t : T) (b : ℕ) (w : Option (Unit {0}))
         → Inserts eq old new t tt b (Ok w)
@@ -104,7 +102,6 @@ pub fn elements_after_steps<T, S>()
 
 /// The results of the set's own steps, and the elements afterwards. An insert returns whether the element was
 /// new, and keeps the stored object. A replace returns this object, and stores the new one at its place.
-#[tactic(auto, using(crate::proofs::SetElements::set_inserts, crate::proofs::SetElements::set_replaces))]
 pub fn what_set_steps_leave<T, S>()
     ensures insert { (eq : T → T → Bool) (old new : SetState T S) (t : T) (b : Bool)
         → SetInserts eq old new t (Ok b)
@@ -123,7 +120,6 @@ pub fn what_set_steps_leave<T, S>()
 
 /// An element that is put last or first is there as the object that the set has for it. A second put at the
 /// same end changes nothing, nor does a put at the element's own place or directly behind itself.
-#[tactic(auto, using(crate::proofs::SetElements::at_places, crate::proofs::SetElements::at_ends))]
 pub fn where_an_element_is_put<T>()
     ensures back { (eq : T → T → Bool) (ts : List T) (t : T)
         → put_element eq ts t (length ts) ≡ remove_key (eq t) ts ++ stored_element eq ts t ∷ [] }

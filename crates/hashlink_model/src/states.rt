@@ -83,6 +83,7 @@ pub fn what_a_replace_leaves<K, V, S>()
 {}
 
 /// A write changes one value and keeps every key at its place. A move changes no value. Both keep every node.
+#[tactic(auto, using(crate::proofs::NodeCounts::writes, crate::proofs::NodeCounts::moves))]
 pub fn writes_and_moves_keep_the_keys<K, V, S>()
     ensures written_keys { (eq : K → K → Bool) (old new : MapState K V S) (k : K) (v w : V)
         → WritesEntry eq old new k v w
@@ -228,6 +229,7 @@ pub fn room_after_steps<K, V, S, E>()
 
 /// Each step except a clear and a shrink keeps every node, and makes one only if there are more entries than
 /// nodes.
+#[tactic(auto, using(crate::proofs::KeptNodes::kept))]
 pub fn every_node_is_kept<K, V, S, E>()
     ensures inserts { (old new : MapState K V S) (eq : K → K → Bool) (k : K) (v : V) (b : ℕ)
         (r : Result (Option V) (K × V))

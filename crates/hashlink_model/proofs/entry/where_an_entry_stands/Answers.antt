@@ -1,5 +1,4 @@
-use Rattle.hashlink_model.proofs.{Splits.stands_from_place, Places.slice_get_here, Occupied.raw_entry_stands}
-use Rattle.hashlink_model.proofs.Pops.{vacant}
+use Rattle.hashlink_model.proofs.{Splits.stands_from_place, Places.slice_get_here}
 use Rattle.std.proofs.Common.{ap₂, slice_get, ◌∙◌, sym}
 use Rattle.hashlink_model.proofs.entry.where_an_entry_stands.Goals as goal
 
@@ -7,9 +6,3 @@ pub returns-clause-occupied : goal.returns-clause-occupied
 returns-clause-occupied g c eq e j i p =
     let s = stands_from_place (eq e.key) e.map.entries j (sym i ∙ p) in
     (s.1, ap₂ slice_get s.3.is (sym s.4) ∙ slice_get_here s.0 s.1 s.2, s.3.passes)
-
-pub returns-clause-vacant : goal.returns-clause-vacant
-returns-clause-vacant g c eq laws e i p = vacant eq laws e.key e.map.entries (sym i ∙ p)
-
-pub returns-clause-raw : goal.returns-clause-raw
-returns-clause-raw g c = raw_entry_stands

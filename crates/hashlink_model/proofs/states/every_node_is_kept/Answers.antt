@@ -1,5 +1,5 @@
-use Rattle.hashlink_model.proofs.KeptNodes.{moving, taking}
+use Rattle.hashlink_model.proofs.KeptNodes.{moving}
 use Rattle.hashlink_model.proofs.states.every_node_is_kept.Goals as goal
 
-pub returns : goal.returns
-returns g c = search (moving, taking)
+pub returns-clause-moves_and_writes : goal.returns-clause-moves_and_writes
+returns-clause-moves_and_writes g c = search moving

@@ -1,9 +1,6 @@
 use Rattle.std.proofs.Common.{[], ◌∙◌, append-nil}
-use Rattle.hashlink_model.proofs.{Splits.remove_entry-here, Places.none_before, Pops.pops_back}
+use Rattle.hashlink_model.proofs.{Splits.remove_entry-here, Places.none_before}
 use Rattle.hashlink_model.proofs.states.what_a_pop_leaves.Goals as goal
-
-pub returns-clause-back : goal.returns-clause-back
-returns-clause-back g c = pops_back
 
 pub returns-clause-last_by_key : goal.returns-clause-last_by_key
 returns-clause-last_by_key g c eq laws es e d =
