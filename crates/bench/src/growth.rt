@@ -10,8 +10,7 @@ use std::io;
 use std::rt::Clock;
 use std::time::Duration;
 
-/// The time of the longest insert, when all keys are inserted into an empty map, and the sum with the
-/// results.
+/// The time of the longest insert, as all keys are inserted into an empty map, and the sum of the results.
 fn longest_insert(plan: &Plan<'_>) -> io::Result<(Duration, u64)> {
     let mut map = LinkedHashMap::new(plan.keys.alloc);
     let mut longest = Duration::ZERO;

@@ -12,8 +12,7 @@ pub(crate) enum Order {
     Absent,
     /// The held keys, mixed.
     Mixed,
-    /// The held keys, mixed, in two orders by turns, so that a key's neighbours are not the same as in the
-    /// pass before.
+    /// The held keys, mixed, in two orders by turns, so that a key has other neighbours in the next pass.
     MixedByTurns,
     /// The absent and the held keys, by turns.
     AbsentAndHeld,

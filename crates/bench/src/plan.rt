@@ -31,8 +31,7 @@ pub(crate) type Line = (&'static str, Order, Made, Fill);
 
 /// A call that is timed, on a container, or on two, of type `S`, with items of type `T`.
 pub(crate) trait Row<S, T> {
-    /// Makes the call, with an item and its index in the list. Returns the result as a number, or `None` if
-    /// memory runs out.
+    /// Makes the call, with an item and its index in the list. Returns a number, or `None` without memory.
     fn call(state: &mut S, place: u64, item: &T) -> Option<u64>;
 }
 

@@ -24,8 +24,8 @@ pub trait Listed: Sized {
     /// The command that a line spells.
     fn command(alloc: Global, line: &str) -> Result<Self::Command, Stop>;
 
-    /// Runs the commands. What the closure of the run returns for a pair is the reply to a read, and whether a
-    /// keep keeps the pair: whether its value is even or, if `is_any`, always true.
+    /// Runs the commands. The closure of the run returns whether the value is even or, if `is_any`, true. This
+    /// is the reply to a read, and whether a keep keeps the pair.
     fn replies(&mut self, commands: Vec<Self::Command>, is_any: bool) -> Replies;
 }
 
@@ -47,11 +47,8 @@ impl Listed for Map {
     }
 
     fn replies(&mut self, commands: Vec<Command<u64, u64>>, is_any: bool) -> Replies {
-        run(
-            self,
-            commands,
-            &|_key: &u64, value: &u64| is_any || *value % 2 == 0,
-        )
+        let says = |_key: &u64, value: &u64| is_any || *value % 2 == 0;
+        run(self, commands, &says)
     }
 }
 
@@ -72,11 +69,8 @@ impl Listed for Cache {
     }
 
     fn replies(&mut self, commands: Vec<CacheCommand<u64, u64>>, is_any: bool) -> Replies {
-        run_cache(
-            self,
-            commands,
-            &|_key: &u64, value: &u64| is_any || *value % 2 == 0,
-        )
+        let says = |_key: &u64, value: &u64| is_any || *value % 2 == 0;
+        run_cache(self, commands, &says)
     }
 }
 
@@ -215,10 +209,8 @@ fn commands_of_pair(alloc: Global, lines: &str) -> Result<Vec<PairCommand<Name, 
     let mut number = 0u64;
     for line in lines.split('\n') {
         number = number.saturating_add(1);
-        match pair_command(line.as_bytes()) {
-            Some(command) => push(&mut commands, numbered(command, number))?,
-            None => return Err(Stop::Unread),
-        }
+        let command = pair_command(line.as_bytes()).ok_or(Stop::Unread)?;
+        push(&mut commands, numbered(command, number))?;
     }
     Ok(commands)
 }

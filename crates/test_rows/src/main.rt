@@ -50,15 +50,11 @@ fn main(rt: HostRuntime) -> ExitCode {
     ExitCode::SUCCESS
 }
 
-/// Prints that each answer is right, and the counts of rows and refusals if each answer is printed or if
-/// there are any.
+/// Prints that each answer is right, and if each is printed or one refused, how many rows did so.
 fn end(rt: &HostRuntime, is_said: bool, tally: Tally) {
-    let Tally {
-        rows,
-        refused,
-        left_out,
-    } = tally;
+    let (refused, left_out) = (tally.refused, tally.left_out);
     if is_said || refused > 0 || left_out > 0 {
+        let rows = tally.rows;
         let _ = println!(rt;
             "{rows} rows: each answer is right, and {refused} of them refused; {left_out} rows had no memory \
              of their own"

@@ -111,8 +111,7 @@ fn count_anew(home: Home<'_>) {
 struct Speech<C> {
     first: C,
     second: C,
-    /// Whether no call with a written answer has failed to allocate, so that the next answer has to be the
-    /// written one.
+    /// Whether the next answer has to be the written one: no call with a written answer failed to allocate.
     is_sure: bool,
 }
 

@@ -210,8 +210,7 @@ pub fn call_end(map: &mut Map, is_front: bool, line: &mut Line<'_>) -> Result<()
     }
 }
 
-/// Makes a call that inserts a pair whose key is absent, and records the pair that is lent, which is then
-/// written.
+/// Makes a call that inserts a pair whose key is absent. Records the pair that is lent, and writes to it.
 fn put_lent(map: &mut Map, call: RawGive, key: Item, value: Item, new: Option<Name>) -> Answer {
     let builder = *map.hasher();
     let hash = builder.hash_one(&key);
@@ -250,8 +249,7 @@ fn put_entry(map: &mut Map, call: RawGive, key: Item, value: Item, new: Option<N
     }
 }
 
-/// Replaces the stored key, and returns the old key and its value, if the entry that is found has the key of
-/// the line.
+/// Replaces the stored key, and returns the old key and its value, if the entry found has the line's key.
 fn replace_key(map: &mut Map, key: Item) -> Word {
     match map.raw_entry_mut().from_key(&key) {
         RawEntryMut::Occupied(mut entry) if key == *entry.key() => {

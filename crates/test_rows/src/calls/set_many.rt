@@ -36,8 +36,7 @@ fn put_made(set: &mut Set, line: &mut Line<'_>) -> Result<(), Stop> {
     line.give(put(get_or_make(set, &element, made)))
 }
 
-/// Looks the element up, and lends it. If it is absent, the made element, which is equal to it, is inserted
-/// and lent.
+/// Lends the element. If it is absent, the made element, which is equal to it, is inserted and lent.
 fn get_or_make<'s>(set: &'s mut Set, element: &Item, made: Item) -> Result<&'s Item, Item>
     requires { made.group ≡ element.now.group }
 {

@@ -4,8 +4,7 @@ use crate::calls::compared::{equal, hashed_alike};
 use crate::calls::set_calls::Set;
 use crate::items::{Line, Stop, Word, made};
 
-/// Makes the call of two sets that the words name. The row goes on with what an operator makes as its first
-/// set.
+/// Makes the call of two sets that the words name. What an operator makes is the first set from then on.
 pub fn call_sets(set: &mut Set, other: &Set, line: &mut Line<'_>) -> Result<(), Stop> {
     let name = line.words.word();
     let word = match name {

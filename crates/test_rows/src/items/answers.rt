@@ -25,10 +25,8 @@ impl Name {
 
     pub fn read(word: &str) -> Option<Name> {
         let (group, number_word) = word.split_once('.').unwrap_or((word, "0"));
-        match (number(group), number(number_word)) {
-            (Some(group), Some(number)) => Some(Name { group, number }),
-            _ => None,
-        }
+        let (group, number) = (number(group)?, number(number_word)?);
+        Some(Name { group, number })
     }
 }
 
@@ -112,14 +110,8 @@ impl Word {
 
     fn read_items(word: &str) -> Option<Word> {
         match word.split_once(':') {
-            None => match Name::read(word) {
-                Some(name) => Some(Word::item(name)),
-                None => None,
-            },
-            Some((key, value)) => match (Name::read(key), Name::read(value)) {
-                (Some(key), Some(value)) => Some(Word::pair((key, value))),
-                _ => None,
-            },
+            None => Some(Word::item(Name::read(word)?)),
+            Some((key, value)) => Some(Word::pair((Name::read(key)?, Name::read(value)?))),
         }
     }
 

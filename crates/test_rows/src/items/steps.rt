@@ -45,7 +45,7 @@ impl Step {
         }
     }
 
-    /// The word for the step: what it returned, or how many the iterator has left, which the hint has to equal.
+    /// The word for the step: what it returned, or how many items are left, which the hint has to equal.
     pub fn said(self, came: Word, left: usize, hint: (usize, Option<usize>)) -> Word {
         if hint.0 != left || hint.1 != Some(left) {
             return Word::Wrong;

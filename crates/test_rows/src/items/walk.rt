@@ -106,8 +106,7 @@ pub fn walk_and_forget<W: Walk + Iterator>(
     taken
 }
 
-/// The same for an iterator that returns items; after `clone` the steps are made by a clone, and then by the
-/// iterator itself.
+/// The same for an iterator that returns items. A clone makes the steps after `clone`, then the iterator.
 pub fn walk_and_clone<I: DoubleEndedIterator + ExactSizeIterator + Clone + Drop>(
     first: I,
     line: &mut Line<'_>,
