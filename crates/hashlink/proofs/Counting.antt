@@ -1,7 +1,6 @@
 -- What a retain leaves whose closure counts: it removes the first entries that pass, up to a number.
-use Rattle.std.proofs.Common.{◌≡◌, ◌+◌, ◌≤◌, ℕ, zero, suc, Bool, cond, not, ◌&&◌, nat_lt, List, [], ◌∷◌}
-use Rattle.std.proofs.Common.{length, ap, refl, sym, subst, ◌∙◌, arith, true, false, filter}
-use Rattle.std.specs.Map.{keys_of}
+use Rattle.std.{proofs.Common.{◌≡◌, ◌+◌, ◌≤◌, ℕ, zero, suc, Bool, cond, not, ◌&&◌, nat_lt}, specs.Map.keys_of}
+use Rattle.std.proofs.Common.{List, [], ◌∷◌, length, ap, refl, sym, subst, ◌∙◌, arith, true, false, filter}
 use Rattle.hashlink_model.specs.{MapState.MapState, Retain.{KeepsInOrder, RetainsInOrder}, Steps.KeepsOnly}
 use Rattle.hashlink.specs.WithoutFirst.{without_first}
 
@@ -16,12 +15,7 @@ module _ {X : Type 0} (passes : X → Bool) where
   filter-without_first kind apart zero xs = refl
   filter-without_first kind apart (suc n) [] = refl
   filter-without_first kind apart (suc n) (x ∷ xs) =
-      grind (
-        arith,
-        apart x,
-        filter-without_first kind apart n xs,
-        filter-without_first kind apart (suc n) xs,
-      )
+      grind (arith, apart x, filter-without_first kind apart n xs, filter-without_first kind apart (suc n) xs)
 
   -- where x is kept or not by whether it passes and n is not zero, and of the items behind it m are removed
   without_first-cons : (p b : Bool) (n m : ℕ) (x y : X) (xs rest kept : List X) → passes x ≡ p

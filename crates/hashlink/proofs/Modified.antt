@@ -2,11 +2,10 @@
 use Rattle.std.proofs.Common.{◌≡◌, ℕ, Bool, List, [], ◌∷◌, length, Option, None, Some, refl, sym, ap, ap₂}
 use Rattle.std.{proofs.Common.{subst, zero, suc, ◌∙◌}, specs.Fn.{Once, FnOnceReturnsAtMut}, specs.Map.lookup}
 use Rattle.std.specs.{Borrow.MutBor, Prelude.{MatchOption, unwrap_or, option_map, option_and_then}}
-use Rattle.hashlink_model.{specs.Entries.{place_of, put, set_value_at}, proofs.Puts.put-here}
-use Rattle.hashlink_model.specs.Entry.{EntryState, entry_of, value_at}
 use Rattle.hashlink_model.specs.MapState.{AddsEntry, MapState, PutsEntry, RefusesEntry, with_value}
-use Rattle.hashlink_model.proofs.ByPlace.{length-set_value_at, set_value_at-here}
-use Rattle.hashlink_model.proofs.Splits.{lookup-here, stands_from_place}
+use Rattle.hashlink_model.{proofs.ByPlace.{length-set_value_at, set_value_at-here}, proofs.Puts.put-here}
+use Rattle.hashlink_model.{specs.Entries.{place_of, put}, specs.Entry.{EntryState, entry_of, value_at}}
+use Rattle.hashlink_model.{proofs.Splits.{lookup-here, stands_from_place}, specs.Entries.set_value_at}
 use Rattle.hashlink_core.proofs.Steps.{lookup-place, lookup-unplaced}
 use Rattle.hashlink_map.specs.{Entry.{Modifies, entry_value}, EntryLends.PutsLast}
 

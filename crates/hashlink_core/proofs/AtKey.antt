@@ -4,9 +4,8 @@ use Rattle.hashlink_core.proofs.Names.{◌∙◌, arith, set_value, NonePasses, 
 use Rattle.hashlink_core.proofs.Steps.{lookup-place, lookup_entry-unplaced, removes_match}
 use Rattle.hashlink_core.proofs.Names.{with_value_of, moved_at-put, set_value_at-place}
 use Rattle.hashlink_core.proofs.Steps.{none_passes_from_place}
-use Rattle.hashlink_model.specs.Entry.{InsertsValue, ReplacesValue, TakesEntry}
-use Rattle.hashlink_model.specs.MapState.{MapState, Changes, PutsEntry, with_value}
-use Rattle.hashlink_model.proofs.Puts.{put_at_its_place}
+use Rattle.hashlink_model.{proofs.Puts.put_at_its_place, specs.Entry.{InsertsValue, ReplacesValue}}
+use Rattle.hashlink_model.{specs.Entry.TakesEntry, specs.MapState.{MapState, Changes, PutsEntry, with_value}}
 
 module _ {K V S : Type 0} (eq : K → K → Bool) (old new : MapState K V S) (k : K) (j : ℕ)
     (p : place_of (eq k) old.entries ≡ Some j) where

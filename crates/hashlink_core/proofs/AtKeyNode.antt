@@ -1,13 +1,12 @@
 -- From what the keyed list's calls leave at a key's node to what the map's calls leave.
-use Rattle.hashlink_core.proofs.Names.{◌≡◌, ◌+◌, ◌≤◌, ℕ, Bool, List, [], ◌∷◌, length, Option, None, Some}
-use Rattle.hashlink_core.proofs.Names.{refl, sym, ap, subst, ◌∙◌, arith, slice_get, is_some, option_map}
-use Rattle.hashlink_core.proofs.Names.{IsEquivalence, lookup, lookup_entry, values_of, length-values_of}
-use Rattle.hashlink_core.proofs.Names.{IsEntries, IsKeyTest, place_of, Shrinks, MovesMatchAndWrites}
-use Rattle.hashlink_core.proofs.Names.{with_match_value, lookup-moved, set_value_at-place, moved_at-put}
-use Rattle.hashlink_core.proofs.Names.{put-absent, Keyed, entries_of, state_of, HoldsKey, HoldsMatch, IsKeyed}
-use Rattle.hashlink_core.proofs.Names.{pair_with_value, with_value_at, place_number, AddsNode, MovesNode}
+use Rattle.hashlink_core.proofs.Names
+use Names.{◌≡◌, ◌+◌, ◌≤◌, ℕ, Bool, List, [], ◌∷◌, length, Option, None, Some, refl, sym, ap, subst, ◌∙◌}
+use Names.{arith, slice_get, is_some, option_map, IsEquivalence, lookup, lookup_entry, values_of}
+use Names.{length-values_of, IsEntries, IsKeyTest, place_of, Shrinks, MovesMatchAndWrites, with_match_value}
+use Names.{lookup-moved, set_value_at-place, moved_at-put, put-absent, Keyed, entries_of, state_of, HoldsKey}
+use Names.{HoldsMatch, IsKeyed, pair_with_value, with_value_at, place_number, AddsNode, MovesNode, WritesNode}
+use Names.{GrowsRoom, place_number-renewed, renewed-holds}
 use Rattle.hashlink_core.proofs.Steps.{lookup_entry-place, lookup-place, lookup-unplaced, then_moves}
-use Rattle.hashlink_core.proofs.Names.{WritesNode, GrowsRoom, place_number-renewed, renewed-holds}
 use Rattle.hashlink_core.{specs.Places.{Node, Holds}, proofs.Holding.moved-holds_key}
 use Rattle.hashlink_core.proofs.{Mapped.values-renewed_value, Steps.none_passes_from_place}
 use Rattle.std.specs.Prelude.{Result, Ok, Err, IsErrAnd, IsOk, OnOk, OnErr}

@@ -1,22 +1,18 @@
 -- What the calls of the keyed list leave, from the clauses of the ring and of the table.
-use Rattle.hashlink_core.proofs.Names.{◌≡◌, Result, Ok, Err, OnErr, ℕ, ◌+◌, ◌-◌, ◌≤◌, Bool, true, List, ◌∷◌}
-use Rattle.hashlink_core.proofs.Names.{◌++◌, length, drop, Option, None, Some, refl, ap, ap₂, sym, subst, ◌∙◌}
-use Rattle.hashlink_core.proofs.Names.{arith, slice_get, insert, remove, IsPermutation, IsDistinct}
-use Rattle.hashlink_core.proofs.Names.{option_map, IsEquivalence, lookup, remove_entry, set_value, keys_of}
-use Rattle.hashlink_core.proofs.Names.{values_of, NonePasses, lookup-none, length-values_of, following_place}
-use Rattle.hashlink_core.proofs.Names.{preceding_place, place_of, moved_at, place_left, Node, Held, same_node}
-use Rattle.hashlink_core.proofs.Names.{same_node_equiv, Holds, IsPlace, next_place, prev_place, Ring, held}
-use Rattle.hashlink_core.proofs.Names.{pair_of, with_value, with_key, MovesBefore, MovesAfter, put_before}
-use Rattle.hashlink_core.proofs.Names.{Contents, len_of, Keyed, nodes_of, pairs_in, entries_of, state_of}
-use Rattle.hashlink_core.proofs.Names.{keyed, seen_as, pair_with_value, pair_with_key, IsKeyed, HoldsKey}
-use Rattle.hashlink_core.proofs.Names.{with_value_at, place_number, IsPlaceAt, renewed_at, AddsNode}
-use Rattle.hashlink_core.proofs.Names.{RemovesNode, MovesNode, WritesNode, SetsNodeKey, GrowsRoom, IsInStep}
-use Rattle.hashlink_core.proofs.Names.{short, insert-map, remove-map, length-inserted, length-removed}
-use Rattle.hashlink_core.proofs.Names.{moved-map, remove_entry-at, moved_at-is, none-inserted, passes-at}
-use Rattle.hashlink_core.proofs.Names.{keys_of-map_values, lookup-map_values, IsNodeAt, node-at}
-use Rattle.hashlink_core.proofs.Names.{put_before-at, set_value-at, renewed_at-is, moves_before-at}
+use Rattle.hashlink_core.proofs.Names
+use Names.{◌≡◌, Result, Ok, Err, OnErr, ℕ, ◌+◌, ◌-◌, ◌≤◌, Bool, true, List, ◌∷◌, ◌++◌, length, drop, Option}
+use Names.{None, Some, refl, ap, ap₂, sym, subst, ◌∙◌, arith, slice_get, insert, remove, IsPermutation}
+use Names.{IsDistinct, option_map, IsEquivalence, lookup, remove_entry, set_value, keys_of, values_of}
+use Names.{NonePasses, lookup-none, length-values_of, following_place, preceding_place, place_of, moved_at}
+use Names.{place_left, Node, Held, same_node, same_node_equiv, Holds, IsPlace, next_place, prev_place, Ring}
+use Names.{held, pair_of, with_value, with_key, MovesBefore, MovesAfter, put_before, Contents, len_of, Keyed}
+use Names.{nodes_of, pairs_in, entries_of, state_of, keyed, seen_as, pair_with_value, pair_with_key, IsKeyed}
+use Names.{HoldsKey, with_value_at, place_number, IsPlaceAt, renewed_at, AddsNode, RemovesNode, MovesNode}
+use Names.{WritesNode, SetsNodeKey, GrowsRoom, IsInStep, short, insert-map, remove-map, length-inserted}
+use Names.{length-removed, moved-map, remove_entry-at, moved_at-is, none-inserted, passes-at}
+use Names.{keys_of-map_values, lookup-map_values, IsNodeAt, node-at, put_before-at, set_value-at}
+use Names.{renewed_at-is, moves_before-at, moves_after-at, same-number, same-place}
 use Rattle.hashlink_core.proofs.Mapped.{length-mapped, remove_entry-mapped, place_number-mapped}
-use Rattle.hashlink_core.proofs.Names.{moves_after-at, same-number, same-place}
 use Rattle.hashlink_core.proofs.Mapped.{renewed-mapped, values-renewed_value, values-renewed_key}
 use Rattle.hashlink_core.proofs.Neighbours.{distinct-left, next-number, prev-number}
 use Rattle.hashlink_core.proofs.Stepping.{pair-at, length-pairs, step-in, step-out, step-renewed, kept}

@@ -1,16 +1,14 @@
 -- Finding nodes by the table: a key's, and one that left the ring. A node with a number that is no short hash,
 -- its mark, can be distinguished from another one.
-use Rattle.hashlink_core.proofs.Names.{◌++◌, ◌≡◌, ℕ, ◌^◌, ◌<◌, ◌≤◌, Bool, true, false, cond, eqb, eqb-true}
-use Rattle.hashlink_core.proofs.Names.{eq-eqb, List, ◌∷◌, Option, None, Some, refl, ap, sym, subst, ◌∙◌}
-use Rattle.hashlink_core.proofs.Names.{arith, ◌⊎◌, inl, inr, length, Bor, IsEquivalence, Shared, FnReturnsAt}
-use Rattle.hashlink_core.proofs.Names.{fold, lookup, remove_entry, set_value, keys_of, option_map, is_some}
-use Rattle.hashlink_core.proofs.Names.{IfSome, IfNone, IsTrue, IsPermutation, slice_get, Contains}
-use Rattle.hashlink_core.proofs.Names.{lookup-set_value, NonePasses, Contains-from_lookup}
-use Rattle.hashlink_core.proofs.Names.{lookup-from_Contains, place_of_its_key, slice_get_here, place_of}
-use Rattle.hashlink_core.proofs.Names.{IsKeyTest, same_node, same_node_equiv, eq-same_node, Ring, ring, Holds}
-use Rattle.hashlink_core.proofs.Names.{pair_of, with_number, Held, Node, Contents, Keeps, nodes_of, pairs_in}
-use Rattle.hashlink_core.proofs.Names.{HoldsMatch, place_number, Tells, IsInStep, short, hash_with, mapped-at}
-use Rattle.hashlink_core.proofs.Names.{from_part, element-at, at-element, lookup-map_values, node-at}
+use Rattle.hashlink_core.proofs.Names
+use Names.{◌++◌, ◌≡◌, ℕ, ◌^◌, ◌<◌, ◌≤◌, Bool, true, false, cond, eqb, eqb-true, eq-eqb, List, ◌∷◌, Option}
+use Names.{None, Some, refl, ap, sym, subst, ◌∙◌, arith, ◌⊎◌, inl, inr, length, Bor, IsEquivalence, Shared}
+use Names.{FnReturnsAt, fold, lookup, remove_entry, set_value, keys_of, option_map, is_some, IfSome, IfNone}
+use Names.{IsTrue, IsPermutation, slice_get, Contains, lookup-set_value, NonePasses, Contains-from_lookup}
+use Names.{lookup-from_Contains, place_of_its_key, slice_get_here, place_of, IsKeyTest, same_node}
+use Names.{same_node_equiv, eq-same_node, Ring, ring, Holds, pair_of, with_number, Held, Node, Contents}
+use Names.{Keeps, nodes_of, pairs_in, HoldsMatch, place_number, Tells, IsInStep, short, hash_with, mapped-at}
+use Names.{from_part, element-at, at-element, lookup-map_values, node-at}
 use Rattle.hashlink_core.proofs.Mapped.{place_number-mapped}
 use Rattle.hashlink_core.proofs.Stepping.{pair-at, held-at, kept, listed, in-table, number-of, was-kept}
 use Rattle.std.{specs.Option.{is_some, IfSome, IfNone, MatchOption}, proofs.{Common.not, Math.Path.fun_ext}}

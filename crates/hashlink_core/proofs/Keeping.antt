@@ -1,11 +1,10 @@
 -- A place stays on its entry if a pair is inserted, an entry moves or a value is written.
-use Rattle.hashlink_core.proofs.Names.{◌≡◌, ℕ, suc, Bool, true, false, zero, List, [], ◌∷◌, length, Option}
-use Rattle.hashlink_core.proofs.Names.{None, Some, refl, sym, ap, subst, ◌∙◌, cond, arith, slice_get, is_some}
-use Rattle.hashlink_core.proofs.Names.{unwrap_or, option_map, IsEquivalence, lookup, remove_entry}
-use Rattle.hashlink_core.proofs.Names.{length-values_of, same_node, same_node_equiv, eq-same_node, IsEntries}
-use Rattle.hashlink_core.proofs.Names.{lookup-moved, moved_at-place, place_of_its_key, Keyed, entries_of}
-use Rattle.hashlink_core.proofs.Names.{IsKeyed, pair_with_value, place_number, renewed_at, AddsNode}
-use Rattle.hashlink_core.proofs.Names.{MovesNode, WritesNode, GrowsRoom, KeepsKeys, KeepsPlace}
+use Rattle.hashlink_core.proofs.Names
+use Names.{◌≡◌, ℕ, suc, Bool, true, false, zero, List, [], ◌∷◌, length, Option, None, Some, refl, sym, ap}
+use Names.{subst, ◌∙◌, cond, arith, slice_get, is_some, unwrap_or, option_map, IsEquivalence, lookup}
+use Names.{remove_entry, length-values_of, same_node, same_node_equiv, eq-same_node, IsEntries, lookup-moved}
+use Names.{moved_at-place, place_of_its_key, Keyed, entries_of, IsKeyed, pair_with_value, place_number}
+use Names.{renewed_at, AddsNode, MovesNode, WritesNode, GrowsRoom, KeepsKeys, KeepsPlace}
 use Rattle.hashlink_core.{proofs.Names.{lookup-map_values, node-at}, specs.Places.{Node, Holds, IsPlace}}
 use Rattle.hashlink_core.proofs.{AtKeyNode.is_some-map, Holding.{at-node, holds_key-at}, Mapped.mapped}
 use Rattle.std.proofs.lemmas.Map.{none_passes_from_lookup, lookup-remove_entry, lookup-insert}

@@ -1,12 +1,11 @@
 -- The next place and the previous one, by their indices.
-use Rattle.hashlink_core.proofs.Names.{◌≡◌, inl, inr, ℕ, zero, suc, ◌+◌, ◌-◌, ◌%◌, ◌<◌, ◌≤◌, false, cond}
-use Rattle.hashlink_core.proofs.Names.{List, [], ◌∷◌, ◌++◌, length, Option, None, Some, refl, ap, sym, ◌∙◌}
-use Rattle.hashlink_core.proofs.Names.{arith, slice_get, unwrap_or, keys_of, length-keys_of, slice_get_cases}
-use Rattle.hashlink_core.proofs.Names.{slice_get_within, get_or_from_slice_get, following_place}
-use Rattle.hashlink_core.proofs.Names.{preceding_place, IsEntries, each-left, place_of_its_key, Node}
-use Rattle.hashlink_core.proofs.Names.{same_node, same_node_equiv, node_after, node_before, last_node}
-use Rattle.hashlink_core.proofs.Names.{next_place, prev_place, IsPlace, place_number, IsPlaceAt, from-mapped}
-use Rattle.hashlink_core.proofs.Names.{node-at, around, following-within}
+use Rattle.hashlink_core.proofs.Names
+use Names.{◌≡◌, inl, inr, ℕ, zero, suc, ◌+◌, ◌-◌, ◌%◌, ◌<◌, ◌≤◌, false, cond, List, [], ◌∷◌, ◌++◌, length}
+use Names.{Option, None, Some, refl, ap, sym, ◌∙◌, arith, slice_get, unwrap_or, keys_of, length-keys_of}
+use Names.{slice_get_cases, slice_get_within, get_or_from_slice_get, following_place, preceding_place}
+use Names.{IsEntries, each-left, place_of_its_key, Node, same_node, same_node_equiv, node_after, node_before}
+use Names.{last_node, next_place, prev_place, IsPlace, place_number, IsPlaceAt, from-mapped, node-at, around}
+use Names.{following-within}
 use Rattle.std.{specs.List.IsDistinct, proofs.lemmas.Map.Made.is_some-lookup}
 use Rattle.std.proofs.lemmas.Map.Keys.{IsDistinct-tail, apart_from_distinct, any_passes_from_place}
 use native.Mathlib.Nat.{mod-eq_of_lt, add-mod_right, zero-add}

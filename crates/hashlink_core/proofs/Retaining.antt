@@ -1,14 +1,13 @@
 -- A retain on its way along the list: what it has kept, and the entries on which it has yet to call the
 -- closure.
 use Rattle.std.proofs.{lemmas.List.nil_from_length, Common.append_assoc}
-use Rattle.hashlink_core.proofs.Names.{◌≡◌, suc, ◌+◌, ◌-◌, ◌<◌, Bool, true, false, cond, List, [], ◌∷◌, ◌++◌}
-use Rattle.hashlink_core.proofs.Names.{length, Option, None, Some, refl, ap, ap₂, sym, subst, ◌∙◌, arith}
-use Rattle.hashlink_core.proofs.Names.{slice_get, remove, Bor, MutBor, Mut, Called, remove_entry}
-use Rattle.hashlink_core.proofs.Names.{CallableOnEachPair, CalledAtPair, length-append, length-values_of}
-use Rattle.hashlink_core.proofs.Names.{following_place, set_value_at, KeepsOnly, set_value_at-here, Node}
-use Rattle.hashlink_core.proofs.Names.{same_node, IsPlace, Keyed, IsKeyed, entries_of, state_of}
-use Rattle.hashlink_core.proofs.Names.{pair_with_value, with_value_at, place_number, IsPlaceAt, RemovesNode}
-use Rattle.hashlink_core.proofs.Names.{remove_entry-at, following-within, place_number-renewed, node-at}
+use Rattle.hashlink_core.proofs.Names
+use Names.{◌≡◌, suc, ◌+◌, ◌-◌, ◌<◌, Bool, true, false, cond, List, [], ◌∷◌, ◌++◌, length, Option, None, Some}
+use Names.{refl, ap, ap₂, sym, subst, ◌∙◌, arith, slice_get, remove, Bor, MutBor, Mut, Called, remove_entry}
+use Names.{CallableOnEachPair, CalledAtPair, length-append, length-values_of, following_place, set_value_at}
+use Names.{KeepsOnly, set_value_at-here, Node, same_node, IsPlace, Keyed, IsKeyed, entries_of, state_of}
+use Names.{pair_with_value, with_value_at, place_number, IsPlaceAt, RemovesNode, remove_entry-at}
+use Names.{following-within, place_number-renewed, node-at}
 use Rattle.hashlink_core.proofs.{Names.{place-renewed, keys-renewed, left-at}, Edits.place_left-before}
 use Rattle.hashlink_core.proofs.{Keeping.left-place, Mapped.values-renewed_value}
 use Rattle.hashlink_model.specs.Retain.{KeepsInOrder, RetainsInOrder}

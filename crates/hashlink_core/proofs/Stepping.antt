@@ -1,16 +1,14 @@
 -- Ring and table stay in step: the table has the nodes of the entries after an entry is added, removed or
 -- replaced, and after all are removed.
-use Rattle.hashlink_core.proofs.Names.{◌≡◌, ℕ, suc, Bool, List, [], ◌∷◌, Some, refl, ap, sym, ◌∙◌, map, arith}
-use Rattle.hashlink_core.proofs.Names.{◌+◌, ◌-◌, ◌≤◌, true, length, ap₂, subst, IsEquivalence, IsDistinct}
-use Rattle.hashlink_core.proofs.Names.{lookup, keys_of, values_of, slice_get, remove, Contains, IsPermutation}
-use Rattle.hashlink_core.proofs.Names.{insert, length-map, get_or-map, NonePasses, Contains-tail}
-use Rattle.hashlink_core.proofs.Names.{Contains-from_lookup, lookup-from_Contains, slice_get_within}
-use Rattle.hashlink_core.proofs.Names.{get_or_from_slice_get, IsEntries-nil, none_equal, IsEntries, same_node}
-use Rattle.hashlink_core.proofs.Names.{same_node_equiv, eq-same_node, Ring, ring, pair_of, Held, Node}
-use Rattle.hashlink_core.proofs.Names.{Contents, Keeps, nodes_of, pairs_in, IsInStep, numbered_nodes, short}
-use Rattle.hashlink_core.proofs.Names.{element-at, at-element, mapped-at, from-mapped, length-inserted}
-use Rattle.hashlink_core.proofs.Names.{length-removed, insert-map, remove-map, IsEntries-removed}
-use Rattle.hashlink_core.proofs.Names.{IsEntries-inserted, none-removed}
+use Rattle.hashlink_core.proofs.Names
+use Names.{◌≡◌, ℕ, suc, Bool, List, [], ◌∷◌, Some, refl, ap, sym, ◌∙◌, map, arith, ◌+◌, ◌-◌, ◌≤◌, true}
+use Names.{length, ap₂, subst, IsEquivalence, IsDistinct, lookup, keys_of, values_of, slice_get, remove}
+use Names.{Contains, IsPermutation, insert, length-map, get_or-map, NonePasses, Contains-tail}
+use Names.{Contains-from_lookup, lookup-from_Contains, slice_get_within, get_or_from_slice_get, IsEntries-nil}
+use Names.{none_equal, IsEntries, same_node, same_node_equiv, eq-same_node, Ring, ring, pair_of, Held, Node}
+use Names.{Contents, Keeps, nodes_of, pairs_in, IsInStep, numbered_nodes, short, element-at, at-element}
+use Names.{mapped-at, from-mapped, length-inserted, length-removed, insert-map, remove-map, IsEntries-removed}
+use Names.{IsEntries-inserted, none-removed}
 use Rattle.std.proofs.lemmas.List.Sorted.{Contains-permutation, IsPermutation-sym, IsPermutation-refl}
 use Rattle.std.proofs.lemmas.List.Sorted.{IsPermutation-cons, IsPermutation-trans, IsPermutation-map}
 use Rattle.std.proofs.lemmas.List.Sorted.{IsPermutation-remove, length_permutation, IsPermutation-insert}

@@ -1,14 +1,13 @@
 -- An iterator along a ring, by its places at both ends.
 use Rattle.std.{specs.Iterator.{MakesProgress, at_most}, proofs.Common.length-append}
-use Rattle.hashlink_core.proofs.Names.{◌≡◌, ℕ, zero, suc, ◌+◌, ◌-◌, ◌<◌, ◌≢◌, true, false, cond, List, []}
-use Rattle.hashlink_core.proofs.Names.{◌∷◌, ◌++◌, length, take, drop, Option, None, Some, refl, ap, sym, ◌∙◌}
-use Rattle.hashlink_core.proofs.Names.{arith, ⊎_elim, slice_get, is_some, unwrap_or, IfSome, IsDistinct}
-use Rattle.hashlink_core.proofs.Names.{option_map, lookup, keys_of, TakesFirst, TakesLast, ShowsInOrder}
-use Rattle.hashlink_core.proofs.Names.{ShowsInReverse, from_front, from_back, take-length, take-suc, cases_lt}
-use Rattle.hashlink_core.proofs.Names.{slice_get_within, get_or_from_slice_get, preceding_place, place_or_end}
-use Rattle.hashlink_core.proofs.Names.{Node, Held, same_node, next_place, prev_place, pair_of, Holds}
-use Rattle.hashlink_core.proofs.Names.{pairs_in, place_number, drop-at, place_or_end-cons, place_or_end-most}
-use Rattle.hashlink_core.proofs.Names.{node-at, around, following-within, IfNone, IsEntries}
+use Rattle.hashlink_core.proofs.Names
+use Names.{◌≡◌, ℕ, zero, suc, ◌+◌, ◌-◌, ◌<◌, ◌≢◌, true, false, cond, List, [], ◌∷◌, ◌++◌, length, take, drop}
+use Names.{Option, None, Some, refl, ap, sym, ◌∙◌, arith, ⊎_elim, slice_get, is_some, unwrap_or, IfSome}
+use Names.{IsDistinct, option_map, lookup, keys_of, TakesFirst, TakesLast, ShowsInOrder, ShowsInReverse}
+use Names.{from_front, from_back, take-length, take-suc, cases_lt, slice_get_within, get_or_from_slice_get}
+use Names.{preceding_place, place_or_end, Node, Held, same_node, next_place, prev_place, pair_of, Holds}
+use Names.{pairs_in, place_number, drop-at, place_or_end-cons, place_or_end-most, node-at, around}
+use Names.{following-within, IfNone, IsEntries}
 use Rattle.hashlink_core.specs.Walk.{pairs_from, StandsBetween}
 use Rattle.hashlink_core.proofs.Neighbours.{distinct-left, next-number, prev-number, before-guard, before-suc}
 
@@ -120,10 +119,7 @@ walk-of_all es free q q' z z' first last left apart next is_first prev is_last a
     let back : place_number es (Some last) ≡ length es - 1 = ap (λ m. place_number es (Some m)) is_last
     ∙ node-number es q' z' (length es - 1) (ap (place_number es) prev ∙ (prev-number es d None tt).number
     ∙ before-guard (length es)) (λ e. omega (arith, e)) in (
-      record {
-        few = omega (arith, all, front);
-        ends = λ some. omega (arith, all, some, front, back);
-      },
+      record { few = omega (arith, all, front); ends = λ some. omega (arith, all, some, front, back) },
       rw (front, all, take-length es) refl,
     )
 

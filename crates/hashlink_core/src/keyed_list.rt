@@ -51,8 +51,7 @@ impl<K: Eq + Hash, V, S: BuildHasher> Model for KeyedList<K, V, S> {
         m.nodes m.table };
 }
 
-// Written by hand, so that a drop is one call. A derived drop would be inlined at each place that drops a
-// list.
+// Written by hand, so that a drop is one call. A derived drop would be inlined wherever a list is dropped.
 impl<K: Eq + Hash + Drop, V: Drop, S: BuildHasher + Drop> Drop for KeyedList<K, V, S> {
     fn drop(self) {
         let KeyedList {

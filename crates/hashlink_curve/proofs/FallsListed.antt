@@ -99,8 +99,4 @@ pub lists_falls : {K : Type 0} (s : CurveState K) → ListsFalls s (falls_from (
 lists_falls s =
     let all = lists_from (misses_at s) (length s.keys) 0 s.reuses
     (λ j. ap (λ n. length s.keys + sum (drop n s.reuses)) (omega arith)) in
-    record {
-      each = all.each;
-      every = λ c fall. all.every c (omega arith) fall;
-      rising = all.rising;
-    }
+    record { each = all.each; every = λ c fall. all.every c (omega arith) fall; rising = all.rising }

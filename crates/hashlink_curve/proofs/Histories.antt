@@ -1,11 +1,10 @@
 -- One more use of a key: its distance, and the caches that miss it.
-use Rattle.hashlink_curve.proofs.Names.{◌≡◌, ℕ, zero, suc, ◌+◌, ◌≤◌, ◌<◌, Bool, true, false, ◌&&◌, ◌||◌, cond}
-use Rattle.hashlink_curve.proofs.Names.{List, [], ◌∷◌, ◌++◌, length, take, drop, nat_lt, None, Some, refl}
-use Rattle.hashlink_curve.proofs.Names.{sym, ap, ap₂, ◌∙◌, subst, subst₂, arith, append_assoc, length-append}
-use Rattle.hashlink_curve.proofs.Names.{get_or, set, sum, IsEquivalence, AllZip, after_last, list_any}
-use Rattle.hashlink_curve.proofs.Names.{IsTallied, is_member, unique_keys, drop-nil, nat_tests, Touches}
-use Rattle.hashlink_curve.proofs.Names.{tallied, sum_by-append, sum_by-set, reuse_distance, CanCount}
-use Rattle.hashlink_curve.proofs.Names.{cache_misses_from, CurveState, Counted, Counts, misses_at, MovesPast}
+use Rattle.hashlink_curve.proofs.Names
+use Names.{◌≡◌, ℕ, zero, suc, ◌+◌, ◌≤◌, ◌<◌, Bool, true, false, ◌&&◌, ◌||◌, cond, List, [], ◌∷◌, ◌++◌, length}
+use Names.{take, drop, nat_lt, None, Some, refl, sym, ap, ap₂, ◌∙◌, subst, subst₂, arith, append_assoc}
+use Names.{length-append, get_or, set, sum, IsEquivalence, AllZip, after_last, list_any, IsTallied, is_member}
+use Names.{unique_keys, drop-nil, nat_tests, Touches, tallied, sum_by-append, sum_by-set, reuse_distance}
+use Names.{CanCount, cache_misses_from, CurveState, Counted, Counts, misses_at, MovesPast}
 use Rattle.hashlink_curve.{specs.Curve.distance_of, proofs.Sums.{sum-set-after, sum-set-before, sum-take-le}}
 use Rattle.std.proofs.{Common.{Option, true≢false, Vec, vec_len, vec_capacity, ◌^◌}, Math.Path.fun_ext}
 use Rattle.std.specs.{declared.alloc.Global.Global, Set.{remove_key, distinct_count}}

@@ -65,10 +65,7 @@ module _ (row sums : List ℕ) (h : HasSums row sums) (x : ℕ) (l : x < length 
       let w = get_or sums (x / 64) 0 - less + more in
       let long = length-set sums (x / 64) w in
       let wide = length-set row x v in
-      record {
-        each = λ j high. by w (omega arith) j (omega arith) (cases_lt (x / 64) j);
-        all = omega arith;
-      }
+      record { each = λ j high. by w (omega arith) j (omega arith) (cases_lt (x / 64) j); all = omega arith }
     where
       by : (w : ℕ) → w + less ≡ get_or sums (x / 64) 0 + more → (j : ℕ) → j ≤ length sums
           → (x / 64 < j) ⊎ (j ≤ x / 64)

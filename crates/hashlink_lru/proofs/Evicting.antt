@@ -4,11 +4,10 @@ use Rattle.std.specs.{Prelude.{Option, None, Some, Ok}, Map.{lookup, remove_entr
 use Rattle.std.proofs.Common.{true, false, true≢false, is_some, refl, ap, ap₂, sym, ◌∙◌, ⊎_elim, arith}
 use Rattle.std.proofs.lemmas.{Bool.{lt-ltb, le-ltb, cases_lt}, List.{take-append-drop, length-append}}
 use Rattle.std.proofs.lemmas.Option.{none-some, same_Some}
-use Rattle.hashlink_model.specs.{Cache.{CacheState, CacheInserts, IsWithin, last_entries}, Walk.first_of}
-use Rattle.hashlink_model.{specs.Entries.{put, without, stored_key}, proofs.Afterwards.length-without_there}
-use Rattle.hashlink_model.proofs.{Caches.last_entries-within, CacheSteps.inserts_entries}
-use Rattle.hashlink_model.proofs.Puts.{put_back, put_back_absent}
-use Rattle.hashlink_model.proofs.Splits.{none_from_lookup, remove_entry-none, stands_from_lookup}
+use Rattle.hashlink_model.specs.Cache.{CacheState, CacheInserts, IsWithin, last_entries}
+use Rattle.hashlink_model.{proofs.Puts.{put_back, put_back_absent}, specs.Entries.{put, without, stored_key}}
+use Rattle.hashlink_model.{proofs.Caches.last_entries-within, proofs.Splits.none_from_lookup}
+use Rattle.hashlink_model.{proofs.CacheSteps.inserts_entries, specs.Walk.first_of}
 use Rattle.hashlink_lru.specs.Evicted.{evicted_by}
 
 -- ---- the first entry of a list

@@ -1,9 +1,8 @@
 -- What `to_front` and `to_back` lend: the value of the first key that passes, whose entry moved.
-use Rattle.hashlink_map.proofs.Names.{◌≡◌, ◌≤◌, ℕ, Bool, Option, None, Some, sym, ap, is_some, length}
-use Rattle.hashlink_map.proofs.Names.{IsEquivalence, IsEntries, IsKeyed, MovesNode, Keyed, entries_of}
-use Rattle.hashlink_map.proofs.Names.{state_of, lookup, Node, Holds, place_of, place_number, value_at}
-use Rattle.hashlink_map.proofs.Names.{with_value_at, moved-found, lent-moved, moved-value, lookup-unplaced}
-use Rattle.hashlink_map.proofs.Names.{none_passes_from_place}
+use Rattle.hashlink_map.proofs.Names
+use Names.{◌≡◌, ◌≤◌, ℕ, Bool, Option, None, Some, sym, ap, is_some, length, IsEquivalence, IsEntries, IsKeyed}
+use Names.{MovesNode, Keyed, entries_of, state_of, lookup, Node, Holds, place_of, place_number, value_at}
+use Names.{with_value_at, moved-found, lent-moved, moved-value, lookup-unplaced, none_passes_from_place}
 use Rattle.hashlink_core.specs.Keyed.{HoldsMatch}
 use Rattle.hashlink_model.specs.{Entries.{IsKeyTest, moved_match}, Lookups.{KeepsLookups, UpdatesLent}}
 use Rattle.hashlink_model.{specs.Steps.MovesMatchAndWrites, proofs.MovedLast.moves_none}

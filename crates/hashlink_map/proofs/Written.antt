@@ -72,10 +72,7 @@ module _ {K V S T : Type 0} {g : EqGhosts K} {h : HashGhosts K} {b : BuilderGhos
 -- a cursor once a value of its map was written
 pub cursor_written : {K V S : Type 0} (m : Keyed K V S) (n : Node) (p : Option Node) (i : ℕ) (v : V)
     → place_number m.nodes (Some n) ≡ i
-    → record {
-      map = state_of (with_value_at m n v);
-      place = place_number (with_value_at m n v).nodes p;
-    }
+    → record { map = state_of (with_value_at m n v); place = place_number (with_value_at m n v).nodes p }
     ≡ with_value_in (record { map = state_of m; place = place_number m.nodes p }) i v
 cursor_written m n p i v at =
     ap₂ (λ es q. record { map = map_state es m.spare m.room m.link_writes m.hasher; place = q })

@@ -147,14 +147,7 @@ module _ {K V : Type 0} where
     node_at is m there =
         let o = opened is in let c = cut v.entries m there in
         let here = in_ring o c.before m c.value c.after c.is in
-        record {
-          is = is;
-          ring = o;
-          facts = known;
-          cut = c;
-          here = here;
-          shows = c.looked ∙ sym here.holds;
-        }
+        record { is = is; ring = o; facts = known; cut = c; here = here; shows = c.looked ∙ sym here.holds }
 
     -- if the ring has a node, there is a guard
     pub guard_of : (m : Node) → Holds v.entries m → (g : Node) × (n.guard ≡ Some g)

@@ -1,16 +1,15 @@
 -- How far beyond its capacity a cache is, along its steps.
-use Rattle.hashlink_run.proofs.Names.{◌≡◌, ℕ, ◌+◌, ◌-◌, ◌≤◌, Bool, true, List, length, Some, inl, inr, ⊎_elim}
-use Rattle.hashlink_run.proofs.Names.{refl, sym, ap, subst, arith, lookup_entry, CacheState, EvictsFront}
-use Rattle.hashlink_run.proofs.Names.{MapState, first_of, CacheCommand, EntryStep, Reply, CacheStep, CacheRun}
-use Rattle.hashlink_run.proofs.Names.{Answered, EntrySteps}
+use Rattle.hashlink_run.specs.declared.cache_commands.CacheCommand.TheVariants as cache
+use Rattle.hashlink_run.{proofs.CachePuts.use_cases, proofs.EntryNodes.entry-leaves, proofs.Names.{◌≡◌, ℕ}}
+use Rattle.hashlink_run.proofs.Names.{◌+◌, ◌-◌, ◌≤◌, Bool, true, List, length, Some, inl, inr, ⊎_elim, refl}
+use Rattle.hashlink_run.proofs.Names.{sym, ap, subst, arith, lookup_entry, CacheState, EvictsFront, MapState}
+use Rattle.hashlink_run.proofs.Names.{first_of, CacheCommand, EntryStep, Reply, CacheStep, CacheRun, Answered}
+use Rattle.hashlink_run.{proofs.Names.EntrySteps, specs.CacheRun.{names_no_entry, KeepsBounds, StaysBounded}}
+use Rattle.hashlink_run.{proofs.Chained.{Chain-between, Chain-keeps}, specs.CacheStep.CacheRuns}
 use Rattle.std.proofs.Common.{◌⊎◌}
 use Rattle.hashlink_model.proofs.CacheBounds.{within-inserts, within-gets, within-removes, within-sets}
 use Rattle.hashlink_model.{specs.Cache.IsWithin, proofs.CacheBounds.{within-clears, within-pops_front}}
 use Rattle.hashlink_model.proofs.Caches.{front_evicted-at_most}
-use Rattle.hashlink_run.specs.declared.cache_commands.CacheCommand.TheVariants as cache
-use Rattle.hashlink_run.specs.{CacheRun.{names_no_entry, KeepsBounds, StaysBounded}, CacheStep.CacheRuns}
-use Rattle.hashlink_run.proofs.{CachePuts.use_cases, Chained.{Chain-between, Chain-keeps}}
-use Rattle.hashlink_run.proofs.EntryNodes.{entry-leaves}
 
 -- ---- a step keeps the bound
 

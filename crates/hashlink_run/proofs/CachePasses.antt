@@ -1,11 +1,10 @@
 -- The nodes along the steps of a cache.
-use Rattle.hashlink_run.proofs.Names.{◌≡◌, Bool, List, [], ◌∷◌, ◌++◌, length, take, Option, Result, Ok, Err}
-use Rattle.hashlink_run.proofs.Names.{MatchResult, ⊎_elim, append_assoc, arith, refl, sym, ap, ◌∙◌, subst}
-use Rattle.hashlink_run.proofs.Names.{lookup, lookup_entry, CacheState, CacheInserts, CacheUses, EvictsFront}
-use Rattle.hashlink_run.proofs.Names.{Passed, Length, PassesInTurn, MapState, node_count, KeepsNodes}
-use Rattle.hashlink_run.proofs.Names.{kept-inserts, kept-moves, kept-removes_key, kept-pops_front}
-use Rattle.hashlink_run.proofs.Names.{within_the_peak, CacheCommand, Reply, Refused, CacheStep}
-use Rattle.hashlink_run.proofs.Names.{CacheRun, insert_reply, Answered, state_after, after, Replies}
+use Rattle.hashlink_run.proofs.Names
+use Names.{◌≡◌, Bool, List, [], ◌∷◌, ◌++◌, length, take, Option, Result, Ok, Err, MatchResult, ⊎_elim}
+use Names.{append_assoc, arith, refl, sym, ap, ◌∙◌, subst, lookup, lookup_entry, CacheState, CacheInserts}
+use Names.{CacheUses, EvictsFront, Passed, Length, PassesInTurn, MapState, node_count, KeepsNodes}
+use Names.{kept-inserts, kept-moves, kept-removes_key, kept-pops_front, within_the_peak, CacheCommand, Reply}
+use Names.{Refused, CacheStep, CacheRun, insert_reply, Answered, state_after, after, Replies}
 use Rattle.std.proofs.Common.{max}
 use Rattle.hashlink_history.specs.Peak.{Passes}
 use Rattle.hashlink_model.proofs.KeptNodes.{kept-keeps}

@@ -1,16 +1,15 @@
 -- A command to a cache that passes a length before anything is dropped has inserted a pair: it is an insert,
 -- or a use that missed, and was not refused.
+use Rattle.hashlink_history.specs.CacheRuns as event
 use Rattle.hashlink_run.proofs.Names.{◌≡◌, ℕ, Bool, List, [], ◌∷◌, length, Option, None, Some, Result, Ok}
 use Rattle.hashlink_run.proofs.Names.{Err, MatchOption, MatchResult, ap, subst, inl, inr, lookup}
 use Rattle.hashlink_run.proofs.Names.{lookup_entry, CacheState, CacheInserts, CacheGets, CacheUses, Passed}
 use Rattle.hashlink_run.proofs.Names.{Length, CacheCommand, Reply, Refused, CacheStep, CacheRun, insert_reply}
-use Rattle.hashlink_run.proofs.Names.{is_refused, Answered, after, Replies}
-use Rattle.std.{proofs.Common.{cond, ◌⊎◌}, specs.Option.option_map_or}
-use Rattle.hashlink_history.specs.CacheRuns as event
-use Rattle.hashlink_model.{specs.Entries.put, proofs.CacheBounds.within-inserted}
+use Rattle.hashlink_run.{proofs.Names.{is_refused, Answered, after, Replies}, specs.CacheCalls.put_passed}
+use Rattle.hashlink_run.{proofs.Chained.step_of, specs.CacheRun.{command_put, InsertsFit}}
 use Rattle.hashlink_run.specs.declared.cache_commands.CacheCommand.TheVariants.{Insert, Use}
-use Rattle.hashlink_run.specs.{CacheCalls.put_passed, CacheRun.{command_put, InsertsFit}}
-use Rattle.hashlink_run.proofs.Chained.{step_of}
+use Rattle.std.{proofs.Common.{cond, ◌⊎◌}, specs.Option.option_map_or}
+use Rattle.hashlink_model.{specs.Entries.put, proofs.CacheBounds.within-inserted}
 
 -- a use is an insert, or a `get` of a present key
 pub use_cases : {K V S : Type 0} (eq : K → K → Bool) (old new : CacheState K V S) (k : K) (v : V)

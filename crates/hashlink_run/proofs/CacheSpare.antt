@@ -1,10 +1,9 @@
 -- A free node stays free along the steps of a cache, so nothing is refused.
-use Rattle.hashlink_run.proofs.Names.{◌≡◌, ℕ, ◌≤◌, ◌<◌, Bool, true, false, List, [], ◌∷◌, length, Option}
-use Rattle.hashlink_run.proofs.Names.{None, Some, Result, Ok, Err, MatchResult, ⊎_elim, sym, ap, subst, arith}
-use Rattle.hashlink_run.proofs.Names.{lookup_entry, CacheState, EvictsFront, CacheInserts, CacheGets}
-use Rattle.hashlink_run.proofs.Names.{CacheUses, MapState, kept-moves, kept-removes_key, kept-pops_front}
-use Rattle.hashlink_run.proofs.Names.{CacheCommand, Reply, Refused, CacheStep, CacheRun, insert_reply}
-use Rattle.hashlink_run.proofs.Names.{is_refused, Answered, after, Replies}
+use Rattle.hashlink_run.proofs.Names
+use Names.{◌≡◌, ℕ, ◌≤◌, ◌<◌, Bool, true, false, List, [], ◌∷◌, length, Option, None, Some, Result, Ok, Err}
+use Names.{MatchResult, ⊎_elim, sym, ap, subst, arith, lookup_entry, CacheState, EvictsFront, CacheInserts}
+use Names.{CacheGets, CacheUses, MapState, kept-moves, kept-removes_key, kept-pops_front, CacheCommand, Reply}
+use Names.{Refused, CacheStep, CacheRun, insert_reply, is_refused, Answered, after, Replies}
 use Rattle.hashlink_model.specs.{Cache.HasNodeToSpare, Steps.{RemovesKey, PopsFront}}
 use Rattle.hashlink_model.proofs.CacheBounds.{to_spare-kept, to_spare-dropped, to_spare-inserts}
 use Rattle.hashlink_model.proofs.{KeptNodes.kept-never_fall, NodeCounts.moves_length}

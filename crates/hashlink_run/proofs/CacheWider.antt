@@ -1,14 +1,13 @@
 -- If `Q` allows each value that `P` allows a closure to return for a pair, then steps of a cache by `P` are
 -- steps by `Q`.
+use Rattle.hashlink_run.specs.declared.cache_commands.CacheCommand.TheVariants as cache
+use Rattle.hashlink_run.specs.declared.cache_commands.WeightedCommand.TheVariants as weighted
 use Rattle.hashlink_run.proofs.Names.{Bool, List, Option, Result, Ok, Err, MatchResult, ◌≡◌, [], ◌∷◌}
 use Rattle.hashlink_run.proofs.Names.{lookup_entry, CacheState, CacheCommand, Reply, Refused, CacheStep}
-use Rattle.hashlink_run.proofs.Names.{Replies}
-use Rattle.hashlink_run.specs.declared.cache_commands.CacheCommand.TheVariants as cache
-use Rattle.hashlink_run.specs.declared.cache_commands.WeightedCommand.{WeightedCommand}
-use Rattle.hashlink_run.specs.declared.cache_commands.WeightedCommand.TheVariants as weighted
+use Rattle.hashlink_run.{proofs.Names.Replies, proofs.Wider.{replies-wider, entry-wider}}
 use Rattle.hashlink_run.specs.WeightedStep.{WeightedStep, named_pair}
+use Rattle.hashlink_run.specs.declared.cache_commands.WeightedCommand.{WeightedCommand}
 use Rattle.hashlink_model.specs.Weights.{WeightedState}
-use Rattle.hashlink_run.proofs.Wider.{replies-wider, entry-wider}
 
 module _ {K V B : Type 0} (P Q : K → V → B → Type 0) (wider : (k : K) (v : V) (b : B) → P k v b → Q k v b)
     {S : Type 0} (eq : K → K → Bool) (old : CacheState K V S) (replies : List (Reply K V B))

@@ -1,10 +1,9 @@
 -- Chains of a map's steps: the nodes along them, and that no pair is refused as long as a node is free.
-use Rattle.hashlink_run.proofs.Names.{◌≡◌, ℕ, ◌≤◌, ◌<◌, Bool, true, List, [], ◌∷◌, length, take, refl, sym}
-use Rattle.hashlink_run.proofs.Names.{arith, MapState, node_count, PassesInTurn, within_the_peak, Reply}
-use Rattle.hashlink_run.proofs.Names.{Answered, state_after, after, Step}
-use Rattle.hashlink_run.specs.declared.commands.Command.{Command}
 use Rattle.hashlink_run.specs.Run.{Run, Runs, keeps_nodes, passed_by, StaysWithinPeak, TakesKeysWhereShorter}
-use Rattle.hashlink_run.proofs.Chained.{Chain-take, Chain-keeps, Chain-between, step_at}
+use Rattle.hashlink_run.{proofs.Names.{◌≡◌, ℕ, ◌≤◌, ◌<◌, Bool, true}, specs.declared.commands.Command.Command}
+use Rattle.hashlink_run.proofs.Names.{List, [], ◌∷◌, length, take, refl, sym, arith, MapState, node_count}
+use Rattle.hashlink_run.proofs.Names.{PassesInTurn, within_the_peak, Reply, Answered, state_after, after}
+use Rattle.hashlink_run.{proofs.Chained.{Chain-take, Chain-keeps, Chain-between, step_at}, proofs.Names.Step}
 use Rattle.hashlink_run.proofs.AnyCommand.{map_step-taken, step-nodes}
 use Rattle.std.{proofs.Common.le_refl, specs.List.AllPass}
 use Rattle.hashlink_model.proofs.KeptNodes.{kept-never_fall, spare_where_shorter}

@@ -1,13 +1,12 @@
 -- If `Q` allows each value that `P` allows a closure to return for a pair, then steps of a map by `P` are
 -- steps by `Q`.
-use Rattle.hashlink_run.proofs.Names.{ℕ, Bool, List, [], ◌∷◌, slice_get, Option, None, Some, MatchOption}
-use Rattle.hashlink_run.proofs.Names.{CursorState, place_of, MapState, CursorStep, EntryStep, Reply}
-use Rattle.hashlink_run.proofs.Names.{CursorStepped, CursorWalks, first_place, OccupiedStep, VacantStep}
-use Rattle.hashlink_run.proofs.Names.{EntrySteps, Replies}
-use Rattle.hashlink_model.specs.Cursor.{entry_in, place_next, place_previous}
 use Rattle.hashlink_run.specs.declared.commands.CursorStep.TheVariants as cursor
 use Rattle.hashlink_run.specs.declared.commands.EntryStep.TheVariants as step
-use Rattle.hashlink_run.specs.{CursorSteps.CursorSteps, Reads.{SaysOf, Reads}}
+use Rattle.hashlink_run.{proofs.Names.{ℕ, Bool}, specs.CursorSteps.CursorSteps, specs.Reads.{SaysOf, Reads}}
+use Rattle.hashlink_run.proofs.Names.{List, [], ◌∷◌, slice_get, Option, None, Some, MatchOption, CursorState}
+use Rattle.hashlink_run.proofs.Names.{place_of, MapState, CursorStep, EntryStep, Reply, CursorStepped}
+use Rattle.hashlink_run.proofs.Names.{CursorWalks, first_place, OccupiedStep, VacantStep, EntrySteps, Replies}
+use Rattle.hashlink_model.specs.Cursor.{entry_in, place_next, place_previous}
 
 module _ {K V B : Type 0} (P Q : K → V → B → Type 0)
     (wider : (k : K) (v : V) (b : B) → P k v b → Q k v b) where

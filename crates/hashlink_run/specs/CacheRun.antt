@@ -1,15 +1,13 @@
 -- Lists of commands to a cache: the nodes and the lengths along them, and which commands are not refused.
+use Rattle.hashlink_history.specs.CacheRuns as event
+use Rattle.hashlink_run.specs.declared.cache_commands.CacheCommand.TheVariants as cache
 use Rattle.std.specs.Prelude.{◌≡◌, ℕ, ◌+◌, ◌≤◌, ◌<◌, Bool, true, false, cond, List, [], ◌∷◌, ◌++◌, length}
 use Rattle.std.specs.{Prelude.{take, drop, slice_get, Some}, List.AllPass}
-use Rattle.hashlink_model.specs.Cache.{CacheState, IsWithin}
-use Rattle.hashlink_history.specs.CacheRuns as event
+use Rattle.hashlink_model.{specs.Cache.{CacheState, IsWithin}, specs.MapState.{MayRefuse, node_count}}
 use Rattle.hashlink_history.specs.Peak.{Passed, Length, peak}
-use Rattle.hashlink_model.specs.MapState.{MayRefuse, node_count}
-use Rattle.hashlink_run.specs.declared.cache_commands.CacheCommand.{CacheCommand}
-use Rattle.hashlink_run.specs.declared.cache_commands.CacheCommand.TheVariants as cache
-use Rattle.hashlink_run.specs.{declared.replies.Reply.Reply, CacheCalls.put_passed, CallReplies.is_refused}
-use Rattle.hashlink_run.specs.CacheStep.{CacheRuns, CacheStep, ReadFromCache}
-use Rattle.hashlink_run.specs.Chain.{Answered, ComesTo, after}
+use Rattle.hashlink_run.{specs.CacheStep.{CacheRuns, CacheStep, ReadFromCache}, specs.CallReplies.is_refused}
+use Rattle.hashlink_run.{specs.Chain.{Answered, ComesTo, after}, specs.declared.replies.Reply.Reply}
+use Rattle.hashlink_run.{specs.CacheCalls.put_passed, specs.declared.cache_commands.CacheCommand.CacheCommand}
 
 -- starting at old, one of the commands may show the pair to the closure
 pub record ShownByCache {K V B S : Type 0} (eq : K → K → Bool) (Says : K → V → B → Type 0)

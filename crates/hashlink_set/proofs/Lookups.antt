@@ -1,7 +1,6 @@
 -- What the map's lookups show for a set's elements.
-use Rattle.std.proofs.Common.{◌≡◌, Bool, List, is_some, option_map, sym, ap, ◌∙◌}
-use Rattle.std.specs.{List.{find, list_any}, Map.{keys_of, lookup_entry}}
-use Rattle.std.proofs.lemmas.Map.Made.{is_some-lookup}
+use Rattle.std.{proofs.Common.◌∙◌, proofs.lemmas.Map.Made.is_some-lookup, specs.Map.{keys_of, lookup_entry}}
+use Rattle.std.{proofs.Common.{◌≡◌, Bool, List, is_some, option_map, sym, ap}, specs.List.{find, list_any}}
 use Rattle.hashlink_model.proofs.{Finds.{lookup_is, lookup_key_is}, SetElements.find-keys}
 use Rattle.hashlink_core.proofs.AtKeyNode.{is_some-map}
 

@@ -1,10 +1,9 @@
 -- Which element is the last one after an insert or a move.
-use Rattle.hashlink_set.proofs.Names.{◌≡◌, ℕ, Result, Bool, true, false, List, [], ◌∷◌, length, Option, None}
-use Rattle.hashlink_set.proofs.Names.{Some, Ok, Err, is_some, refl, sym, ap, subst, ◌∙◌, arith, IfOk, IfErr}
-use Rattle.hashlink_set.proofs.Names.{IsEquivalence, find, keys_of, is_member, remove_key, is_some-lookup}
-use Rattle.hashlink_set.proofs.Names.{SetState, elements_of, put_element, stored_element, SetInserts}
-use Rattle.hashlink_set.proofs.Names.{SetReplaces, Moves, last_of, set_inserts, set_replaces, as_value}
-use Rattle.hashlink_set.proofs.Names.{GetsOrMakes}
+use Rattle.hashlink_set.proofs.Names
+use Names.{◌≡◌, ℕ, Result, Bool, true, false, List, [], ◌∷◌, length, Option, None, Some, Ok, Err, is_some}
+use Names.{refl, sym, ap, subst, ◌∙◌, arith, IfOk, IfErr, IsEquivalence, find, keys_of, is_member, remove_key}
+use Names.{is_some-lookup, SetState, elements_of, put_element, stored_element, SetInserts, SetReplaces, Moves}
+use Names.{last_of, set_inserts, set_replaces, as_value, GetsOrMakes}
 use Rattle.std.{proofs.Common.unwrap_or, specs.List.IsDistinct, proofs.lemmas.Map.Entries.length-keys_of}
 use Rattle.hashlink_model.{specs.MapState.{AddsEntry, RefusesEntry}, proofs.SetSteps.IsDistinct-replaced}
 use Rattle.hashlink_model.proofs.{Places.last_of-end, SetElements.{moves_elements, put_element_back}}

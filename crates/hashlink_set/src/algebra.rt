@@ -1,9 +1,8 @@
 //! Set algebra, by lazy iterators and by tests. No method here allocates. A step of an iterator hashes each
 //! element that it looks up in the other set, once.
 ghost use Rattle.std.specs.{Prelude.◌≡◌, List.IsDistinct};
-ghost use Rattle.hashlink_model.specs.Algebra.{difference_of, intersection_of, union_of};
-ghost use Rattle.hashlink_model.specs.Algebra.{symmetric_difference_of, is_subset, is_disjoint};
-ghost use Rattle.hashlink_model.specs.Sets.{elements_of};
+ghost use Rattle.hashlink_model.{specs.Algebra.{difference_of, intersection_of}, specs.Sets.elements_of};
+ghost use Rattle.hashlink_model.specs.Algebra.{union_of, symmetric_difference_of, is_subset, is_disjoint};
 ghost use Rattle.hashlink_core.specs.Keyed.{state_of};
 
 use crate::set::LinkedHashSet;

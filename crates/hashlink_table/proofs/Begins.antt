@@ -1,9 +1,8 @@
 -- At which buckets chains begin, from the bytes that are stored to what contracts see.
-use Rattle.hashlink_table.proofs.Names.{◌≡◌, ℕ, zero, suc, ◌+◌, ◌*◌, ◌<◌, Bool, true, false}
-use Rattle.hashlink_table.proofs.Names.{cond, ◌++◌, eqb, List, [], ◌∷◌, length, map, get_or, set}
-use Rattle.hashlink_table.proofs.Names.{replicate, refl, sym, ap, ◌∙◌, arith, chunk}
-use Rattle.hashlink_table.proofs.Names.{get_or-map, length-map, map-append, map-set, set-get_or, mask_l, Cell}
-use Rattle.hashlink_table.proofs.Names.{Rest, bare_cell, cells_in, AreSlots, begins, flag_of}
+use Rattle.hashlink_table.proofs.Names
+use Names.{◌≡◌, ℕ, zero, suc, ◌+◌, ◌*◌, ◌<◌, Bool, true, false, cond, ◌++◌, eqb, List, [], ◌∷◌, length, map}
+use Names.{get_or, set, replicate, refl, sym, ap, ◌∙◌, arith, chunk, get_or-map, length-map, map-append}
+use Names.{map-set, set-get_or, mask_l, Cell, Rest, bare_cell, cells_in, AreSlots, begins, flag_of}
 use Rattle.hashlink_table.proofs.{Names.{doubled, low_half, high_half}, Storing.{AreCells, map-chunk}}
 use Rattle.std.proofs.lemmas.List.{replicate-append-replicate}
 

@@ -1,15 +1,13 @@
 -- The doubling of the buckets: of one cell, of all cells in turn, and the place of each node afterwards.
-use Rattle.hashlink_table.proofs.Names.{◌≡◌, ◌≢◌, ℕ, suc, ◌+◌, ◌-◌, ◌*◌, ◌%◌, ◌<◌, ◌≤◌, inl, inr, Bool, true}
-use Rattle.hashlink_table.proofs.Names.{false, cond, ltb, List, ◌++◌, length, map, get_or, set, Some, Option}
-use Rattle.hashlink_table.proofs.Names.{None, refl, sym, ap, ◌∙◌, arith, cases_eq, cases_lt, IsPowerOfTwo}
-use Rattle.hashlink_table.proofs.Names.{pow-succ', get_or_append_left, get_or-append_right, get_or_default}
-use Rattle.hashlink_table.proofs.Names.{get_or-set_same, get_or-set_other, length-append, length-map}
-use Rattle.hashlink_table.proofs.Names.{length-set, Hashed, Cell, END, Rest, bare_cell, slot, cells_in}
-use Rattle.hashlink_table.proofs.Names.{low_kept, high_kept, low_half, high_half, doubled, parted, IsStored}
-use Rattle.hashlink_table.proofs.Names.{IsTagged, Row, ◌/◌, ◌⊎◌, [], ◌∷◌, subst, IsPermutation, mod-mul}
-use Rattle.hashlink_table.proofs.Names.{ltb-true, ltb-false, IsPermutation-refl, IsPermutation-sym}
-use Rattle.hashlink_table.proofs.Names.{IsPermutation-trans, IsPermutation-cons, IsPermutation-middle}
-use Rattle.hashlink_table.proofs.Names.{mod_below, same_Some, next_at, nodes_in, with_node, AreGrouped}
+use Rattle.hashlink_table.proofs.Names
+use Names.{◌≡◌, ◌≢◌, ℕ, suc, ◌+◌, ◌-◌, ◌*◌, ◌%◌, ◌<◌, ◌≤◌, inl, inr, Bool, true, false, cond, ltb, List, ◌++◌}
+use Names.{length, map, get_or, set, Some, Option, None, refl, sym, ap, ◌∙◌, arith, cases_eq, cases_lt}
+use Names.{IsPowerOfTwo, pow-succ', get_or_append_left, get_or-append_right, get_or_default, get_or-set_same}
+use Names.{get_or-set_other, length-append, length-map, length-set, Hashed, Cell, END, Rest, bare_cell, slot}
+use Names.{cells_in, low_kept, high_kept, low_half, high_half, doubled, parted, IsStored, IsTagged, Row, ◌/◌}
+use Names.{◌⊎◌, [], ◌∷◌, subst, IsPermutation, mod-mul, ltb-true, ltb-false, IsPermutation-refl}
+use Names.{IsPermutation-sym, IsPermutation-trans, IsPermutation-cons, IsPermutation-middle, mod_below}
+use Names.{same_Some, next_at, nodes_in, with_node, AreGrouped}
 use Rattle.hashlink_table.proofs.Storing.{AreCells, cell_at, node_at, node_stays, rest_at, row, stored}
 use Rattle.hashlink_table.proofs.{Names.{IsArranged, IsInPlace}, Storing.{tag_at, written}}
 use Rattle.hashlink_table.proofs.{Moving.within_kept, Nodes.nodes_in-append, Sound.{filled-none, linked-none}}

@@ -1,14 +1,12 @@
 -- The chains of a table after a write to the cells, after an insert and after a removal.
-use Rattle.hashlink_table.proofs.Names.{◌≡◌, ◌≢◌, ℕ, zero, suc, ◌<◌, ◌≤◌, inl, inr, List, [], ◌∷◌, ◌++◌, map}
-use Rattle.hashlink_table.proofs.Names.{IsSome, length, get_or, set, refl, ap, ◌∙◌, subst, arith, cases_lt}
-use Rattle.hashlink_table.proofs.Names.{false≢true, get_or-set_same, get_or-set_other, get_or_push}
-use Rattle.hashlink_table.proofs.Names.{get_or-map, get_or_past, get_or_default, length-map, length-set}
-use Rattle.hashlink_table.proofs.Names.{length_push, map-set, map_push, map-set_same, Cell, kept_at, next_at}
-use Rattle.hashlink_table.proofs.Names.{chain_of, chain_at, bare_cell, ◌+◌, cond, eqb, None, sym, eq-eqb}
-use Rattle.hashlink_table.proofs.Names.{ne_eqb, cases_eq, get_or_append_left, get_or_at, set-append_left}
-use Rattle.hashlink_table.proofs.Names.{set_at, pow_pos, IsPowerOfTwo, END, links_of, IsThreaded, IsLinked}
-use Rattle.hashlink_table.proofs.Names.{IsLinkedBut, ◌%◌, Option, Some, IsPermutation, Hashed, nodes_in}
-use Rattle.hashlink_table.proofs.Names.{stored_in, with_node, IsPlaced, SameNodes}
+use Rattle.hashlink_table.proofs.Names
+use Names.{◌≡◌, ◌≢◌, ℕ, zero, suc, ◌<◌, ◌≤◌, inl, inr, List, [], ◌∷◌, ◌++◌, map, IsSome, length, get_or, set}
+use Names.{refl, ap, ◌∙◌, subst, arith, cases_lt, false≢true, get_or-set_same, get_or-set_other, get_or_push}
+use Names.{get_or-map, get_or_past, get_or_default, length-map, length-set, length_push, map-set, map_push}
+use Names.{map-set_same, Cell, kept_at, next_at, chain_of, chain_at, bare_cell, ◌+◌, cond, eqb, None, sym}
+use Names.{eq-eqb, ne_eqb, cases_eq, get_or_append_left, get_or_at, set-append_left, set_at, pow_pos}
+use Names.{IsPowerOfTwo, END, links_of, IsThreaded, IsLinked, IsLinkedBut, ◌%◌, Option, Some, IsPermutation}
+use Names.{Hashed, nodes_in, stored_in, with_node, IsPlaced, SameNodes}
 use Rattle.hashlink_table.proofs.Threads.{SameBut, take_first, take_next, put_first}
 use Rattle.hashlink_table.proofs.Nodes.{nodes_in-set, nodes_in-push, nodes_in-same}
 use Rattle.std.proofs.Math.ListN as by_index

@@ -1,12 +1,11 @@
 -- The bits of a mask, one for each cell of a group that passes a test.
-use Rattle.hashlink_table.proofs.Names.{◌≡◌, ◌≢◌, ℕ, zero, suc, ◌+◌, ◌-◌, ◌*◌, ◌/◌, ◌^◌, ◌<◌, ◌≤◌, Bool}
-use Rattle.hashlink_table.proofs.Names.{true, false, cond, not, List, [], ◌∷◌, map, length, drop, get_or}
-use Rattle.hashlink_table.proofs.Names.{count_by, None, Some, IsSome, Option, refl, sym, ap, ◌∙◌, subst}
-use Rattle.hashlink_table.proofs.Names.{arith, is_none, prefix_len, eq-eqb, eqb-true, not-false, true≢false}
-use Rattle.hashlink_table.proofs.Names.{drop-drop, get_or-drop, length-drop, take_all, sum_by-cons}
-use Rattle.hashlink_table.proofs.Names.{length-chunk, get_or-chunk, trailing_mask_l, none_from_empty_mask}
-use Rattle.hashlink_table.proofs.Names.{one-add, count_trailing_zeros, mask_l, shr-shr, Cell, END, kept_at}
-use Rattle.hashlink_table.proofs.Names.{next_at, AreTaken, bare_cell, begins, lanes_of}
+use Rattle.hashlink_table.proofs.Names
+use Names.{◌≡◌, ◌≢◌, ℕ, zero, suc, ◌+◌, ◌-◌, ◌*◌, ◌/◌, ◌^◌, ◌<◌, ◌≤◌, Bool, true, false, cond, not, List, []}
+use Names.{◌∷◌, map, length, drop, get_or, count_by, None, Some, IsSome, Option, refl, sym, ap, ◌∙◌, subst}
+use Names.{arith, is_none, prefix_len, eq-eqb, eqb-true, not-false, true≢false, drop-drop, get_or-drop}
+use Names.{length-drop, take_all, sum_by-cons, length-chunk, get_or-chunk, trailing_mask_l}
+use Names.{none_from_empty_mask, one-add, count_trailing_zeros, mask_l, shr-shr, Cell, END, kept_at, next_at}
+use Names.{AreTaken, bare_cell, begins, lanes_of}
 
 module _ {X : Type 0} (p : X → Bool) where
   -- the first element that passes is the one at r, and the elements after it have the rest of the mask

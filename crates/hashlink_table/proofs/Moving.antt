@@ -1,12 +1,11 @@
 -- The slots: a node is put into one or taken out of one, and the first node of a chain moves there.
-use Rattle.hashlink_table.proofs.Names.{◌≡◌, ◌≢◌, ℕ, ◌+◌, ◌-◌, ◌%◌, ◌<◌, ◌≤◌, ◌⊎◌, inl, inr, List, ◌∷◌, ◌++◌}
-use Rattle.hashlink_table.proofs.Names.{length, get_or, is_some, set, IsSome, Option, None, Some, refl, sym}
-use Rattle.hashlink_table.proofs.Names.{ap, ◌∙◌, subst, arith, IsPermutation, cases_eq, length-map}
-use Rattle.hashlink_table.proofs.Names.{length-set, IsPermutation-sym, IsPermutation-trans}
-use Rattle.hashlink_table.proofs.Names.{IsPermutation-middle, IsPermutation-append_left}
-use Rattle.hashlink_table.proofs.Names.{IsPermutation-append_right, map-set_same, Hashed, Cell, END, kept_at}
-use Rattle.hashlink_table.proofs.Names.{next_at, chain_at, links_of, nodes_in, with_node, stored_in}
-use Rattle.hashlink_table.proofs.Names.{AreGrouped, AreTaken, IsArranged, IsLinked, SameNodes, bare_cell}
+use Rattle.hashlink_table.proofs.Names
+use Names.{◌≡◌, ◌≢◌, ℕ, ◌+◌, ◌-◌, ◌%◌, ◌<◌, ◌≤◌, ◌⊎◌, inl, inr, List, ◌∷◌, ◌++◌, length, get_or, is_some, set}
+use Names.{IsSome, Option, None, Some, refl, sym, ap, ◌∙◌, subst, arith, IsPermutation, cases_eq, length-map}
+use Names.{length-set, IsPermutation-sym, IsPermutation-trans, IsPermutation-middle}
+use Names.{IsPermutation-append_left, IsPermutation-append_right, map-set_same, Hashed, Cell, END, kept_at}
+use Names.{next_at, chain_at, links_of, nodes_in, with_node, stored_in, AreGrouped, AreTaken, IsArranged}
+use Names.{IsLinked, SameNodes, bare_cell}
 use Rattle.hashlink_table.proofs.Linking.{kept_at-set, kept_at-set_other, next_at-set_other, within_by_kept}
 use Rattle.hashlink_table.proofs.{Names.with_next, Linking.kept-same, Nodes.{nodes_in-set, nodes_in-same}}
 use Rattle.hashlink_table.proofs.Walks.{walk_of}

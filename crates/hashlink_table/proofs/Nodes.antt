@@ -1,12 +1,11 @@
 -- The nodes of a list of cells: after a write, one by one, and in a loop that inserts them.
-use Rattle.hashlink_table.proofs.Names.{◌≡◌, ℕ, zero, suc, ◌+◌, ◌<◌, ◌≤◌, List, [], ◌∷◌, ◌++◌, length, get_or}
-use Rattle.hashlink_table.proofs.Names.{set, replicate, take, drop, true, Option, Some, None, is_some, refl}
-use Rattle.hashlink_table.proofs.Names.{sym, ap, ◌∙◌, subst, arith, append_assoc, Contains, IsPermutation}
-use Rattle.hashlink_table.proofs.Names.{take_more, take-append-drop, length-append, IsPermutation-refl}
-use Rattle.hashlink_table.proofs.Names.{IsPermutation-trans, IsPermutation-cons, IsPermutation-middle}
-use Rattle.hashlink_table.proofs.Names.{IsPermutation-to_front, Hashed, Cell, kept_at, stored_in, with_node}
-use Rattle.hashlink_table.proofs.Names.{nodes_in, SameNodes, bare_cell, append-nil, length_push}
-use Rattle.hashlink_table.proofs.Names.{length_permutation, Contents, len_of}
+use Rattle.hashlink_table.proofs.Names
+use Names.{◌≡◌, ℕ, zero, suc, ◌+◌, ◌<◌, ◌≤◌, List, [], ◌∷◌, ◌++◌, length, get_or, set, replicate, take, drop}
+use Names.{true, Option, Some, None, is_some, refl, sym, ap, ◌∙◌, subst, arith, append_assoc, Contains}
+use Names.{IsPermutation, take_more, take-append-drop, length-append, IsPermutation-refl, IsPermutation-trans}
+use Names.{IsPermutation-cons, IsPermutation-middle, IsPermutation-to_front, Hashed, Cell, kept_at, stored_in}
+use Names.{with_node, nodes_in, SameNodes, bare_cell, append-nil, length_push, length_permutation, Contents}
+use Names.{len_of}
 
 module _ {N : Type 0} where
   -- two nodes may change places

@@ -1,10 +1,9 @@
 -- The fields of a table agree.
-use Rattle.hashlink_table.proofs.Names.{◌≡◌, ◌≢◌, ℕ, zero, suc, ◌+◌, ◌-◌, ◌*◌, ◌%◌, ◌<◌, ◌≤◌, true, inl, inr}
-use Rattle.hashlink_table.proofs.Names.{length_push, take, with_node, List, [], ◌∷◌, ◌++◌, length, max}
-use Rattle.hashlink_table.proofs.Names.{get_or, replicate, Option, Some, None, is_some, refl, sym, ap, ◌∙◌}
-use Rattle.hashlink_table.proofs.Names.{arith, IsPermutation, cases_eq, cases_lt, length-append}
-use Rattle.hashlink_table.proofs.Names.{length-replicate, length_permutation, Hashed, Cell, END, kept_at}
-use Rattle.hashlink_table.proofs.Names.{next_at, chain_of, nodes_in, links_of, contents, AreSizes, IsArranged}
+use Rattle.hashlink_table.proofs.Names
+use Names.{◌≡◌, ◌≢◌, ℕ, zero, suc, ◌+◌, ◌-◌, ◌*◌, ◌%◌, ◌<◌, ◌≤◌, true, inl, inr, length_push, take, with_node}
+use Names.{List, [], ◌∷◌, ◌++◌, length, max, get_or, replicate, Option, Some, None, is_some, refl, sym, ap}
+use Names.{◌∙◌, arith, IsPermutation, cases_eq, cases_lt, length-append, length-replicate, length_permutation}
+use Names.{Hashed, Cell, END, kept_at, next_at, chain_of, nodes_in, links_of, contents, AreSizes, IsArranged}
 use Rattle.hashlink_table.proofs.Linking.{chain_at_within, within_by_kept, bucket_start, free_start}
 use Rattle.hashlink_table.proofs.{Names.{IsFilled, IsLinked, IsSound, bare_cell, Contents}, Threads.begun}
 use Rattle.hashlink_table.proofs.{Linking.length-starts, Walks.bucket_begun}

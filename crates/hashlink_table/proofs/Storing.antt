@@ -1,12 +1,11 @@
 -- The slots, from what is stored to what contracts see.
-use Rattle.hashlink_table.proofs.Names.{◌≡◌, ℕ, zero, suc, ◌<◌, ◌≤◌, inl, inr, Bool, true, false, cond, ◌++◌}
-use Rattle.hashlink_table.proofs.Names.{eqb, List, [], ◌∷◌, length, map, take, drop, get_or, set, replicate}
-use Rattle.hashlink_table.proofs.Names.{Some, None, refl, sym, ap, ◌∙◌, subst, arith, is_none, IfSome, All}
-use Rattle.hashlink_table.proofs.Names.{chunk, ne_eqb, false≢true, get_or-map, length-map, map-append, map-id}
-use Rattle.hashlink_table.proofs.Names.{map-set, set-get_or, take-map, drop-map, All-append, All-get_or}
-use Rattle.hashlink_table.proofs.Names.{All-head, All-map, All-set, All-tail, map-map, splat_is_map, Hashed}
-use Rattle.hashlink_table.proofs.Names.{Cell, END, Rest, kept_at, next_at, bare_cell, tag_of, slot, cells_in}
-use Rattle.hashlink_table.proofs.Names.{may_be, with_kept, with_next, without_kept, IsStored, IsTagged, Row}
+use Rattle.hashlink_table.proofs.Names
+use Names.{◌≡◌, ℕ, zero, suc, ◌<◌, ◌≤◌, inl, inr, Bool, true, false, cond, ◌++◌, eqb, List, [], ◌∷◌, length}
+use Names.{map, take, drop, get_or, set, replicate, Some, None, refl, sym, ap, ◌∙◌, subst, arith, is_none}
+use Names.{IfSome, All, chunk, ne_eqb, false≢true, get_or-map, length-map, map-append, map-id, map-set}
+use Names.{set-get_or, take-map, drop-map, All-append, All-get_or, All-head, All-map, All-set, All-tail}
+use Names.{map-map, splat_is_map, Hashed, Cell, END, Rest, kept_at, next_at, bare_cell, tag_of, slot}
+use Names.{cells_in, may_be, with_kept, with_next, without_kept, IsStored, IsTagged, Row}
 use Rattle.std.specs.{Prelude.IsSome, Simd.Lanes.mask_l}
 
 -- what a bare slot stores besides its node

@@ -1,14 +1,12 @@
 -- What a contract sees of the cells: their nodes, and how many of them agree with a hash.
-use Rattle.hashlink_table.proofs.Names.{◌≡◌, ℕ, zero, suc, ◌+◌, ◌-◌, ◌%◌, ◌<◌, ◌≤◌, inl, inr, Bool, true}
-use Rattle.hashlink_table.proofs.Names.{false, cond, eqb, List, [], ◌∷◌, ◌++◌, length, get_or, take, drop}
-use Rattle.hashlink_table.proofs.Names.{Option, Some, None, count_by, refl, sym, ap, ◌∙◌, arith, Contains}
-use Rattle.hashlink_table.proofs.Names.{IsPowerOfTwo, mod-mod_of_dvd, dvd_of_mod-eq-zero, cases_lt, eq-eqb}
-use Rattle.hashlink_table.proofs.Names.{eqb-true, ne_eqb, true≢false, take-append-drop, Contains-append_left}
-use Rattle.hashlink_table.proofs.Names.{Contains-append_right, Contains-append_cases, sum_by-cons}
-use Rattle.hashlink_table.proofs.Names.{sum_by-append, chunk-drop, get_or-chunk, length-chunk, Hashed, Cell}
-use Rattle.hashlink_table.proofs.Names.{Spot, Slot, Overflow, Contents, agreeing, AreBuckets, CanAsk, kept_at}
-use Rattle.hashlink_table.proofs.Names.{kept_by, chain_of, with_node, nodes_in, contents, AreGrouped}
-use Rattle.hashlink_table.proofs.Names.{IsInPlace, IsSound, kept_may_be, lanes_of, may_be, bare_cell, tag_of}
+use Rattle.hashlink_table.proofs.Names
+use Names.{◌≡◌, ℕ, zero, suc, ◌+◌, ◌-◌, ◌%◌, ◌<◌, ◌≤◌, inl, inr, Bool, true, false, cond, eqb, List, [], ◌∷◌}
+use Names.{◌++◌, length, get_or, take, drop, Option, Some, None, count_by, refl, sym, ap, ◌∙◌, arith}
+use Names.{Contains, IsPowerOfTwo, mod-mod_of_dvd, dvd_of_mod-eq-zero, cases_lt, eq-eqb, eqb-true, ne_eqb}
+use Names.{true≢false, take-append-drop, Contains-append_left, Contains-append_right, Contains-append_cases}
+use Names.{sum_by-cons, sum_by-append, chunk-drop, get_or-chunk, length-chunk, Hashed, Cell, Spot, Slot}
+use Names.{Overflow, Contents, agreeing, AreBuckets, CanAsk, kept_at, kept_by, chain_of, with_node, nodes_in}
+use Names.{contents, AreGrouped, IsInPlace, IsSound, kept_may_be, lanes_of, may_be, bare_cell, tag_of}
 use Rattle.hashlink_table.proofs.{Groups.{group_within, grouped_in}, Linking.positive_by_power}
 use Rattle.hashlink_table.proofs.Nodes.{contains-at, at-contains}
 

@@ -63,8 +63,7 @@ impl<N> Model for Table<N> {
         t.room };
 }
 
-// Written by hand, so that a drop is one call. A derived drop would be inlined at each place that drops a
-// table.
+// Written by hand, so that a drop is one call. A derived drop would be inlined wherever a table is dropped.
 impl<N: Drop> Drop for Table<N> {
     fn drop(self) {
         let Table {

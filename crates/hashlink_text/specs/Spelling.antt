@@ -1,26 +1,24 @@
 -- The spelling of what a line may mean. A text means the one whose spelling it is. Each spelling is followed
 -- by a list of all meanings with given numbers; a reader looks the first word of a line up in it.
+use Rattle.hashlink_run.specs.declared.cache_commands.CacheCommand.TheVariants as cache
+use Rattle.hashlink_run.specs.declared.cache_commands.PairCommand.TheVariants as pair
+use Rattle.hashlink_run.specs.declared.cache_commands.WeightedCommand.TheVariants as weighted
+use Rattle.hashlink_run.specs.declared.commands.Command.TheVariants as command
+use Rattle.hashlink_run.specs.declared.commands.CursorStep.TheVariants as cursor
+use Rattle.hashlink_run.specs.declared.commands.EntryStep.TheVariants as step
+use Rattle.hashlink_text.specs.declared.cache_line.CacheLine.TheVariants as cache_line
+use Rattle.hashlink_text.specs.declared.line.Line.TheVariants as line
+use Rattle.hashlink_text.specs.declared.modes.Mode.TheVariants as mode
+use Rattle.hashlink_text.specs.declared.weighted_line.WeightedLine.TheVariants as weighted_line
 use Rattle.std.specs.Prelude.{◌≡◌, ◌↔◌, ℕ, ◌^◌, ◌<◌, List, [], ◌∷◌, map, codes, decimal, Option, None, Some}
 use Rattle.std.specs.{Prelude.{nat_le, if◌then◌else◌}, Option.option_map}
 use Rattle.std.specs.List.{AllByRecursion, flat_map, join_with_byte}
-use Rattle.hashlink_run.specs.declared.cache_commands.CacheCommand.TheVariants as cache
 use Rattle.hashlink_run.specs.declared.cache_commands.PairCommand.{PairCommand}
-use Rattle.hashlink_run.specs.declared.cache_commands.PairCommand.TheVariants as pair
-use Rattle.hashlink_run.specs.declared.cache_commands.WeightedCommand.TheVariants as weighted
-use Rattle.hashlink_run.specs.declared.commands.Command.{Command}
-use Rattle.hashlink_run.specs.declared.commands.Command.TheVariants as command
 use Rattle.hashlink_run.specs.declared.commands.CursorStep.{CursorStep}
-use Rattle.hashlink_run.specs.declared.commands.CursorStep.TheVariants as cursor
-use Rattle.hashlink_run.specs.declared.commands.EntryStep.{EntryStep}
-use Rattle.hashlink_run.specs.declared.commands.EntryStep.TheVariants as step
-use Rattle.hashlink_text.specs.declared.cache_line.CacheLine.{CacheLine}
-use Rattle.hashlink_text.specs.declared.cache_line.CacheLine.TheVariants as cache_line
-use Rattle.hashlink_text.specs.declared.line.Line.{Line}
-use Rattle.hashlink_text.specs.declared.line.Line.TheVariants as line
-use Rattle.hashlink_text.specs.declared.modes.Mode.{Mode}
-use Rattle.hashlink_text.specs.declared.modes.Mode.TheVariants as mode
+use Rattle.hashlink_run.{specs.declared.commands.Command.Command, specs.declared.commands.EntryStep.EntryStep}
 use Rattle.hashlink_text.specs.declared.weighted_line.WeightedLine.{WeightedLine}
-use Rattle.hashlink_text.specs.declared.weighted_line.WeightedLine.TheVariants as weighted_line
+use Rattle.hashlink_text.{specs.declared.cache_line.CacheLine.CacheLine, specs.declared.line.Line.Line}
+use Rattle.hashlink_text.specs.declared.modes.Mode.{Mode}
 
 -- a word of a line: a name, or a number
 pub data Word : Type 0 where

@@ -231,6 +231,7 @@ fn cursor_step_alone(name: &[u8]) -> Option<CursorStep<u64, u64>>
 }
 
 // Returns the step that the name means before a key and a value.
+#[tactic(auto, using(std::proofs::Common::rules))]
 fn cursor_step_of_pair(name: &[u8], key: u64, value: u64) -> Option<CursorStep<u64, u64>>
     ensures { result ≡ lookup (bytes_eq name.now)
         (by_name cursor_step_spelled cursor_steps (key ∷ value ∷ [])) }

@@ -37,6 +37,7 @@ pub(crate) fn read_numbers(mut words: Words<'_>) -> Option<Numbers>
 }
 
 // Returns the number that the word spells in decimal digits, with no leading zero.
+#[tactic(auto, using(std::proofs::Common::rules))]
 pub(crate) fn number(word: &[u8]) -> Option<u64>
     ensures { result ≡ number_of word.now }
 {

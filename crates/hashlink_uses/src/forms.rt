@@ -1,9 +1,8 @@
 //! Forms that a caller writes by habit: loops over borrowed containers, `?` on calls that allocate,
 //! operators, and `collect`.
-ghost use Rattle.std.specs.{Prelude.{◌≡◌, [], IfOk, OnErr, nat_eq, reverse}, List.list_any, Map.keys_of};
-ghost use Rattle.hashlink.specs.{Algebra.intersection_of, Cached.entries_of};
 ghost use Rattle.hashlink.specs.Keyed as keyed;
-ghost use Rattle.hashlink.specs.Sets.{elements_of};
+ghost use Rattle.std.specs.{Prelude.{◌≡◌, [], IfOk, OnErr, nat_eq, reverse}, List.list_any, Map.keys_of};
+ghost use Rattle.hashlink.{specs.Algebra.intersection_of, specs.Cached.entries_of, specs.Sets.elements_of};
 
 use hashlink::{LinkedHashMap, LinkedHashSet, LruCache};
 use std::alloc::{AllocError, Global};

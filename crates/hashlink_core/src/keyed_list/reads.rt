@@ -140,8 +140,7 @@ impl<K: Eq + Hash, V, S: BuildHasher> KeyedList<K, V, S> {
         self.nodes.entry(node)
     }
 
-    /// Returns an iterator over the entries, front to back. It does not allocate, and each step takes
-    /// constant time.
+    /// Returns an iterator over the entries, front to back. It does not allocate; a step takes constant time.
     pub fn iter(&self) -> Iter<'_, K, V>
         ensures rest { result ≡ entries_of self.now }
         ensures runs { ShowsInOrder (deref_pair {K = K} {X = V}) }
@@ -152,8 +151,7 @@ impl<K: Eq + Hash, V, S: BuildHasher> KeyedList<K, V, S> {
         Iter::new(&self.nodes)
     }
 
-    /// Returns an iterator over the keys, front to back. It does not allocate, and each step takes constant
-    /// time.
+    /// Returns an iterator over the keys, front to back. It does not allocate; a step takes constant time.
     pub fn keys(&self) -> Keys<'_, K, V>
         ensures rest { result ≡ keys_of (entries_of self.now) }
         ensures runs { ShowsInOrder (deref {X = K}) }
@@ -163,8 +161,7 @@ impl<K: Eq + Hash, V, S: BuildHasher> KeyedList<K, V, S> {
         Keys::new(self.iter())
     }
 
-    /// Returns an iterator over the values, front to back. It does not allocate, and each step takes constant
-    /// time.
+    /// Returns an iterator over the values, front to back. It does not allocate; a step takes constant time.
     pub fn values(&self) -> Values<'_, K, V>
         ensures rest { result ≡ values_of (entries_of self.now) }
         ensures runs { ShowsInOrder (deref {X = V}) }

@@ -79,6 +79,7 @@ impl<K: Eq + Hash, V, S: BuildHasher> LruCache<K, V, S> {
     }
 
     /// Evicts the front if there are more entries than the capacity, and returns the map.
+    #[tactic(auto, using(std::proofs::Common::rules))]
     fn roomy_map(&mut self) -> &mut LinkedHashMap<K, V, S>
     where
         K: Drop,

@@ -5,6 +5,7 @@ ghost use Rattle.hashlink_model.specs.{Cache.OnMap, Compare.entries_eq, MapState
 ghost use Rattle.hashlink_model.specs.Many.{AcceptsAll, StopsAt, StopsAtLast, MadeFrom, InsertsPair};
 ghost use Rattle.hashlink_map.specs.{Cloning.{ArePairClones, IsOfPairClones}, Extending.TakesItems};
 ghost use Rattle.hashlink_map.specs.Reading.{GivesAll, GivesSome, ReadsAll, ReadsSome};
+ghost use Rattle.hashlink_lru.specs.Cached.{entries_of, state_of, InsertsPairIn, StaysWithin};
 
 use super::LruCache;
 use hashlink_map::ExtendError;
@@ -12,8 +13,6 @@ use std::alloc::AllocError;
 use std::hash::{BuildHasher, Hash};
 
 impl<K: Eq + Hash + Drop, V: Drop, S: BuildHasher> LruCache<K, V, S> {
-    ghost use Rattle.hashlink_lru.specs.Cached.{state_of, InsertsPairIn, StaysWithin};
-
     /// Inserts each item in turn, as `insert` does, at the cost of an insert for each. The iterator has to
     /// end, and its `next` has to be callable.
     ///
@@ -64,8 +63,6 @@ impl<K: Eq + Hash + Drop, V: Drop, S: BuildHasher> LruCache<K, V, S> {
 /// Inserts the items as the function `extend` does. If memory runs out, it returns `AllocError`, and the
 /// items inserted before stay. The item that was not inserted is dropped.
 impl<K: Eq + Hash + Drop, V: Drop, S: BuildHasher> Extend<(K, V)> for LruCache<K, V, S> {
-    ghost use Rattle.hashlink_lru.specs.Cached.{state_of, InsertsPairIn, StaysWithin};
-
     ghost extend_gives = { λ old items new. TakesItems (InsertsPairIn K.eq) (OnMap (Grows 1))
         (state_of old) items (state_of new) };
 
@@ -87,8 +84,6 @@ impl<K: Eq + Hash + Drop, V: Drop, S: BuildHasher> Extend<(K, V)> for LruCache<K
 }
 
 impl<K: Eq + Hash + Clone, V: Clone, S: BuildHasher + Clone> LruCache<K, V, S> {
-    ghost use Rattle.hashlink_lru.specs.Cached.{entries_of, state_of};
-
     /// Returns a clone: a cache of the same capacity, with a clone of the hasher and a clone of each pair in
     /// the same order. It uses the same allocator, and has no free node. It costs a clone and an insert for
     /// each pair.
@@ -120,8 +115,6 @@ impl<K: Eq + Hash + Clone, V: Clone, S: BuildHasher + Clone> LruCache<K, V, S> {
 
 /// A type that contains a cache can be cloned with it: the function `clone` makes the clone.
 impl<K: Eq + Hash + Clone, V: Clone, S: BuildHasher + Clone> Clone for LruCache<K, V, S> {
-    ghost use Rattle.hashlink_lru.specs.Cached.{entries_of, state_of};
-
     ghost is_clone = { λ cache made. ((state_of made).cap ≡ (state_of cache).cap)
         × IsOfPairClones K.eq K.is_clone V.is_clone (S.is_clone (state_of cache).map.hasher)
         (entries_of cache)

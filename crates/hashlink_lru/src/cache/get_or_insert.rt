@@ -5,14 +5,13 @@ ghost use Rattle.std.specs.Option.{option_copied_mut, option_map, UnwrapsOrElse}
 ghost use Rattle.hashlink_model.specs.{Entries.IsEntries, Walk.last_of};
 ghost use Rattle.hashlink_core.specs.Keyed as keyed;
 ghost use Rattle.hashlink_map.specs.TryInsert.{FailsToInsert, HandsBack};
-ghost use Rattle.hashlink_lru.specs.Cached.{MovesOrMakes, UpdatesUsed};
+ghost use Rattle.hashlink_lru.specs.Cached.{MovesOrMakes, UpdatesUsed, entries_of, state_of};
 
 use super::LruCache;
 use hashlink_map::{LinkedHashMap, TryInsertError};
 use std::hash::{BuildHasher, Hash};
 
 impl<K: Eq + Hash, V, S: BuildHasher> LruCache<K, V, S> {
-    ghost use Rattle.hashlink_lru.specs.Cached.{entries_of, state_of};
     ghost use Rattle.hashlink_lru.specs.Lends.{LendsLast, LendsUsedOrNew, LendsUsedOrTryNew};
 
     /// Returns a mutable reference to the value of the key. If the key is present, this is a hit of

@@ -5,7 +5,7 @@ ghost use Rattle.std.specs.{Option.{option_map, option_copied_mut}, Map.{lookup,
 ghost use Rattle.std.specs.Map.Iter.{deref_pair};
 ghost use Rattle.hashlink_model.specs.{Entries.{IsEntries, moved_match}, Lookups.{KeepsLookups, UpdatesLent}};
 ghost use Rattle.hashlink_model.specs.Walk.{first_of, last_of};
-ghost use Rattle.hashlink_lru.specs.Evicted.{evicted_by};
+ghost use Rattle.hashlink_lru.specs.{Cached.{entries_of, state_of}, Evicted.evicted_by};
 
 use super::LruCache;
 use hashlink_map::Equivalent;
@@ -13,7 +13,6 @@ use std::hash::{BuildHasher, Hash};
 
 // Look-ups are inlined, as the map's are.
 impl<K: Eq + Hash, V, S: BuildHasher> LruCache<K, V, S> {
-    ghost use Rattle.hashlink_lru.specs.Cached.{entries_of, state_of};
     ghost use Rattle.hashlink_lru.specs.Lends.{LendsValueIn, LendsUsed, EndsUsed};
 
     /// Returns whether the key is present. The order does not change. It hashes the key once.

@@ -4,6 +4,7 @@ ghost use Rattle.std.specs.Map.Iter.{ShowsInOrder, ShowsInReverse, deref, deref_
 ghost use Rattle.std.specs.{Prelude.{◌≡◌, ◌^◌, ◌<◌, length}, Borrow.sem, Map.{keys_of, values_of}};
 ghost use Rattle.std.specs.Map.Iter.{GivesInReverse};
 ghost use Rattle.hashlink_model.specs.Entries.{IsEntries};
+ghost use Rattle.hashlink_lru.specs.Cached.{entries_of, map_of};
 
 use super::LruCache;
 use hashlink_map::{IntoIter, Iter, IterMut, Keys, Values};
@@ -12,7 +13,7 @@ use std::hash::{BuildHasher, Hash};
 impl<K: Eq + Hash, V, S: BuildHasher> LruCache<K, V, S> {
     ghost use Rattle.hashlink_core.specs.Keyed.{state_of};
     ghost use Rattle.hashlink_map.specs.{IterMut.{walk_map, walk_state}, WritingWalk.writing_walk};
-    ghost use Rattle.hashlink_lru.specs.{Cached.{entries_of, map_of}, Lends.HandsOnMap};
+    ghost use Rattle.hashlink_lru.specs.Lends.{HandsOnMap};
 
     /// Returns an iterator over the entries, from front to back, so the least recently used one is first. It
     /// is not a use. It does not allocate, and each step takes constant time.
@@ -65,8 +66,6 @@ impl<K: Eq + Hash, V, S: BuildHasher> LruCache<K, V, S> {
 /// Turns the cache into an owning iterator over its entries, from front to back. It frees the table, takes
 /// constant time and does not allocate.
 impl<K: Eq + Hash + Drop, V: Drop, S: BuildHasher + Drop> IntoIterator for LruCache<K, V, S> {
-    ghost use Rattle.hashlink_lru.specs.Cached.{entries_of};
-
     type Item = (K, V);
 
     type IntoIter = IntoIter<K, V>;
@@ -87,8 +86,6 @@ impl<K: Eq + Hash + Drop, V: Drop, S: BuildHasher + Drop> IntoIterator for LruCa
 
 /// Returns the iterator that `iter` returns. It takes constant time and does not allocate.
 impl<'a, K: Eq + Hash, V, S: BuildHasher> IntoIterator for &'a LruCache<K, V, S> {
-    ghost use Rattle.hashlink_lru.specs.Cached.{entries_of};
-
     type Item = (&'a K, &'a V);
 
     type IntoIter = Iter<'a, K, V>;

@@ -2,7 +2,7 @@
 ghost use Rattle.std.specs.Prelude.{◌≡◌, IfOk, IfErr, IfSome, IfNone, OnOk, Some, length, slice_get};
 ghost use Rattle.std.specs.{Borrow.sem, Option.{option_map, option_copied_mut}, Map.Iter.deref_pair};
 ghost use Rattle.hashlink_model.specs.Cursor.{at_place, entry_in, place_next, place_previous, InsertsBefore};
-ghost use Rattle.hashlink_model.specs.{Cursor.InsertsAfter, Lookups.Updates};
+ghost use Rattle.hashlink_model.specs.{Cursor.InsertsAfter, Entry.value_at, Lookups.Updates};
 ghost use Rattle.hashlink_core.specs.{Keyed.entries_of, Places.{Holds, IsPlace, place_number}};
 
 use super::CursorMut;
@@ -15,7 +15,6 @@ impl<'a, K: Eq + Hash, V, S: BuildHasher> CursorMut<'a, K, V, S> {
     ghost use Rattle.hashlink_map.specs.Cursor.{cursor_map, cursor_state, lent_pair, TakesPlace, LentAt};
     ghost use Rattle.hashlink_map.specs.CursorLends.{LendsNextPair, LendsPreviousPair};
     ghost use Rattle.hashlink_map.specs.{RawLends.HandsOnOccupied, RawEntry.{raw_occupied_map, raw_place}};
-    ghost use Rattle.hashlink_model.specs.Entry.{value_at};
 
     /// Moves to the next place: from the entry at the back to the guard, and from the guard to the entry at
     /// the front. It takes constant time, hashes nothing and stores no link.

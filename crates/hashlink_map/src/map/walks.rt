@@ -9,8 +9,7 @@ use hashlink_core::{Iter, Keys, Values};
 use std::hash::{BuildHasher, Hash};
 
 impl<K: Eq + Hash, V, S: BuildHasher> LinkedHashMap<K, V, S> {
-    /// Returns an iterator over the entries, from front to back. It does not allocate, and each step takes
-    /// constant time.
+    /// Returns an iterator over the entries, front to back. It does not allocate; a step takes constant time.
     pub fn iter(&self) -> Iter<'_, K, V>
         ensures rest { result ≡ entries_of self.now }
         ensures distinct { IsEntries K.eq (entries_of self.now) }
@@ -21,8 +20,7 @@ impl<K: Eq + Hash, V, S: BuildHasher> LinkedHashMap<K, V, S> {
         self.list.iter()
     }
 
-    /// Returns an iterator over the keys, from front to back. It does not allocate, and each step takes
-    /// constant time.
+    /// Returns an iterator over the keys, front to back. It does not allocate; a step takes constant time.
     pub fn keys(&self) -> Keys<'_, K, V>
         ensures rest { result ≡ keys_of (entries_of self.now) }
         ensures runs { ShowsInOrder (deref {X = K}) }
@@ -32,8 +30,7 @@ impl<K: Eq + Hash, V, S: BuildHasher> LinkedHashMap<K, V, S> {
         self.list.keys()
     }
 
-    /// Returns an iterator over the values, from front to back. It does not allocate, and each step takes
-    /// constant time.
+    /// Returns an iterator over the values, front to back. It does not allocate; a step takes constant time.
     pub fn values(&self) -> Values<'_, K, V>
         ensures rest { result ≡ values_of (entries_of self.now) }
         ensures runs { ShowsInOrder (deref {X = V}) }

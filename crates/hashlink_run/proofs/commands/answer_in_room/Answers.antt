@@ -7,10 +7,8 @@ pub walk_cursor-requires-clause-says : goal.walk_cursor-requires-clause-says
 walk_cursor-requires-clause-says g c = rw c.in-Cursor.is at c.requires.says
 
 pub keep_where-requires : goal.keep_where-requires
-keep_where-requires g c = record {
-  keep = λ pair is.
-      c.requires.keep pair (record { asks = rw c.in-Keep.is is.stands });
-}
+keep_where-requires g c =
+    record { keep = λ pair is. c.requires.keep pair (record { asks = rw c.in-Keep.is is.stands }) }
 
 pub said_of-requires : goal.said_of-requires
 said_of-requires g c = record {

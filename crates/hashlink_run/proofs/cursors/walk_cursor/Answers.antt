@@ -21,10 +21,8 @@ loop-step-init g c =
     )
 
 pub reply_of_step-requires : goal.reply_of_step-requires
-reply_of_step-requires g c = record {
-  says = λ pair read.
-      (rw c.in-Some.ensures.steps.0 at c.loop-step.invariant.6) pair (inl read);
-}
+reply_of_step-requires g c =
+    record { says = λ pair read. (rw c.in-Some.ensures.steps.0 at c.loop-step.invariant.6) pair (inl read) }
 
 pub push_reserved-requires : goal.push_reserved-requires
 push_reserved-requires g c =

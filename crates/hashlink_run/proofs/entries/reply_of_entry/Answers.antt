@@ -89,8 +89,7 @@ returns-in-Occupied g c =
 
 pub returns-in-Ok : goal.returns-in-Ok
 returns-in-Ok g c =
-    let lent = c.insert.follows in
-    let value = c.in-Ok._value.now in
+    let lent = c.insert.follows in let value = c.in-Ok._value.now in
     let adds = lent.holds value (ap is_ok c.in-Ok.is) in
     let step =
     at_vacant g.K.PartialEq.eq (ClosureSays g.F.Fn c.args.says.now) c.in-Vacant.ensures.entry
@@ -100,8 +99,7 @@ returns-in-Ok g c =
 
 pub returns-in-OrInsert-step : goal.returns-in-OrInsert-step
 returns-in-OrInsert-step g c =
-    let lent = c.insert.follows in
-    let pair = c.in-Err.pair in
+    let lent = c.insert.follows in let pair = c.in-Err.pair in
     let step =
     at_vacant g.K.PartialEq.eq (ClosureSays g.F.Fn c.args.says.now) c.in-Vacant.ensures.entry
     c.in-OrInsert-step.is (Refused pair.0 pair.1 ∷ []) (state_of lent.lender-at-none) refl
@@ -110,8 +108,7 @@ returns-in-OrInsert-step g c =
 
 pub returns-in-Ok-insert : goal.returns-in-Ok-insert
 returns-in-Ok-insert g c =
-    let lent = c.insert-in-Insert-step.follows in
-    let value = c.in-Ok-insert._value.now in
+    let lent = c.insert-in-Insert-step.follows in let value = c.in-Ok-insert._value.now in
     let adds = lent.holds value (ap is_ok c.in-Ok-insert.is) in
     let step =
     at_vacant g.K.PartialEq.eq (ClosureSays g.F.Fn c.args.says.now) c.in-Vacant.ensures.entry
@@ -121,8 +118,7 @@ returns-in-Ok-insert g c =
 
 pub returns-in-Insert-step : goal.returns-in-Insert-step
 returns-in-Insert-step g c =
-    let lent = c.insert-in-Insert-step.follows in
-    let pair = c.in-Err-insert.pair in
+    let lent = c.insert-in-Insert-step.follows in let pair = c.in-Err-insert.pair in
     let step =
     at_vacant g.K.PartialEq.eq (ClosureSays g.F.Fn c.args.says.now) c.in-Vacant.ensures.entry
     c.in-Insert-step.is (Refused pair.0 pair.1 ∷ []) (state_of lent.lender-at-none) refl
@@ -131,8 +127,7 @@ returns-in-Insert-step g c =
 
 pub returns-in-Ok-insert-2 : goal.returns-in-Ok-insert-2
 returns-in-Ok-insert-2 g c =
-    let lent = c.insert-in-InsertEntry-step.follows in
-    let value = c.in-Ok-insert-2._value.now in
+    let lent = c.insert-in-InsertEntry-step.follows in let value = c.in-Ok-insert-2._value.now in
     let adds = lent.holds value (ap is_ok c.in-Ok-insert-2.is) in
     let step =
     at_vacant g.K.PartialEq.eq (ClosureSays g.F.Fn c.args.says.now) c.in-Vacant.ensures.entry
@@ -142,8 +137,7 @@ returns-in-Ok-insert-2 g c =
 
 pub returns-in-InsertEntry-step : goal.returns-in-InsertEntry-step
 returns-in-InsertEntry-step g c =
-    let lent = c.insert-in-InsertEntry-step.follows in
-    let pair = c.in-Err-insert-2.pair in
+    let lent = c.insert-in-InsertEntry-step.follows in let pair = c.in-Err-insert-2.pair in
     let step =
     at_vacant g.K.PartialEq.eq (ClosureSays g.F.Fn c.args.says.now) c.in-Vacant.ensures.entry
     c.in-InsertEntry-step.is (Refused pair.0 pair.1 ∷ []) (state_of lent.lender-at-none) refl

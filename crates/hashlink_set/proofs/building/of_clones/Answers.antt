@@ -10,10 +10,8 @@ loop-element-init g c = it.begun c.requires.may c.requires.ends ([], tt, refl)
 
 pub loop-element-preserved : goal.loop-element-preserved
 loop-element-preserved g c =
-    let inv = c.loop-element.invariant in
-    let h = inv.holds in
-    let x = c.in-Some.element in
-    let new = c.in_ok-insert_clone.ensures in
+    let inv = c.loop-element.invariant in let h = inv.holds in
+    let x = c.in-Some.element in let new = c.in_ok-insert_clone.ensures in
     it.again inv x c.in-Some.is (c.next.ensures.steps, c.next.ensures.goes) (
       h.0 ++ new.0 ∷ [],
       subst (λ l. AllZip g.T.Clone.is_clone l (h.0 ++ new.0 ∷ [])) (sym (mapped_another deref inv.seen x))

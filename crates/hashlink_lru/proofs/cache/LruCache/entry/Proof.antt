@@ -14,24 +14,23 @@ use denote.{RattleType.{RattleType, Valss, owns}, Ref.{MutRef, NamedLft, mut_val
 use denote.{Signature.{plain, mut_ref_to, types_at}, Steps.{nothing, peeks, only, heard}, Triple.Entry.alive}
 use denote.Triple.{Call.calls_at, Clauses.{lasts, Lasts}, Spec.triple_of, Table.framed}
 use denote.Triple.Walked.{Stays, stay_dropped, walk_of, Goes-spent_ref, Goes-dropped}
-use Rattle.hashlink_model.specs.{Cache.{EntersCache, EvictsFront}, Entries.IsEntries, Entry.entry_of}
 use Rattle.hashlink_core.specs.Keyed as keyed
-use Rattle.hashlink_core.specs.Keyed.{entries_of}
-use Rattle.hashlink_map.specs.Entry.{entry_map, entry_state, entry_value}
 use Rattle.hashlink_map.specs.contracts.entry.Entry as place
 use Rattle.hashlink_map.specs.contracts.map.LinkedHashMap as map
 use Rattle.hashlink_map.specs.contracts.map.LinkedHashMap.entry as finds
-use Rattle.hashlink_map.proofs.{PairSteps.{Asks, asks_again}, PairValues.value_of}
 use Rattle.hashlink_map.proofs.entry.Entry.TheLaws as place_laws
 use Rattle.hashlink_map.proofs.map.LinkedHashMap.entry.Met as found
-use Rattle.hashlink_lru.specs.{Cached.state_of, Lends.HandsOnMap}
 use Rattle.hashlink_lru.specs.contracts.cache.LruCache as cache
 use Rattle.hashlink_lru.specs.contracts.cache.LruCache.entry as f
 use Rattle.hashlink_lru.specs.contracts.cache.LruCache.roomy_map as makes
-use Rattle.hashlink_lru.proofs.Entering.{enters, distinct}
 use Rattle.hashlink_lru.proofs.cache.LruCache.roomy_map.Met as made
-use Rattle.hashlink_lru.proofs.cache.LruCache.entry.Statement.{statement}
 use Rattle.hashlink_lru.proofs.cache.LruCache.entry.Code as code
+use Rattle.hashlink_model.specs.{Cache.{EntersCache, EvictsFront}, Entries.IsEntries, Entry.entry_of}
+use Rattle.hashlink_core.specs.Keyed.{entries_of}
+use Rattle.hashlink_map.specs.Entry.{entry_map, entry_state, entry_value}
+use Rattle.hashlink_map.proofs.{PairSteps.{Asks, asks_again}, PairValues.value_of}
+use Rattle.hashlink_lru.{proofs.Entering.{enters, distinct}, specs.Cached.state_of, specs.Lends.HandsOnMap}
+use Rattle.hashlink_lru.proofs.cache.LruCache.entry.Statement.{statement}
 
 pub entry_spec : {M : Type 1} → statement M
 entry_spec 𝓤 𝓛 𝓜 𝓡 wired K V S T LK LV LS LT e de p dp h dh b db w dw dd dk dv me mp mh mb mw md mk mv =

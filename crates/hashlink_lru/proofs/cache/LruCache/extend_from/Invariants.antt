@@ -1,10 +1,9 @@
 -- The items returned so far were inserted.
-use Rattle.std.proofs.Common.{◌≡◌, ◌-◌, ◌^◌, length, min}
 use Rattle.std.proofs.iter.Next as it
-use Rattle.std.specs.Iterator.{EndsFrom, items_left}
+use Rattle.hashlink_lru.proofs.cache.LruCache.extend_from.Given as goal
+use Rattle.std.{proofs.Common.{◌≡◌, ◌-◌, ◌^◌, length, min}, specs.Iterator.{EndsFrom, items_left}}
 use Rattle.hashlink_model.specs.Many.{AcceptsAll}
 use Rattle.hashlink_lru.specs.Cached.{state_of, InsertsPairIn}
-use Rattle.hashlink_lru.proofs.cache.LruCache.extend_from.Given as goal
 
 abbrev pub invariant-loop-key : goal.invariant-loop-key
 invariant-loop-key g l =

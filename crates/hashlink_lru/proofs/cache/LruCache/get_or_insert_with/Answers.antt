@@ -7,8 +7,7 @@ use Rattle.hashlink_lru.proofs.cache.LruCache.get_or_insert_with.Goals as goal
 
 pub unwrap-requires : goal.unwrap-requires
 unwrap-requires g c =
-    let old = (state_of c.args.self.now).map in
-    let i = c.in_ok-get_or_insert_with in
+    let old = (state_of c.args.self.now).map in let i = c.in_ok-get_or_insert_with in
     let f = c.get_or_insert_with.follows in
     let new = keyed.state_of (f.lender i.field-0.now) in
     some_lent g.K.PartialEq.eq _ old new c.args.key (moved_or_made g.K.PartialEq.eq _ old new c.args.key
@@ -17,10 +16,8 @@ unwrap-requires g c =
 
 pub returns : goal.returns
 returns g c =
-    let eq = g.K.PartialEq.eq in
-    let old = state_of c.args.self.now in
-    let i = c.in_ok-get_or_insert_with in
-    let f = c.get_or_insert_with.follows in
+    let eq = g.K.PartialEq.eq in let old = state_of c.args.self.now in
+    let i = c.in_ok-get_or_insert_with in let f = c.get_or_insert_with.follows in
     let new = keyed.state_of (f.lender i.field-0.now) in
     let made = moved_or_made eq _ old.map new c.args.key c.get_or_insert_with.result i.field-0 i.was
     i.ensures.value (f.holds i.field-0.now) in

@@ -12,8 +12,7 @@ unwrap-requires g c =
 
 pub returns : goal.returns
 returns g c =
-    let eq = g.K.PartialEq.eq in
-    let old = state_of c.args.self.now in
+    let eq = g.K.PartialEq.eq in let old = state_of c.args.self.now in
     let new = keyed.state_of c.move_or_try_make.new.map in
     let made = c.in_ok-move_or_try_make.ensures.puts in
     let v = c.unwrap.result.now in

@@ -15,11 +15,9 @@ returns-in_err-old-clause-within g c = λ n within.
 
 pub returns : goal.returns
 returns g c =
-    let eq = g.K.PartialEq.eq in
-    let old = state_of c.args.self.now in
+    let eq = g.K.PartialEq.eq in let old = state_of c.args.self.now in
     let new = state_of c.keep_last.new.self in
-    let inserts = c.in_ok-old.ensures.inserts in
-    let e = c.keep_last.ensures in
+    let inserts = c.in_ok-old.ensures.inserts in let e = c.keep_last.ensures in
     let step : CacheInserts eq old new c.args.key c.args.value (Ok c.in_ok-old.old) = record {
       map = record { between = keyed.state_of c.insert.new.self; inserts = inserts; fits = e.keeps.map };
       cap = e.keeps.cap;

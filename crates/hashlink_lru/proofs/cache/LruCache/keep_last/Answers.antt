@@ -6,10 +6,8 @@ use Rattle.hashlink_lru.proofs.cache.LruCache.keep_last.Goals as goal
 
 pub loop-preserved : goal.loop-preserved
 loop-preserved g c =
-    let old = c.args.self.now.map in
-    let new = c.pop_front.new.self in
-    let i = c.loop.invariant in
-    let end = i.2 in
+    let old = c.args.self.now.map in let new = c.pop_front.new.self in
+    let i = c.loop.invariant in let end = i.2 in
     let next : c.loop.counter - c.args.count + 1 ≡ c.loop.counter + 1 - c.args.count = omega arith in (
       subst (λ n. KeepsOnly (state_of old) (state_of new) (drop n (entries_of old))) next
           (drops_more _ _ _ (c.loop.counter - c.args.count) _ i.0 c.pop_front.ensures.pops),
@@ -22,8 +20,7 @@ loop-preserved g c =
 
 pub returns-clause-keeps : goal.returns-clause-keeps
 returns-clause-keeps g c =
-    let old = c.args.self.now.map in
-    let new = c.loop.self.map in
+    let old = c.args.self.now.map in let new = c.loop.self.map in
     let i = c.loop.invariant in
     let all : c.loop.counter - c.args.count ≡ length (entries_of old) - c.args.count = omega arith in
     record {

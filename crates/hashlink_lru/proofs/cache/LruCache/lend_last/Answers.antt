@@ -5,8 +5,7 @@ use Rattle.hashlink_lru.proofs.cache.LruCache.lend_last.Goals.{then-len-before, 
 
 pub returns : goal.returns
 returns g c =
-    let old = state_of c.args.self.now in
-    let mid = state_of c.if-len-before.self in
+    let old = state_of c.args.self.now in let mid = state_of c.if-len-before.self in
     let last = c.back_value_mut in
     let fits : FitsUnless c.args.before old mid =
     elim c.if-len-before.branch [

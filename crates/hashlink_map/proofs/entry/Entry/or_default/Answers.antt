@@ -5,8 +5,7 @@ use Rattle.hashlink_map.proofs.entry.Entry.or_default.Goals as goal
 
 pub returns-in-Occupied : goal.returns-in-Occupied
 returns-in-Occupied g c =
-    let r = c.into_last_mut.result in
-    let f = c.into_last_mut.follows in
+    let r = c.into_last_mut.result in let f = c.into_last_mut.follows in
     rw c.in-Occupied.is (
       (refl, f.holds, no_refusal r _ f.holds-at-none),
       record {
@@ -20,11 +19,8 @@ returns-in-Occupied g c =
 
 pub returns-in-Vacant : goal.returns-in-Vacant
 returns-in-Vacant g c =
-    let r = c.insert.result in
-    let e = c.insert.ensures in
-    let f = c.insert.follows in
-    let Made = g.V.MadeWith.is_made_with in
-    let made = c.made_with-default.ensures in
+    let r = c.insert.result in let e = c.insert.ensures in let f = c.insert.follows in
+    let Made = g.V.MadeWith.is_made_with in let made = c.made_with-default.ensures in
     rw c.in-Vacant.is (
       (refl, (λ w ok. vacant_puts (f.holds w ok)), vacant_refuses _ _ _ _ _ r f.holds-at-none e.handed_back),
       record {

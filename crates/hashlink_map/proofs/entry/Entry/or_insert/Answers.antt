@@ -4,8 +4,7 @@ use Rattle.hashlink_map.proofs.entry.Entry.or_insert.Goals as goal
 
 pub returns-in-Occupied : goal.returns-in-Occupied
 returns-in-Occupied g c =
-    let r = c.into_last_mut.result in
-    let f = c.into_last_mut.follows in
+    let r = c.into_last_mut.result in let f = c.into_last_mut.follows in
     rw c.in-Occupied.is (
       (refl, f.holds, no_refusal r _ f.holds-at-none),
       record {
@@ -18,9 +17,7 @@ returns-in-Occupied g c =
 
 pub returns-in-Vacant : goal.returns-in-Vacant
 returns-in-Vacant g c =
-    let r = c.insert.result in
-    let e = c.insert.ensures in
-    let f = c.insert.follows in
+    let r = c.insert.result in let e = c.insert.ensures in let f = c.insert.follows in
     rw c.in-Vacant.is (
       (refl, (λ w ok. vacant_puts (f.holds w ok)), vacant_refuses _ _ _ _ _ r f.holds-at-none e.handed_back),
       record { lends = tt; updates = e.updates; given = e.handed_back; value = e.value },

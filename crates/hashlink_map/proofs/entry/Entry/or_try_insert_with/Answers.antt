@@ -5,8 +5,7 @@ use Rattle.hashlink_map.proofs.entry.Entry.or_try_insert_with.Goals as goal
 
 pub returns-in-Occupied : goal.returns-in-Occupied
 returns-in-Occupied g c =
-    let r = c.into_last_mut.result in
-    let f = c.into_last_mut.follows in
+    let r = c.into_last_mut.result in let f = c.into_last_mut.follows in
     rw c.in-Occupied.is (
       (refl, f.holds, no_refusal r _ f.holds-at-none),
       record {
@@ -19,8 +18,7 @@ returns-in-Occupied g c =
 
 pub returns-in-Vacant : goal.returns-in-Vacant
 returns-in-Vacant g c =
-    let e = c.try_insert.ensures in
-    let f = c.try_insert.follows in
+    let e = c.try_insert.ensures in let f = c.try_insert.follows in
     rw c.in-Vacant.is (
       (refl, (λ w ok. vacant_puts (f.holds w ok)), f.holds-at-none),
       record {

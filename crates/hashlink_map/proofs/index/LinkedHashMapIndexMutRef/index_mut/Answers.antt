@@ -4,17 +4,14 @@ use Rattle.hashlink_map.proofs.index.LinkedHashMapIndexMutRef.index_mut.Goals as
 
 pub unwrap-node-requires : goal.unwrap-node-requires
 unwrap-node-requires g c =
-    let eq = g.K.PartialEq.eq in
-    let k = c.args.key.now in
+    let eq = g.K.PartialEq.eq in let k = c.args.key.now in
     found_there eq c.self.inside.list k c.find.result c.find.ensures.found
     (subst (λ l. HasKey eq l k) (sym c.self.view_is) c.requires)
 
 pub returns : goal.returns
 returns g c =
-    let eq = g.K.PartialEq.eq in
-    let k = c.args.key.now in
-    let m = c.self.inside.list in
-    let n = c.unwrap-node.result in
+    let eq = g.K.PartialEq.eq in let k = c.args.key.now in
+    let m = c.self.inside.list in let n = c.unwrap-node.result in
     let found = rw c.unwrap-node.ensures at c.find.ensures.found in
     rw (← c.self.view_is) (
       (refl, written_there eq m k n found),

@@ -6,10 +6,8 @@ invariant_of-self-lent g c w = (still_standing w c.args.self.now.map.now.nodes _
 
 pub returns-in-Some : goal.returns-in-Some
 returns-in-Some g c =
-    let o = c.args.self.now in
-    let m = o.map.now in
-    let n = c.in-Some.node in
-    let takes = c.in-Some.ensures.takes in
+    let o = c.args.self.now in let m = o.map.now in
+    let n = c.in-Some.node in let takes = c.in-Some.ensures.takes in
     let lent = lent-taken m o.places c.take_first.new.self n c.value_at_mut.ensures.value _ _ _ takes
     (first-taken m o.places n _ _ takes) in
     ((refl, (λ w. ((refl, lent.0 w), lent.1)), tt), record { lends = tt; value = lent.2; left = takes.2 })

@@ -8,7 +8,6 @@ pair_at-requires g c =
 
 pub returns-clause-pair : goal.returns-clause-pair
 returns-clause-pair g c =
-    let s = c.args.self.now in
-    let some = c.if-self-eq0.false in
+    let s = c.args.self.now in let some = c.if-self-eq0.false in
     sym c.pair_at.ensures
     ∙ sym (first-of_part (entries_of s.map.now) (walk_state s).at s.places.left (omega (arith, some)))

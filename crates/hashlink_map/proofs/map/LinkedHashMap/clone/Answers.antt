@@ -9,8 +9,7 @@ loop-key-init g c = record { seen = []; clones = []; is = refl; cloned = tt; ins
 
 pub loop-key-preserved : goal.loop-key-preserved
 loop-key-preserved g c =
-    let inv = c.loop-key.invariant in
-    let new = c.in_ok-insert_clone.ensures in
+    let inv = c.loop-key.invariant in let new = c.in_ok-insert_clone.ensures in
     let old : g.row.K.Denot × g.row.V.Denot = (c.in-Some.key.now, c.in-Some.value.now) in
     record {
       seen = inv.seen ++ old ∷ [];

@@ -7,8 +7,7 @@ pub returns-in-Some : goal.returns-in-Some
 returns-in-Some g c =
     let test = g.Q.Equivalent.matches c.args.key in
     let tells = g.met.Q.Equivalent.finds_equal c.args.key in
-    let m = c.args.self.now in
-    let n = c.in-Some.node in
+    let m = c.args.self.now in let n = c.in-Some.node in
     let e = c.in-Some.ensures in
     let value : lookup test (entries_of m) ≡ Some c.value_at_mut.result.now
     = stored-value test m m n e.found _ c.value_at_mut.ensures.value in (
@@ -25,8 +24,7 @@ returns-in-Some g c =
 pub returns-in-None : goal.returns-in-None
 returns-in-None g c =
     let test = g.Q.Equivalent.matches c.args.key in
-    let m = c.args.self.now in
-    let e = c.in-None.ensures in
+    let m = c.args.self.now in let e = c.in-None.ensures in
     let none = none_passes_from_place test (entries_of m) e.found in (
       (refl, λ w. writes_none test (state_of m) w none, refl),
       record {

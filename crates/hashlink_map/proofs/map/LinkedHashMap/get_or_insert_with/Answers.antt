@@ -5,10 +5,8 @@ use Rattle.hashlink_map.proofs.map.LinkedHashMap.get_or_insert_with.Goals as goa
 
 pub returns-in-Some : goal.returns-in-Some
 returns-in-Some g c =
-    let eq = g.K.PartialEq.eq in
-    let old = state_of c.args.self.now in
-    let new = c.move_to_back.new.self in
-    let k = c.args.key in
+    let eq = g.K.PartialEq.eq in let old = state_of c.args.self.now in
+    let new = c.move_to_back.new.self in let k = c.args.key in
     let n = c.in-Some.node in
     let found = rw c.self.view_is at c.in-Some.ensures.found in
     let distinct = rw c.self.view_is at c.in-Some.ensures.sound.distinct in
@@ -33,12 +31,9 @@ make-requires g c =
 
 pub returns : goal.returns
 returns g c =
-    let eq = g.K.PartialEq.eq in
-    let laws = g.met.K.Eq.laws in
-    let old = state_of c.args.self.now in
-    let k = c.args.key in
-    let e = c.in_ok-node-in-None.ensures in
-    let n = c.in_ok-node-in-None.node in
+    let eq = g.K.PartialEq.eq in let laws = g.met.K.Eq.laws in
+    let old = state_of c.args.self.now in let k = c.args.key in
+    let e = c.in_ok-node-in-None.ensures in let n = c.in_ok-node-in-None.node in
     let new = c.push_back.new.self in
     let distinct = rw c.self.view_is at c.in-None.ensures.sound.distinct in
     let none = lookup-unplaced (eq k) old.entries (rw c.self.view_is at c.in-None.ensures.found) in

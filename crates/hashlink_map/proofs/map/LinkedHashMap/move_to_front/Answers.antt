@@ -4,8 +4,7 @@ use Rattle.hashlink_map.proofs.map.LinkedHashMap.move_to_front.Goals as goal
 
 pub returns : goal.returns
 returns g c =
-    let m = c.self.inside.list in
-    let new = c.move_after.new.self in
+    let m = c.self.inside.list in let new = c.move_after.new.self in
     let e = c.move_after.ensures in
     let moved = subst (MovesNode m new (place_number m.nodes (Some c.args.node))) (around (length m.nodes))
     e.moved in

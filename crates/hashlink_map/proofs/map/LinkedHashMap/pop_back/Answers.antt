@@ -4,8 +4,7 @@ use Rattle.hashlink_map.proofs.map.LinkedHashMap.pop_back.Goals as goal
 
 pub returns : goal.returns
 returns g c =
-    let e = c.pop_back.ensures in
-    let takes = pop-takes_last _ _ _ e.pops in
+    let e = c.pop_back.ensures in let takes = pop-takes_last _ _ _ e.pops in
     rw (← c.self.view_is) (record {
       pops = e.pops;
       entries = takes;

@@ -4,8 +4,7 @@ use Rattle.hashlink_map.proofs.map.LinkedHashMap.put_value_last.Goals as goal
 
 pub returns : goal.returns
 returns g c =
-    let first = c.replace_value_at-old.ensures in
-    let then = c.move_to_back.ensures in
+    let first = c.replace_value_at-old.ensures in let then = c.move_to_back.ensures in
     let same = ap length first.replaces.step.entries
     ∙ length-set_value_at (entries_of c.args.self.now) _ c.args.value in
     record {

@@ -4,10 +4,8 @@ use Rattle.hashlink_map.proofs.map.LinkedHashMap.replace_pair_at.Goals as goal
 
 pub returns-clause-stays : goal.returns-clause-stays
 returns-clause-stays g c =
-    let laws = g.met.K.Eq.laws in
-    let n = c.args.node in
-    let key = c.args.key in
-    let sound = c.replace_pair.ensures.sound in
+    let laws = g.met.K.Eq.laws in let n = c.args.node in
+    let key = c.args.key in let sound = c.replace_pair.ensures.sound in
     stays-renewed laws _ _ sound n c.requires.within (λ _. (key, c.args.value))
     (same-keys laws _ _ sound n c.requires.within key
     (holds-equal g.K.PartialEq.eq c.args.self.now n key c.requires))

@@ -1,18 +1,17 @@
 -- `or_insert` lends the pair of the entry that `or_insert_entry` returns.
-use Rattle.hashlink_map.proofs.Names.{◌≡◌, [], ◌∷◌, refl, ftrue, fsep, ent, via, sem, of_opd, and_then}
-use Rattle.hashlink_map.proofs.Names.{no_more, returns, enter, alloc_all, pass_all, free_all, look_at, get}
-use Rattle.hashlink_map.proofs.Names.{sets, lands_as, Lfts, tables, no, Last, left, rest, param, param_laws}
-use Rattle.hashlink_map.proofs.Names.{plain, nothing, calls_from, framed, stay_dropped, Goes-dropped, IfOk}
-use Rattle.hashlink_map.proofs.Names.{MatchOption, raw_map, raw_state, raw_pair}
 use Rattle.hashlink_map.specs.declared.raw_entry.RawEntryMut.TheVariants as found
-use Rattle.hashlink_map.proofs.{EnterAndLend.{all_five, entered_and_lent, returned}, LastMoved.given_parts}
-use Rattle.hashlink_map.proofs.{PairRows.{Answer, Entered, Found, found_laws}, PairValues.value_of}
-use Rattle.hashlink_map.proofs.PutLast.{puts_last}
 use Rattle.hashlink_map.specs.contracts.raw_entry.RawEntryMut.or_insert as f
 use Rattle.hashlink_map.proofs.raw_entry.RawEntryMut.or_insert_entry.Met as entered
 use Rattle.hashlink_map.proofs.raw_entry.occupied.RawOccupiedEntryMut+K+V+S.pair_of.Met as lent
-use Rattle.hashlink_map.proofs.raw_entry.RawEntryMut.or_insert.Statement.{statement}
 use Rattle.hashlink_map.proofs.raw_entry.RawEntryMut.or_insert.Code as code
+use Rattle.hashlink_map.{proofs.Names.{◌≡◌, [], ◌∷◌, refl, ftrue, fsep, ent, via}, proofs.PairValues.value_of}
+use Rattle.hashlink_map.{proofs.Names.raw_pair, proofs.raw_entry.RawEntryMut.or_insert.Statement.statement}
+use Rattle.hashlink_map.proofs.Names.{sem, of_opd, and_then, no_more, returns, enter, alloc_all, pass_all}
+use Rattle.hashlink_map.proofs.Names.{free_all, look_at, get, sets, lands_as, Lfts, tables, no, Last, left}
+use Rattle.hashlink_map.proofs.Names.{rest, param, param_laws, plain, nothing, calls_from, framed}
+use Rattle.hashlink_map.proofs.Names.{stay_dropped, Goes-dropped, IfOk, MatchOption, raw_map, raw_state}
+use Rattle.hashlink_map.{proofs.LastMoved.given_parts, proofs.PairRows.{Answer, Entered, Found, found_laws}}
+use Rattle.hashlink_map.{proofs.EnterAndLend.{all_five, entered_and_lent, returned}, proofs.PutLast.puts_last}
 use types.Kit.{‵, raw, ◌$◌, ◌∵◌, !, qed, done, move, fjoin}
 
 pub or_insert_spec : {M : Type 1} → statement M

@@ -4,8 +4,7 @@ use Rattle.hashlink_map.proofs.raw_entry.RawEntryMut.or_insert_entry.Goals as go
 
 pub returns-in-Occupied : goal.returns-in-Occupied
 returns-in-Occupied g c =
-    let o = c.in-Occupied.entry in
-    let new = c.move_to_back.new.self in
+    let o = c.in-Occupied.entry in let new = c.move_to_back.new.self in
     let m = c.move_to_back.ensures in
     let Given : g.row.K.Denot × g.row.V.Denot → Type 0
     = λ pair. pair ≡ (c.args.default_key, c.args.default_value) in
@@ -22,10 +21,8 @@ returns-in-Occupied g c =
 
 pub returns-in-Vacant : goal.returns-in-Vacant
 returns-in-Vacant g c =
-    let r = c.insert_entry.result in
-    let e = c.insert_entry.ensures in
-    let f = c.insert_entry.follows in
-    let k = c.args.default_key in
+    let r = c.insert_entry.result in let e = c.insert_entry.ensures in
+    let f = c.insert_entry.follows in let k = c.args.default_key in
     let v = c.args.default_value in
     let old = state_of c.in-Vacant.entry.map.now in
     rw c.in-Vacant.is (

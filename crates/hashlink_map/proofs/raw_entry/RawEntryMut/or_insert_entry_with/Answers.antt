@@ -4,8 +4,7 @@ use Rattle.hashlink_map.proofs.raw_entry.RawEntryMut.or_insert_entry_with.Goals 
 
 pub returns-in-Occupied : goal.returns-in-Occupied
 returns-in-Occupied g c =
-    let o = c.in-Occupied.entry in
-    let new = c.move_to_back.new.self in
+    let o = c.in-Occupied.entry in let new = c.move_to_back.new.self in
     let m = c.move_to_back.ensures in
     rw c.in-Occupied.is (
       (refl, (λ w. refl), tt),
@@ -21,10 +20,8 @@ returns-in-Occupied g c =
 
 pub returns-in-Vacant : goal.returns-in-Vacant
 returns-in-Vacant g c =
-    let r = c.insert_entry.result in
-    let e = c.insert_entry.ensures in
-    let f = c.insert_entry.follows in
-    let made = c.default-key in
+    let r = c.insert_entry.result in let e = c.insert_entry.ensures in
+    let f = c.insert_entry.follows in let made = c.default-key in
     let pair = made.result in
     let Given : g.row.K.Denot × g.row.V.Denot → Type 0 = g.F.FnOnce.post c.args.default tt in
     let old = state_of c.in-Vacant.entry.map.now in

@@ -1,10 +1,9 @@
 -- A `&` to the arena gives access to each value. Assumes `Logic`.
-use Rattle.hashlink_nodes.proofs.Names.{[], ◌++◌, Incl-trans, meet_⊑_left, RattleType, RawPtr, Laws}
-use Rattle.hashlink_nodes.proofs.Names.{copy_shared, field_copy, of_Lends}
 use Rattle.std.specs.contracts.marker.PhantomData as marker
 use Rattle.hashlink_nodes.specs.contracts.arena.Arena as C
-use Rattle.hashlink_nodes.proofs.arena.Arena.TheLaw.Statement.{statement}
-use Rattle.hashlink_nodes.proofs.ArenaSharing.{blocks_lent_laws, Lends-blocks}
+use Rattle.hashlink_nodes.{proofs.ArenaSharing.{blocks_lent_laws, Lends-blocks}, proofs.Names.{[], ◌++◌}}
+use Rattle.hashlink_nodes.proofs.Names.{Incl-trans, meet_⊑_left, RattleType, RawPtr, Laws, copy_shared}
+use Rattle.hashlink_nodes.{proofs.Names.{field_copy, of_Lends}, proofs.arena.Arena.TheLaw.Statement.statement}
 
 pub shares : (R : RattleType) (L : Laws R) → statement R L
 shares R L =

@@ -3,11 +3,10 @@ use Rattle.hashlink_nodes.proofs.Names
 use Names.{◌^◌, ◌<◌, sym, subst, usize, [], ◌∷◌, refl, ap, IsSome, lookup, a_type, id⊢, ‵, ◌$◌, ◌∵◌, !, qed}
 use Names.{move, keep, join, fsplit, fsplit3, use1, done, RattleType, param, layouts, option_map, Kept}
 use Names.{entry_in, number_word, IfSome, block_lent, blocks_lent, number_offset, same_node, imm}
-use Rattle.hashlink_nodes.proofs.ArenaBlocks.{found, block_seen, small_seen}
-use Rattle.hashlink_nodes.proofs.{ArenaSteps.states, ArenaLends.shared}
 use Rattle.hashlink_nodes.specs.contracts.arena.Arena.number as F
-use Rattle.hashlink_nodes.proofs.arena.Arena.number.Statement.{statement}
 use Rattle.hashlink_nodes.proofs.arena.Arena.number.Code as code
+use Rattle.hashlink_nodes.{proofs.ArenaBlocks.{found, block_seen, small_seen}, proofs.ArenaSteps.states}
+use Rattle.hashlink_nodes.{proofs.ArenaLends.shared, proofs.arena.Arena.number.Statement.statement}
 
 pub number_spec : {M : Type 1} → statement M
 number_spec 𝓤 𝓛 𝓜 𝓡 wired T L =

@@ -3,8 +3,7 @@ use Rattle.hashlink_set.proofs.building.RefLinkedHashSetSub.sub.Goals as goal
 
 pub returns : goal.returns
 returns g c =
-    let eq = g.T.PartialEq.eq in
-    let walk = c.difference in
+    let eq = g.T.PartialEq.eq in let walk = c.difference in
     clones_by_answer (DifferenceSteps eq) (difference_rest eq) (λ s r t step. step.takes) eq
     g.met.T.Eq.laws g.T.Clone.is_clone g.S.Default.is_default _ c.default.result c.default.ensures
     walk.result walk.ensures.rest walk.ensures.unique c.of_clones.result c.of_clones.ensures.made

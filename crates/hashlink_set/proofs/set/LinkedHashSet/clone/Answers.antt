@@ -5,8 +5,7 @@ use Rattle.hashlink_set.proofs.set.LinkedHashSet.clone.Goals as goal
 
 pub returns-clause-made : goal.returns-clause-made
 returns-clause-made g c =
-    let eq = g.T.PartialEq.eq in
-    let ts = elements_of c.args.self.now in
+    let eq = g.T.PartialEq.eq in let ts = elements_of c.args.self.now in
     if_ok_then c.of_clones.result _ _
     (λ n h. is_of_items eq g.met.T.Eq.laws g.T.Clone.is_clone (g.S.Clone.is_clone c.args.self.now.hasher) ts
     (search rules) c.in_ok-hash_builder.hash_builder (search rules) n h.0 h.1

@@ -17,8 +17,7 @@ returns-in-Err-clause-stopped g c =
 
 pub loop-element-preserved : goal.loop-element-preserved
 loop-element-preserved g c =
-    let inv = c.loop-element.invariant in
-    let x = c.in-Some.element in
+    let inv = c.loop-element.invariant in let x = c.in-Some.element in
     it.again inv x c.in-Some.is (c.next.ensures.steps, c.next.ensures.goes) (
       accepts_another (SetInserts g.T.PartialEq.eq) c.args.self.now c.loop-element.self
           c.insert.new.self inv.seen x

@@ -1,19 +1,16 @@
 -- `get_or_insert` inserts the element, and then lends the last element.
-use Rattle.hashlink_set.proofs.Names.{◌≡◌, List, [], ◌∷◌, ◌++◌, refl, sym, ap, subst, ◌∙◌, SProp, ent, id⊢}
-use Rattle.hashlink_set.proofs.Names.{emp, a_type, named, ty_ptr, dcons, dnil, inst_fn, Val, of_list, vptr}
-use Rattle.hashlink_set.proofs.Names.{vstruct, WpFn, sem, ‵, raw, ◌⊛◌, some, later, ◌$◌, ◌∵◌, !, qed, by}
-use Rattle.hashlink_set.proofs.Names.{move, keep, drop, split, join, fsplit, fjoin, fpick, feq_l, pick, await}
-use Rattle.hashlink_set.proofs.Names.{rewrite, use0, use1, whole, sub, stop, fld, of_opd, addr, and_then}
-use Rattle.hashlink_set.proofs.Names.{no_more, returns, enter, alloc_all, pass_all, free_all, look_at, get}
-use Rattle.hashlink_set.proofs.Names.{get_in, through, sets, lands_as, ◌⊑◌, fact, fact_i, Lfts, tables, no}
-use Rattle.hashlink_set.proofs.Names.{Is, shows, bounded, layout, param, Laws, param_laws, of_field}
-use Rattle.hashlink_set.proofs.Names.{copy_shared, RattleType, Valss, MutRef, ShrRef, NamedLft, mut_vals}
-use Rattle.hashlink_set.proofs.Names.{mut_Tells, plain, mut_ref_to, types_at, nothing, peeks, only, heard}
-use Rattle.hashlink_set.proofs.Names.{shr_ref_field, shr_ref_laws, shr_ref_copy, as_fields, Tuple, calls_at}
-use Rattle.hashlink_set.proofs.Names.{lasts, Lasts, alive, on_entry, triple_of, framed, Stays, stay_dropped}
-use Rattle.hashlink_set.proofs.Names.{walk_of, Goes-spent_ref, Goes-dropped, proved_at, leaves, IfOk, IfErr}
-use Rattle.hashlink_set.proofs.Names.{IsSome, None, Some, option_copied, value_of, valued, elements_of}
-use Rattle.hashlink_set.proofs.Names.{stored_element, GetsOrInserts, last_of, as_seen, PutsElement}
+use Rattle.hashlink_set.proofs.Names
+use Names.{◌≡◌, List, [], ◌∷◌, ◌++◌, refl, sym, ap, subst, ◌∙◌, SProp, ent, id⊢, emp, a_type, named, ty_ptr}
+use Names.{dcons, dnil, inst_fn, Val, of_list, vptr, vstruct, WpFn, sem, ‵, raw, ◌⊛◌, some, later, ◌$◌, ◌∵◌}
+use Names.{ !, qed, by, move, keep, drop, split, join, fsplit, fjoin, fpick, feq_l, pick, await, rewrite, use0}
+use Names.{use1, whole, sub, stop, fld, of_opd, addr, and_then, no_more, returns, enter, alloc_all, pass_all}
+use Names.{free_all, look_at, get, get_in, through, sets, lands_as, ◌⊑◌, fact, fact_i, Lfts, tables, no, Is}
+use Names.{shows, bounded, layout, param, Laws, param_laws, of_field, copy_shared, RattleType, Valss, MutRef}
+use Names.{ShrRef, NamedLft, mut_vals, mut_Tells, plain, mut_ref_to, types_at, nothing, peeks, only, heard}
+use Names.{shr_ref_field, shr_ref_laws, shr_ref_copy, as_fields, Tuple, calls_at, lasts, Lasts, alive}
+use Names.{on_entry, triple_of, framed, Stays, stay_dropped, walk_of, Goes-spent_ref, Goes-dropped, proved_at}
+use Names.{leaves, IfOk, IfErr, IsSome, None, Some, option_copied, value_of, valued, elements_of}
+use Names.{stored_element, GetsOrInserts, last_of, as_seen, PutsElement}
 use Rattle.hashlink_set.proofs.LentLast.{Asks, asked, ends_so, there_is_last, answers_insert, is_stored}
 use Rattle.hashlink_set.{proofs.Names.StaysAsItWas, specs.SetLends.EndsInserted, proofs.LentLast.is_given}
 use Rattle.hashlink_set.proofs.set.LinkedHashSet.get_or_insert.Statement.{statement}

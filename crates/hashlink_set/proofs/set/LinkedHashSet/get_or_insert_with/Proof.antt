@@ -1,19 +1,16 @@
 -- `get_or_insert_with` moves the element or makes it, and then lends the last element.
-use Rattle.hashlink_set.proofs.Names.{◌≡◌, List, [], ◌∷◌, ◌++◌, refl, sym, ap, subst, ◌∙◌, SProp, ent, sep}
-use Rattle.hashlink_set.proofs.Names.{id⊢, emp, a_type, named, ty_ptr, dcons, dnil, inst_fn, Val, of_list}
-use Rattle.hashlink_set.proofs.Names.{vptr, vstruct, WpFn, sem, ‵, raw, ◌⊛◌, some, later, ◌$◌, ◌∵◌, !, qed}
-use Rattle.hashlink_set.proofs.Names.{by, move, keep, drop, split, join, fsplit, fjoin, fpick, feq_l, pick}
-use Rattle.hashlink_set.proofs.Names.{await, rewrite, use0, use1, whole, sub, stop, fld, of_opd, addr}
-use Rattle.hashlink_set.proofs.Names.{and_then, no_more, returns, enter, alloc_all, pass_all, free_all}
-use Rattle.hashlink_set.proofs.Names.{look_at, get, get_in, through, sets, lands_as, ◌⊑◌, fact, fact_i, Lfts}
-use Rattle.hashlink_set.proofs.Names.{tables, no, Is, shows, bounded, layout, param, Laws, param_laws}
-use Rattle.hashlink_set.proofs.Names.{of_field, copy_shared, RattleType, Valss, MutRef, ShrRef, NamedLft}
-use Rattle.hashlink_set.proofs.Names.{mut_vals, mut_Tells, plain, mut_ref_to, types_at, nothing, peeks, only}
-use Rattle.hashlink_set.proofs.Names.{heard, shr_ref_field, shr_ref_laws, shr_ref_copy, as_fields, Tuple}
-use Rattle.hashlink_set.proofs.Names.{calls_at, lasts, Lasts, alive, on_entry, triple_of, framed, Stays}
-use Rattle.hashlink_set.proofs.Names.{stay_dropped, walk_of, Goes-spent_ref, Goes-dropped, proved_at, leaves}
-use Rattle.hashlink_set.proofs.Names.{IfOk, IfErr, IsSome, None, Some, option_copied, FnOnceReturnsAt, find}
-use Rattle.hashlink_set.proofs.Names.{UnwrapsOrElse, value_of, valued, elements_of, last_of, GetsOrMakes}
+use Rattle.hashlink_set.proofs.Names
+use Names.{◌≡◌, List, [], ◌∷◌, ◌++◌, refl, sym, ap, subst, ◌∙◌, SProp, ent, sep, id⊢, emp, a_type, named}
+use Names.{ty_ptr, dcons, dnil, inst_fn, Val, of_list, vptr, vstruct, WpFn, sem, ‵, raw, ◌⊛◌, some, later}
+use Names.{◌$◌, ◌∵◌, !, qed, by, move, keep, drop, split, join, fsplit, fjoin, fpick, feq_l, pick, await}
+use Names.{rewrite, use0, use1, whole, sub, stop, fld, of_opd, addr, and_then, no_more, returns, enter}
+use Names.{alloc_all, pass_all, free_all, look_at, get, get_in, through, sets, lands_as, ◌⊑◌, fact, fact_i}
+use Names.{Lfts, tables, no, Is, shows, bounded, layout, param, Laws, param_laws, of_field, copy_shared}
+use Names.{RattleType, Valss, MutRef, ShrRef, NamedLft, mut_vals, mut_Tells, plain, mut_ref_to, types_at}
+use Names.{nothing, peeks, only, heard, shr_ref_field, shr_ref_laws, shr_ref_copy, as_fields, Tuple, calls_at}
+use Names.{lasts, Lasts, alive, on_entry, triple_of, framed, Stays, stay_dropped, walk_of, Goes-spent_ref}
+use Names.{Goes-dropped, proved_at, leaves, IfOk, IfErr, IsSome, None, Some, option_copied, FnOnceReturnsAt}
+use Names.{find, UnwrapsOrElse, value_of, valued, elements_of, last_of, GetsOrMakes}
 use Rattle.hashlink_set.proofs.LentLast.{Asks, asked, ends_so, there_is_made, answers_made, is_lent, is_made}
 use Rattle.hashlink_set.proofs.LentLast.{lifetimes_left, shares_left, Left as TokensLeft, Aside, set_aside}
 use Rattle.hashlink_set.{proofs.Names.{as_seen, MakesElement, StaysAsItWas}, specs.Made.CanMakeAbsent}

@@ -4,10 +4,8 @@ use Rattle.hashlink_set.proofs.set.LinkedHashSet.move_or_make.Goals as goal
 
 pub returns-then-to_back-clause-moved : goal.returns-then-to_back-clause-moved
 returns-then-to_back-clause-moved g c =
-    let eq = g.T.PartialEq.eq in
-    let old = c.args.self.now in
-    let new = c.to_back.new.self in
-    let t = c.args.value.now in
+    let eq = g.T.PartialEq.eq in let old = c.args.self.now in
+    let new = c.to_back.new.self in let t = c.args.value.now in
     moved_gets eq old new t (FnOnceReturnsAt g.F.FnOnce c.args.f t)
     (subst (λ b. Moves eq old new t (length old.entries) (as_value b)) c.if-to_back.true
     c.to_back.ensures.moves)
@@ -27,8 +25,7 @@ returns-in-Err-clause-refused g c =
 
 pub returns-in-Ok-clause-moved : goal.returns-in-Ok-clause-moved
 returns-in-Ok-clause-moved g c =
-    let eq = g.T.PartialEq.eq in
-    let t = c.args.value.now in
+    let eq = g.T.PartialEq.eq in let t = c.args.value.now in
     let x = c.f.result in
     let none = unmoved eq _ _ c.args.value.now _ _ c.if-to_back.false c.to_back.ensures.moves in
     let made : FnOnceReturnsAt g.F.FnOnce c.args.f t x = (c.args.value, c.f.ensures, refl) in

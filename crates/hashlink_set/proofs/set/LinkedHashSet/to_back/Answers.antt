@@ -4,15 +4,13 @@ use Rattle.hashlink_set.proofs.set.LinkedHashSet.to_back.Goals as goal
 
 pub returns : goal.returns
 returns g c =
-    let eq = g.T.PartialEq.eq in
-    let laws = g.met.T.Eq.laws in
+    let eq = g.T.PartialEq.eq in let laws = g.met.T.Eq.laws in
     let test = g.Q.Equivalent.matches c.args.value in
     let tells = g.met.Q.Equivalent.finds_equal c.args.value in
     let old = state_of c.self.inside.map in
     elim c.match-to_back.branch [
       | goal.in-Some w ↦ (
-          let lent = w.in-Some.field-0.now in
-          let new = state_of (c.to_back.follows.lender lent) in
+          let lent = w.in-Some.field-0.now in let new = state_of (c.to_back.follows.lender lent) in
           let moves = moved-element test old new _ w.in-Some.ensures.value (c.to_back.follows.holds lent) in
           rw (← c.self.view_is, w.result-is, w.self-inside-is) (record {
             moves = moves;

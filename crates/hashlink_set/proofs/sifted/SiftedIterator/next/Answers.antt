@@ -4,8 +4,7 @@ use Rattle.hashlink_set.proofs.sifted.SiftedIterator.next.Goals as goal
 
 pub returns-then-contains-clause-steps : goal.returns-then-contains-clause-steps
 returns-then-contains-clause-steps g c =
-    let eq = g.T.PartialEq.eq in
-    let asked = not (eqb g.row.HAS 0) in
+    let eq = g.T.PartialEq.eq in let asked = not (eqb g.row.HAS 0) in
     let inv = c.loop-element.invariant in
     let test = sifts eq asked (elements_in c.args.self.now.other.now) in
     let passes : test c.in-Some.element.now ≡ true =

@@ -6,8 +6,7 @@ use Rattle.hashlink_set.proofs.symmetric_difference.SymmetricDifferenceIterator.
 
 pub returns-clause-upper : goal.returns-clause-upper
 returns-clause-upper g c =
-    let eq = g.T.PartialEq.eq in
-    let d = c.args.self.now in
+    let eq = g.T.PartialEq.eq in let d = c.args.self.now in
     let sum : c.checked_add.result ≡ at_most_both (length d.first.iter) (length d.second.iter) =
     search rules in
     subst (λ o. IfSome o (UpTo (at_most (length (symmetric_difference_rest g.T.PartialEq.eq d))))) (sym sum)

@@ -12,8 +12,7 @@ returns-clause-lower g c =
 
 pub returns-clause-upper : goal.returns-clause-upper
 returns-clause-upper g c =
-    let eq = g.T.PartialEq.eq in
-    let u = c.args.self.now in
+    let eq = g.T.PartialEq.eq in let u = c.args.self.now in
     let sum : c.checked_add.result ≡ at_most_both (length u.first) (length u.second.iter) = search rules in
     subst (λ o. IfSome o (UpTo (at_most (length (union_rest g.T.PartialEq.eq u))))) (sym sum)
     (bounds_both (length (union_rest eq u)) (length u.first) (length u.second.iter)

@@ -1,9 +1,8 @@
-use Rattle.hashlink_table.proofs.Names.{◌∷◌, ◌++◌, length, sym, ap, ◌∙◌, subst, IsPermutation, with_items_is}
-use Rattle.hashlink_table.proofs.{Names.{Contents, nodes_in}, Sound.sound-take}
-use Rattle.hashlink_table.proofs.Views.{can_ask, no_cost, search_cost}
 use Rattle.hashlink_table.proofs.table.Table.remove_counted.Given as given
-use Rattle.hashlink_table.proofs.table.Table.remove_counted.Goals.{After-take}
 use Rattle.hashlink_table.proofs.table.Table.remove_counted.Goals as goal
+use Rattle.hashlink_table.proofs.Names.{◌∷◌, ◌++◌, length, sym, ap, ◌∙◌, subst, IsPermutation, with_items_is}
+use Rattle.hashlink_table.{proofs.Names.{Contents, nodes_in}, proofs.Views.{can_ask, no_cost, search_cost}}
+use Rattle.hashlink_table.{proofs.Sound.sound-take, proofs.table.Table.remove_counted.Goals.After-take}
 
 pub seek-requires-clause-arranged : goal.seek-requires-clause-arranged
 seek-requires-clause-arranged g c = rw c.deref.ensures.value (c.self.inside.free, c.self.invariant.arranged)

@@ -8,8 +8,7 @@ invariant_of-self-lent g c w =
 
 pub returns-in-Some : goal.returns-in-Some
 returns-in-Some g c =
-    let s = c.args.self.now in
-    let m = s.map.now in
+    let s = c.args.self.now in let m = s.map.now in
     let same = sym (ap (λ p. place_number m.nodes (option_map (λ n. n) p)) c.in-Some.is) in (
       (refl, λ w. (refl, cursor_written m c.in-Some.node (cursor_node s) _ w same), (refl, refl, refl)),
       record { lends = tt; value = sym c.value_at_mut.ensures.value ∙ ap (value_at (entries_of m)) same },
@@ -17,8 +16,7 @@ returns-in-Some g c =
 
 pub returns-in-None : goal.returns-in-None
 returns-in-None g c =
-    let s = c.args.self.now in
-    let m = s.map.now in
+    let s = c.args.self.now in let m = s.map.now in
     let guard = ap (λ p. place_number m.nodes (option_map (λ n. n) p)) c.in-None.is in (
       (refl, λ w. tt, (refl, refl, refl)),
       record {

@@ -5,8 +5,7 @@ use Rattle.hashlink_map.proofs.entry.occupied.OccupiedEntry+K+V+S.into_last_mut.
 
 pub returns : goal.returns
 returns g c =
-    let o = c.args.self in
-    let e = c.move_to_back.ensures in
+    let o = c.args.self in let e = c.move_to_back.ensures in
     let put = moves-and-writes g.K.PartialEq.eq _ c.move_to_back.new.self o.key _
     o.stands.place o.node e.moves e.stays.place in (
       (refl, λ w _. put w, tt),

@@ -5,9 +5,5 @@ use Rattle.hashlink_map.proofs.entry.occupied.OccupiedEntry+K+V+S.into_mut.Goals
 pub returns : goal.returns
 returns g c = (
   (refl, λ w. refl),
-  record {
-    lends = tt;
-    value = c.value_at_mut.ensures.value;
-    written = is_written c.args.self;
-  },
+  record { lends = tt; value = c.value_at_mut.ensures.value; written = is_written c.args.self },
 )

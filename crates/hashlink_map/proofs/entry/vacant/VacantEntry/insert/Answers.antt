@@ -5,8 +5,7 @@ use Rattle.hashlink_map.proofs.entry.vacant.VacantEntry.insert.Goals as goal
 
 pub returns : goal.returns
 returns g c =
-    let e = c.in_ok-node.ensures in
-    let laws = g.met.K.Eq.laws in
+    let e = c.in_ok-node.ensures in let laws = g.met.K.Eq.laws in
     let put = adds-written laws _ c.push_back.new.self c.args.self.key c.args.value
     c.in_ok-node.node e.inserts e.place in (
       (refl, λ w _. put w, tt),

@@ -5,8 +5,7 @@ use Rattle.hashlink_map.proofs.entry.vacant.VacantEntry.try_insert.Goals as goal
 
 pub returns-in-Ok-push_back : goal.returns-in-Ok-push_back
 returns-in-Ok-push_back g c =
-    let e = c.in-Ok-push_back.ensures in
-    let laws = g.met.K.Eq.laws in
+    let e = c.in-Ok-push_back.ensures in let laws = g.met.K.Eq.laws in
     let n = c.in-Ok-push_back.node in
     let put = adds-written laws _ c.push_back.new.self c.args.self.key c.in-Ok.value n e.inserts e.place in (
       (refl, λ w _. put w, tt),
