@@ -4,6 +4,7 @@ ghost use Rattle.misscurve.specs.declared.faults.Fault.TheVariants.{Memory};
 
 use std::alloc::AllocError;
 use std::fmt;
+use std::io::{self, ErrorKind};
 
 /// Why a trace was not answered.
 #[derive(Clone, Copy)]
@@ -21,6 +22,14 @@ pub enum Fault {
 }
 
 impl Fault {
+    /// Returns `Memory` if the error is that memory ran out, and else the other fault.
+    pub fn of(error: io::Error, other: Fault) -> Fault {
+        match error.kind() {
+            ErrorKind::OutOfMemory => Fault::Memory,
+            _ => other,
+        }
+    }
+
     /// Returns the exit status of the program: 2 if it was called wrongly, else 1.
     pub fn status(self) -> u8 {
         match self {

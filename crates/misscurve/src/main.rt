@@ -13,7 +13,7 @@ use faults::Fault;
 use options::Options;
 use std::env;
 use std::hash::RandomState;
-use std::io::{self, BufReader, BufWriter, ErrorKind};
+use std::io::{self, BufReader, BufWriter};
 use std::process::ExitCode;
 
 fn main(rt: HostRuntime) -> ExitCode {
@@ -28,7 +28,9 @@ fn main(rt: HostRuntime) -> ExitCode {
 
 fn run(rt: &HostRuntime) -> Result<(), Fault> {
     let alloc = rt.alloc();
-    let arguments: Vec<String> = env::args(rt).map_err(fault_of)?.collect(alloc)?;
+    // The arguments have to be UTF-8.
+    let arguments = env::args(rt).map_err(|error| Fault::of(error, Fault::Options))?;
+    let arguments: Vec<String> = arguments.collect(alloc)?;
     let words: Vec<&str> = arguments
         .iter()
         .skip(1)
@@ -39,12 +41,4 @@ fn run(rt: &HostRuntime) -> Result<(), Fault> {
     let mut writer = BufWriter::new(alloc, io::writer(rt)).map_err(|_| Fault::Memory)?;
     let mut reader = BufReader::new(alloc, rt.reader()).map_err(|_| Fault::Memory)?;
     answer(rt, alloc, options, hash_builder, &mut reader, &mut writer)
-}
-
-/// Returns the fault if the arguments cannot be read. They have to be UTF-8.
-fn fault_of(error: io::Error) -> Fault {
-    match error.kind() {
-        ErrorKind::OutOfMemory => Fault::Memory,
-        _ => Fault::Options,
-    }
 }

@@ -7,7 +7,7 @@ use crate::faults::Fault;
 use hashlink_curve::MissCurve;
 use std::alloc::{AllocError, Global};
 use std::hash::BuildHasher;
-use std::io::{self, BufRead, Eprint, ErrorKind};
+use std::io::{BufRead, Eprint};
 
 /// The progress is printed each time after this many lines.
 const PROGRESS: u64 = 1 << 22;
@@ -53,7 +53,7 @@ fn read_line<B: BufRead>(reader: &mut B, line: &mut Vec<u8>) -> Result<bool, Fau
     line.clear();
     match reader.read_until(b'\n', line) {
         Ok(count) => Ok(count > 0),
-        Err(error) => Err(fault_of(error)),
+        Err(error) => Err(Fault::of(error, Fault::Reading)),
     }
 }
 
@@ -87,14 +87,6 @@ fn key_of(alloc: Global, line: &[u8]) -> Result<Vec<u8>, AllocError>
     ensures { IfOk result (λ key. key.items ≡ line.now) }
 {
     line.to_vec(alloc)
-}
-
-/// Returns why a line could not be read.
-fn fault_of(error: io::Error) -> Fault {
-    match error.kind() {
-        ErrorKind::OutOfMemory => Fault::Memory,
-        _ => Fault::Reading,
-    }
 }
 
 /// Prints the progress.
