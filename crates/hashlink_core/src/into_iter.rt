@@ -48,7 +48,7 @@ impl<K: Drop, V: Drop> Iterator for IntoIter<K, V> {
         if self.nodes.len() == 0 {
             return None;
         }
-        let held = self.nodes.give_back_first();
+        let held = self.nodes.release_first();
         Some((held.key, held.value))
     }
 
@@ -70,7 +70,7 @@ impl<K: Drop, V: Drop> DoubleEndedIterator for IntoIter<K, V> {
         if self.nodes.len() == 0 {
             return None;
         }
-        let held = self.nodes.give_back_last();
+        let held = self.nodes.release_last();
         Some((held.key, held.value))
     }
 }

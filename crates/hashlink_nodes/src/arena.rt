@@ -74,8 +74,8 @@ impl<T> Arena<T> {
         Node { at: ptr as *mut u8 }
     }
 
-    /// Gives the node's block, which has no pair, back to the caller.
-    pub(crate) fn give_back(&mut self, node: Node, alloc: Global) -> Vacant<Block<T>, Global>
+    /// Releases the block of the node, which has no pair: returns it to the caller.
+    pub(crate) fn release(&mut self, node: Node, alloc: Global) -> Vacant<Block<T>, Global>
         requires there { IsSome (lookup (same_node node) self.old.blocks) }
         requires bare { entry_in (lookup (same_node node) self.old.blocks) ≡ None }
         ensures { self.new.blocks ≡ remove_entry (same_node node) self.old.blocks }

@@ -114,12 +114,12 @@ impl<K, V> Pool<K, V> {
     }
 
     /// Frees the block of a node that holds nothing.
-    pub(crate) fn give_back(&mut self, node: Node, alloc: Global)
+    pub(crate) fn release(&mut self, node: Node, alloc: Global)
         requires has { (state_of self.old).has node ≡ true }
         requires bare { (state_of self.old).held node ≡ None }
         ensures { Drops node (state_of self.old) (state_of self.new) }
     {
-        self.arena.give_back(node, alloc).free();
+        self.arena.release(node, alloc).free();
     }
 
     /// Links the neighbours of the node past it.

@@ -41,7 +41,7 @@ impl<K: Eq + Hash, V, S: BuildHasher> KeyedList<K, V, S> {
             first: _,
             last: _,
         } = drained;
-        nodes.spare_all();
+        nodes.detach_all_into_free();
         self.nodes = nodes;
     }
 }

@@ -25,7 +25,7 @@ impl<K: Eq + Hash, V, S: BuildHasher> KeyedList<K, V, S> {
     }
 
     /// Releases the free nodes. The room stays.
-    pub fn release_spare(&mut self)
+    pub fn release_free(&mut self)
         ensures { self.new ≡ record self.old { spare = 0 } }
     {
         self.nodes.release_free();
@@ -39,7 +39,7 @@ impl<K: Eq + Hash, V, S: BuildHasher> KeyedList<K, V, S> {
         ensures empty { self.old.nodes ≡ [] → IsOk result }
         ensures fits { length (entries_of self.old) ≤ self.old.room }
     {
-        self.release_spare();
+        self.release_free();
         self.shrink_table()
     }
 

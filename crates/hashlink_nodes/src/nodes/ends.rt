@@ -15,11 +15,11 @@ impl<K, V> Nodes<K, V> {
         ensures link_writes { self.new.link_writes ≡ self.old.link_writes }
     {
         while self.spare() > 0 {
-            self.give_back_spare();
+            self.release_first_free();
         }
     }
 
-    fn give_back_spare(&mut self)
+    fn release_first_free(&mut self)
         requires { 0 < length self.old.free }
         ensures entries { self.new.entries ≡ self.old.entries }
         ensures free { self.new.free ≡ drop 1 self.old.free }
@@ -27,7 +27,7 @@ impl<K, V> Nodes<K, V> {
     {
         let node = self.first_spare;
         let first_spare = self.pool.next(node);
-        self.pool.give_back(node, self.alloc);
+        self.pool.release(node, self.alloc);
         self.first_spare = first_spare;
         self.spare -= 1;
     }
@@ -43,13 +43,13 @@ impl<K, V> Nodes<K, V> {
         ensures link_writes { self.new.link_writes ≡ self.old.link_writes + 2 * length self.old.entries }
     {
         while self.len() > 0 {
-            let _held = self.give_back_last();
+            let _held = self.release_last();
         }
     }
 
     /// Removes the first entry, frees its block and returns what it held. It stores two links.
     #[inline]
-    pub fn give_back_first(&mut self) -> Held<K, V>
+    pub fn release_first(&mut self) -> Held<K, V>
         requires { 0 < length self.old.entries }
         ensures first { (node : Node) × (self.old.entries ≡ (node, result) ∷ self.new.entries) }
         ensures free { self.new.free ≡ self.old.free }
@@ -57,12 +57,12 @@ impl<K, V> Nodes<K, V> {
     {
         let guard = self.guard.unwrap();
         let node = self.pool.next(guard);
-        self.give_back(node)
+        self.release(node)
     }
 
     /// Removes the last entry, frees its block and returns what it held. It stores two links.
     #[inline]
-    pub fn give_back_last(&mut self) -> Held<K, V>
+    pub fn release_last(&mut self) -> Held<K, V>
         requires { 0 < length self.old.entries }
         ensures last { (node : Node) × (self.old.entries ≡ self.new.entries ++ (node, result) ∷ []) }
         ensures free { self.new.free ≡ self.old.free }
@@ -70,12 +70,12 @@ impl<K, V> Nodes<K, V> {
     {
         let guard = self.guard.unwrap();
         let node = self.pool.prev(guard);
-        self.give_back(node)
+        self.release(node)
     }
 
     /// Removes the node's entry, frees its block and returns what it held. It stores two links.
     #[inline]
-    fn give_back(&mut self, node: Node) -> Held<K, V>
+    fn release(&mut self, node: Node) -> Held<K, V>
         requires { Holds self.old.entries node }
         ensures held { lookup (same_node node) self.old.entries ≡ Some result }
         ensures entries { self.new.entries ≡ remove_entry (same_node node) self.old.entries }
@@ -85,14 +85,14 @@ impl<K, V> Nodes<K, V> {
         self.pool.detach(node);
         let number = self.pool.number(node);
         let (key, value) = self.pool.take(node);
-        self.pool.give_back(node, self.alloc);
+        self.pool.release(node, self.alloc);
         self.len -= 1;
         Held { number, key, value }
     }
 
     /// Removes the last entry and returns its pair. Its node is the first free node then. It stores three
     /// links.
-    fn spare_last(&mut self) -> (K, V)
+    fn detach_last_into_free(&mut self) -> (K, V)
         requires { 0 < length self.old.entries }
         ensures entries { length self.old.entries ≡ length self.new.entries + 1 }
         ensures free { length self.new.free ≡ length self.old.free + 1 }
@@ -105,7 +105,7 @@ impl<K, V> Nodes<K, V> {
 
     /// Drops the entries, from the last to the first. Their nodes are free then. It stores three links for
     /// each entry.
-    pub fn spare_all(&mut self)
+    pub fn detach_all_into_free(&mut self)
     where
         K: Drop,
         V: Drop,
@@ -114,7 +114,7 @@ impl<K, V> Nodes<K, V> {
         ensures link_writes { self.new.link_writes ≡ self.old.link_writes + 3 * length self.old.entries }
     {
         while self.len() != 0 {
-            let _pair = self.spare_last();
+            let _pair = self.detach_last_into_free();
         }
     }
 
@@ -132,7 +132,7 @@ impl<K, V> Nodes<K, V> {
             alloc,
         } = self;
         if let Some(guard) = guard {
-            pool.give_back(guard, alloc);
+            pool.release(guard, alloc);
             pool.end();
         } else {
             pool.end();

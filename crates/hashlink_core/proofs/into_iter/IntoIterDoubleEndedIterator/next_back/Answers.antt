@@ -3,7 +3,7 @@ use Rattle.hashlink_core.proofs.into_iter.IntoIterDoubleEndedIterator.next_back.
 
 pub returns-clause-steps : goal.returns-clause-steps
 returns-clause-steps g c =
-    let last = c.give_back_last-held.ensures.last in
+    let last = c.release_last-held.ensures.last in
     sym c.self.view_is ∙ ap pairs_in last.1 ∙ pairs_in-last _ last.0 _
 
 pub returns-clause-goes : goal.returns-clause-goes

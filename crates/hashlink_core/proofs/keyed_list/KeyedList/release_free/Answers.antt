@@ -1,6 +1,6 @@
 use Rattle.std.proofs.{Common.{length, ap, arith}, lemmas.List.Sorted.IsPermutation-refl}
 use Rattle.hashlink_core.proofs.Stepping.{step-same}
-use Rattle.hashlink_core.proofs.keyed_list.KeyedList.release_spare.Goals as goal
+use Rattle.hashlink_core.proofs.keyed_list.KeyedList.release_free.Goals as goal
 
 pub invariant_of-self : goal.invariant_of-self
 invariant_of-self g c =

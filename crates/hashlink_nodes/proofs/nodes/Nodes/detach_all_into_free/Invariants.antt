@@ -1,5 +1,5 @@
 use Rattle.std.proofs.Common.{◌≡◌, ◌+◌, ◌*◌, length}
-use Rattle.hashlink_nodes.proofs.nodes.Nodes.spare_all.Given as goal
+use Rattle.hashlink_nodes.proofs.nodes.Nodes.detach_all_into_free.Given as goal
 
 abbrev pub invariant-loop-self : goal.invariant-loop-self
 invariant-loop-self g l =

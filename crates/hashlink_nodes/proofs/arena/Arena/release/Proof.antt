@@ -1,4 +1,4 @@
--- `give_back` takes a block from those that the arena owns.
+-- `release` takes a block from those that the arena owns.
 use Rattle.hashlink_nodes.proofs.Names
 use Names.{word_had, handle_tells, ◌≡◌, ◌+◌, ◌∙◌, ◌^◌, List, [], ◌∷◌, ◌++◌, refl, sym, ap, None, IsSome}
 use Names.{lookup, remove_entry, full_share, Ty, a_type, ty_int, w64, bare, inst_fn, Val, vint, vptr, SProp}
@@ -12,12 +12,12 @@ use Names.{number_offset, links_offset, Arena, arena_row}
 use Rattle.hashlink_nodes.proofs.ArenaSteps.{Nd, no_box, args_are, states, Heap, heap_handle}
 use Rattle.hashlink_nodes.proofs.ArenaBlocks.{found, block_out}
 use Rattle.hashlink_nodes.proofs.VacantSteps.{both, Vacant, vacant_good, vacant_in}
-use Rattle.hashlink_nodes.specs.contracts.arena.Arena.give_back as F
-use Rattle.hashlink_nodes.proofs.arena.Arena.give_back.Statement.{statement}
-use Rattle.hashlink_nodes.proofs.arena.Arena.give_back.Code as code
+use Rattle.hashlink_nodes.specs.contracts.arena.Arena.release as F
+use Rattle.hashlink_nodes.proofs.arena.Arena.release.Statement.{statement}
+use Rattle.hashlink_nodes.proofs.arena.Arena.release.Code as code
 
-pub give_back_spec : {M : Type 1} → statement M
-give_back_spec 𝓤 𝓛 𝓜 𝓡 wired T L =
+pub release_spec : {M : Type 1} → statement M
+release_spec 𝓤 𝓛 𝓜 𝓡 wired T L =
     let H = 𝓛.H in let 𝓣 = tables 𝓤 H 𝓜 𝓡 𝓡.env in
     let R : RattleType = param 0 T in let En = F.ended T in let c = F.clauses T 𝓛 𝓜.mem 𝓡.returns in
     let inst = layouts (a_type ∷ []) (T, tt) in
