@@ -21,6 +21,10 @@ READ_LINES = ("get KEY", "contains_key KEY", "len", "is_empty", "back")
 POP_LINES = ("3 pop_front", "3 pop_back")
 SIZE_LINES = ("room SIZE", "capacity SIZE", "under SIZE")
 ROOM_LINES = ("3 reserve SIZE", "3 try_reserve SIZE", "5 shrink", "4 clone")
+#: calls of a map and of a set that request no memory
+SHARED_FREE = (
+    *("front", "len", "pop_front", "pop_back", "clear", "iter next back", "drain next", "both eq", "both hash"),
+)
 
 
 class Model(Entries, Cursors):
@@ -66,23 +70,18 @@ class Model(Entries, Cursors):
             "map\nextend 1 10 2 20 3 30\nremove 3",
             {
                 0: (
-                    "front",
+                    *SHARED_FREE,
                     "back_value_mut 5",
-                    "len",
-                    "clear",
                     "reserve 1",
                     "try_reserve 1",
-                    "pop_back",
                     "retain even",
                     "retain_with_order even",
                     "retain_from even",
-                    "iter next back",
                     "keys next back",
                     "values next back",
                     "iter_mut next back",
                     "iter_mut peek value value_back",
                     "values_mut next back",
-                    "drain next",
                     "cursor front next prev at",
                     "cursor front write 7 write_pair 7 write_next 7 write_prev 7",
                     "cursor front entry",
@@ -91,10 +90,8 @@ class Model(Entries, Cursors):
                     "front_entry to_back",
                     "front_entry into_key",
                     "back_entry remove_entry",
-                    "both eq",
                     "both less",
                     "both cmp",
-                    "both hash",
                 ),
                 1: (
                     "get 1",

@@ -1,6 +1,6 @@
 """The models' answers to the lines of sets. An element is a key whose value is its own name."""
 
-from .model import POP_LINES, ROOM_LINES, SIZE_LINES, Model
+from .model import POP_LINES, ROOM_LINES, SHARED_FREE, SIZE_LINES, Model
 from .words import MEMORY, NOTHING, item_word
 
 
@@ -38,19 +38,12 @@ class SetModel(Model):
             "set\nextend 1 2 3\nremove 3",
             {
                 0: (
-                    "front",
-                    "pop_front",
-                    "pop_back",
-                    "clear",
-                    "iter next back",
+                    *SHARED_FREE,
                     "retain odd",
                     "retain_with_order odd",
-                    "drain next",
                     "both is_subset",
                     "both is_superset",
                     "both is_disjoint",
-                    "both eq",
-                    "both hash",
                     "both union 3",
                     "both intersection 3",
                     "both difference 3",
