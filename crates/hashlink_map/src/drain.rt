@@ -97,8 +97,7 @@ impl<'a, K: Eq + Hash + Drop, V: Drop, S: BuildHasher> Iterator for Drain<'a, K,
         ensures upper { IfSome result.1 (UpTo (at_most (length (drain_rest self.now)))) }
         ensures exact { result ≡ (length (drain_rest self.now), Some (length (drain_rest self.now))) }
     {
-        let left = self.drained.len();
-        (left, Some(left))
+        (self.drained.len(), Some(self.drained.len()))
     }
 }
 

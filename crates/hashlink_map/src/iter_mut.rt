@@ -148,10 +148,8 @@ impl<'a, K: Eq + Hash, V, S: BuildHasher> IterMut<'a, K, V, S> {
         ensures value { LentValue (first_of (walk_rest (walk_state self.old))) result }
         ensures left { HasLeft (walk_state self.old) result }
     {
-        match self.places.take_first(self.map) {
-            Some(node) => Some(self.map.value_at_mut(node)),
-            None => None,
-        }
+        let node = self.places.take_first(self.map)?;
+        Some(self.map.value_at_mut(node))
     }
 
     /// Returns a mutable reference to the next value from the back, or `None` if none is left. It takes
@@ -162,10 +160,8 @@ impl<'a, K: Eq + Hash, V, S: BuildHasher> IterMut<'a, K, V, S> {
         ensures value { LentValue (last_of (walk_rest (walk_state self.old))) result }
         ensures left { HasLeft (walk_state self.old) result }
     {
-        match self.places.take_last(self.map) {
-            Some(node) => Some(self.map.value_at_mut(node)),
-            None => None,
-        }
+        let node = self.places.take_last(self.map)?;
+        Some(self.map.value_at_mut(node))
     }
 
     /// Returns the number of entries that are left. It takes constant time.

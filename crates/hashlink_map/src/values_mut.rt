@@ -36,10 +36,8 @@ impl<'a, K: Eq + Hash, V, S: BuildHasher> ValuesMut<'a, K, V, S> {
         ensures value { LentValue (first_of (walk_rest (values_state self.old))) result }
         ensures left { HasLeft (values_state self.old) result }
     {
-        match self.places.take_first(self.map) {
-            Some(node) => Some(self.map.value_at_mut(node)),
-            None => None,
-        }
+        let node = self.places.take_first(self.map)?;
+        Some(self.map.value_at_mut(node))
     }
 
     /// Returns a mutable reference to the next value from the back, or `None` if none is left. It takes
@@ -50,9 +48,7 @@ impl<'a, K: Eq + Hash, V, S: BuildHasher> ValuesMut<'a, K, V, S> {
         ensures value { LentValue (last_of (walk_rest (values_state self.old))) result }
         ensures left { HasLeft (values_state self.old) result }
     {
-        match self.places.take_last(self.map) {
-            Some(node) => Some(self.map.value_at_mut(node)),
-            None => None,
-        }
+        let node = self.places.take_last(self.map)?;
+        Some(self.map.value_at_mut(node))
     }
 }

@@ -72,8 +72,7 @@ impl<'a, T: Eq + Hash + Drop, S: BuildHasher> Iterator for Drain<'a, T, S> {
         ensures upper { IfSome result.1 (UpTo (at_most (length (drain_rest self.now)))) }
         ensures exact { result ≡ (length (drain_rest self.now), Some (length (drain_rest self.now))) }
     {
-        let left = self.drained.len();
-        (left, Some(left))
+        (self.drained.len(), Some(self.drained.len()))
     }
 }
 

@@ -2,12 +2,12 @@ use Rattle.hashlink_map.proofs.{Names.{refl, still_standing}, Walking.{lent-take
 use Rattle.hashlink_map.proofs.values_mut.ValuesMut+K+V+S.next.Goals as goal
 
 pub invariant_of-self-lent : goal.invariant_of-self-lent
-invariant_of-self-lent g c w = (still_standing w c.args.self.now.map.now.nodes _ c.in-Some.ensures.stands, tt)
+invariant_of-self-lent g c w = (still_standing w c.args.self.now.map.now.nodes _ c.in_ok-node.ensures.stands, tt)
 
-pub returns-in-Some : goal.returns-in-Some
-returns-in-Some g c =
+pub returns : goal.returns
+returns g c =
     let o = c.args.self.now in let m = o.map.now in
-    let n = c.in-Some.node in let takes = c.in-Some.ensures.takes in
+    let n = c.in_ok-node.node in let takes = c.in_ok-node.ensures.takes in
     let lent = lent-taken m o.places c.take_first.new.self n c.value_at_mut.ensures.value _ _ _ takes
     (first-taken m o.places n _ _ takes) in
     ((refl, (λ w. ((refl, lent.0 w), lent.1)), tt), record { lends = tt; value = lent.2; left = takes.2 })
