@@ -1,8 +1,9 @@
 """The calls of random rows: how often a row is of each kind, and a call of each group.
 
-The lines of the calls are in plain_list, beside their answers. A word in capitals is a symbol. It stands for a
-number or an item, which rows.py draws, or for one of the lines of SYMBOLS. A symbol with `?` may be left out, and
-one with `*` may occur any number of times. A number in front of a line is its weight among the lines.
+The lines of the calls are in plain_list, beside their answers. A word in capitals is a symbol. It stands for
+a number or an item, which rows.py draws, or for one of the lines of SYMBOLS. A symbol with `?` may be left
+out, and one with `*` may occur any number of times. A number in front of a line is its weight among the
+lines.
 """
 
 from plain_list.caches import CacheModel, WeightedModel

@@ -9,7 +9,10 @@ class CacheModel(Model):
     kind = "cache"
 
     LINES = {
-        "read": (*READ_LINES, "2 get KEY", "peek KEY", "2 evicted_by KEY", "peek_lru", "capacity", "raw_read WAY KEY"),
+        "read": (
+            *READ_LINES,
+            *("2 get KEY", "peek KEY", "2 evicted_by KEY", "peek_lru", "capacity", "raw_read WAY KEY"),
+        ),
         "put": (
             *("5 insert KEY VALUE", "5 push KEY VALUE", "3 get_or_insert_with KEY VALUE NEW?"),
             *("3 get_or_try_insert_with KEY MADE", "each RANGE insert n n"),
@@ -33,9 +36,9 @@ class CacheModel(Model):
             "cache 2\nextend 1 10 2 20 3 30",
             {
                 0: (
-                    *("peek_lru", "back", "make_room", "remove_lru", "set_capacity 2", "clear", "inside front"),
-                    *("retain even", "retain_from even", "iter next back", "keys next back", "values next back"),
-                    *("iter_mut next back", "drain next"),
+                    *("peek_lru", "back", "make_room", "remove_lru", "set_capacity 2", "clear"),
+                    *("inside front", "retain even", "retain_from even", "iter next back"),
+                    *("keys next back", "values next back", "iter_mut next back", "drain next"),
                 ),
                 1: (
                     "get 2",

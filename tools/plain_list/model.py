@@ -23,7 +23,8 @@ SIZE_LINES = ("room SIZE", "capacity SIZE", "under SIZE")
 ROOM_LINES = ("3 reserve SIZE", "3 try_reserve SIZE", "5 shrink", "4 clone")
 #: calls of a map and of a set that request no memory
 SHARED_FREE = (
-    *("front", "len", "pop_front", "pop_back", "clear", "iter next back", "drain next", "both eq", "both hash"),
+    *("front", "len", "pop_front", "pop_back", "clear", "iter next back", "drain next"),
+    *("both eq", "both hash"),
 )
 
 

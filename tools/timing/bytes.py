@@ -30,7 +30,8 @@ def print_bytes(sizes, programs):
     """Prints a table of the bytes for each entry, for the programs by their names, and the means."""
     with tempfile.TemporaryDirectory() as room:
         library = f"{room}/bytes.so"
-        subprocess.run(["cc", "-DBYTES", "-O1", "-shared", "-fPIC", "-o", library, PRELOAD, "-ldl"], check=True)
+        words = ["cc", "-DBYTES", "-O1", "-shared", "-fPIC", "-o", library, PRELOAD, "-ldl"]
+        subprocess.run(words, check=True)
         rows = [[bytes_of(it, size, library) for it in programs.values()] for size in sizes]
     print(f"| Entries | {' | '.join(programs)} |")
     print("|---" * (1 + len(programs)) + "|")

@@ -58,7 +58,8 @@ pub(crate) type Cache = LruCache<u64, u64>;
 /// Like `LoneMap`.
 pub(crate) type LoneCache = LruCache<u64, u32>;
 
-/// Makes the call with each item and its index, and returns what it was made on, or `None` if memory runs out.
+/// Makes the call with each item and its index, and returns what it was made on, or `None` if memory runs
+/// out.
 pub(crate) fn filled_by<W: Row<S, T>, S: Drop, T>(state: S, items: &[T]) -> Option<S> {
     let mut state = state;
     let sum = call_each::<10, W, S, T>(&mut state, items, 0);

@@ -56,7 +56,6 @@ pub use Rattle.hashlink_set.specs.Drain as SetDrain
 pub use Rattle.hashlink_set.specs.Made as SetMade
 pub use Rattle.hashlink_set.specs.SetLends
 pub use Rattle.hashlink_lru.specs.Cached
-pub use Rattle.hashlink_lru.specs.Drain as CacheDrain
 pub use Rattle.hashlink_lru.specs.Evicted
 pub use Rattle.hashlink_lru.specs.Lends as CacheLends
 pub use Rattle.hashlink_weighted.specs.Answers

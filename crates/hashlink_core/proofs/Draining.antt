@@ -1,8 +1,8 @@
--- A step at the back of a drain, as a step of the list that it drains.
+-- A step at the back of a drain, and its end, as steps of the list that it drains.
 use Rattle.hashlink_core.proofs.Names.{◌≡◌, ◌-◌, List, [], ◌∷◌, ◌++◌, length, Option, None, Some, refl, sym}
-use Rattle.hashlink_core.proofs.Names.{ap, ◌∙◌, arith, take, length-append, map-append, values_of}
-use Rattle.hashlink_core.specs.Drained.{Drained, GivesLast, state_with}
-use Rattle.hashlink_model.{proofs.Places.last_of-end, specs.MapState.MapState, specs.Steps.PopsBack}
+use Rattle.hashlink_core.proofs.Names.{ap, ◌∙◌, arith, take, length-append, length-map, map-append, values_of}
+use Rattle.hashlink_core.specs.Drained.{Drained, GivesLast, SparesAll, state_with}
+use Rattle.hashlink_model.{proofs.Places.last_of-end, specs.{MapState.MapState, Steps.{Drains, PopsBack}}}
 use Rattle.hashlink_model.specs.Walk.{last_of, before_last_of}
 use Rattle.std.proofs.Math.Seq.{take-append_seam}
 
@@ -39,4 +39,19 @@ module _ {K V S : Type 0} (m : MapState K V S) (d e : Drained K V) where
           };
           hasher = refl;
         };
+      }
+
+  pub drains-all : SparesAll d e → Drains (state_with m d) (state_with m e)
+  drains-all g =
+      let long = length-map d.nodes (λ x. x.1) in
+      record {
+        entries = ap values_of g.nodes;
+        no_more = omega arith;
+        spare = omega (arith, g.spare, long);
+        room = refl;
+        link_writes = record {
+          grows = omega (arith, g.link_writes);
+          bound = omega (arith, g.link_writes, long);
+        };
+        hasher = refl;
       }

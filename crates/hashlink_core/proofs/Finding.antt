@@ -1,5 +1,5 @@
--- Finding nodes by the table: a key's, and one that left the ring. A node with a number that is no short hash,
--- its mark, can be distinguished from another one.
+-- Finding nodes by the table: a key's, and one that left the ring. A node with a number that is no short
+-- hash, its mark, can be distinguished from another one.
 use Rattle.hashlink_core.proofs.Names
 use Names.{◌++◌, ◌≡◌, ℕ, ◌^◌, ◌<◌, ◌≤◌, Bool, true, false, cond, eqb, eqb-true, eq-eqb, List, ◌∷◌, Option}
 use Names.{None, Some, refl, ap, sym, subst, ◌∙◌, arith, ◌⊎◌, inl, inr, length, Bor, IsEquivalence, Shared}
@@ -151,7 +151,8 @@ module _ {K V : Type 0} {eq : K → K → Bool} {hash : K → ℕ} {r : Ring K V
     found-left : (m : Node)
         → lookup (same_node m) s.entries ≡ cond (same_node n m) None (lookup (same_node m) r.entries)
     found-left m = ap (lookup (same_node m)) d.entries
-        ∙ lookup-remove_entry same_node_equiv (same_node n) (λ x y e. same_node_equiv.congr n x y e) m r.entries
+        ∙ lookup-remove_entry same_node_equiv (same_node n) (λ x y e. same_node_equiv.congr n x y e) m
+        r.entries
         step.apart
 
     -- a node of the table is n, or has the entry that it had

@@ -1,5 +1,5 @@
 -- The nodes that a drain took out of a keyed list, as contracts see them.
-use Rattle.std.specs.Prelude.{◌≡◌, ℕ, ◌+◌, ◌≤◌, List, [], ◌∷◌, ◌++◌, length, Option, None, IfSome}
+use Rattle.std.specs.Prelude.{◌≡◌, ℕ, ◌+◌, ◌*◌, ◌≤◌, List, [], ◌∷◌, ◌++◌, length, Option, None, IfSome}
 use Rattle.std.specs.{Prelude.MatchOption, Map.{keys_of, values_of}}
 use Rattle.hashlink_nodes.specs.{declared.node.Node.Node, Ring.{Ring, next_place, prev_place}}
 use Rattle.hashlink_model.specs.MapState.{MapState, map_state}
@@ -25,6 +25,12 @@ module _ {K V : Type 0} where
   pub record Spares (old new : Drained K V) : Type 0 where
     pub spare : new.spare ≡ old.spare + 1
     pub link_writes : new.link_writes ≡ old.link_writes + 3
+
+  -- the entries were dropped, their nodes are free, and three links were stored for each
+  pub record SparesAll (old new : Drained K V) : Type 0 where
+    pub nodes : new.nodes ≡ []
+    pub spare : new.spare ≡ old.spare + length old.nodes
+    pub link_writes : new.link_writes ≡ old.link_writes + 3 * length old.nodes
 
   -- the pair of the first node was returned, and the node is free
   pub record SparesFirst (old new : Drained K V) (p : K × V) : Type 0 where

@@ -1,6 +1,6 @@
 //! The nodes of a keyed list during a drain.
 ghost use Rattle.std.specs.{Prelude.{◌≡◌, length}, Map.values_of};
-ghost use Rattle.hashlink_core.specs.Drained.{GivesFirst, GivesLast};
+ghost use Rattle.hashlink_core.specs.Drained.{GivesFirst, GivesLast, SparesAll};
 
 use crate::iter::Iter;
 use hashlink_nodes::{Node, Nodes};
@@ -39,6 +39,16 @@ impl<K, V> DrainedNodes<K, V> {
         ensures { result ≡ values_of self.now.nodes }
     {
         Iter::new(&self.nodes)
+    }
+
+    /// Drops the entries. Their nodes are then free. It stores three links for each entry.
+    pub fn clear(&mut self)
+    where
+        K: Drop,
+        V: Drop,
+        ensures { SparesAll self.old self.new }
+    {
+        self.nodes.detach_all_into_free();
     }
 
     /// Removes the first entry and returns it, or returns `None` if there is none. Its node is then free.

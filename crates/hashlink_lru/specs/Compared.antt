@@ -21,7 +21,8 @@ module _ {K V S T : Type 0} where
   pub caches_per : {eqk : K → K → Bool} {eqv : V → V → Bool} → IsEquivalence eqk → IsPartialEquivalence eqv
       → IsPartialEquivalence (caches_eq eqk eqv)
   caches_per a b =
-      and_per (on_per (λ c. c.capacity) (partial_equiv_from_equiv nat_eq_equiv)) (on_per map_of (maps_per a b))
+      and_per (on_per (λ c. c.capacity) (partial_equiv_from_equiv nat_eq_equiv))
+      (on_per map_of (maps_per a b))
 
   pub caches_alike : {W : Type 0} {eqk : K → K → Bool} {eqv : V → V → Bool} {hashk : K → List W}
       {hashv : V → List W}

@@ -10,7 +10,8 @@ use Rattle.std.{proofs.Common.drop, specs.Prelude.{Option, Some, None}}
 use Rattle.std.specs.Borrow.{Fml, GName, name_if_some}
 use Rattle.hashlink_map.specs.contracts.as_node.NodeAsNode.TheImpl
 use Rattle.hashlink_map.specs.contracts.iter_mut.IterMut as walk
-use Rattle.hashlink_map.specs.IterMutLends.{walk_with_value, LendsAtWalkNode, LendsPairThere}
+use Rattle.hashlink_map.specs.declared.iter_mut.OfEntries.{OfEntries}
+use Rattle.hashlink_map.specs.IterMutLends.{walk_with_value, LendsAtWalkNode, LendsPairThere, entries_row}
 use Rattle.hashlink_map.proofs.Walking.{written-there, first-taken, last-taken}
 use Rattle.hashlink_map.{proofs.LendAtPlace.{Lending, LendingAt}, specs.IterMut.{walk_map, walk_state}}
 use Rattle.hashlink_map.specs.IterMutLends.{LendsPairFromWalk, LentFrom, StaysThere, StepsAndWrites, TakesOff}
@@ -20,10 +21,10 @@ use types.Kit.{‵, ◌$◌, ◌∵◌, !, qed, fpick, fpack, rewrite, done}
 
 module _ {K V S T : Type 0} {g : EqGhosts K} {h : HashGhosts K} {b : BuilderGhosts S T}
     {w : HasherGhosts T}
-    {N : Type 0} {n : NodeGhosts N} (i : IterMut K V S N T g h b w n) (at : Node) (v : V) where
+    {N L : Type 0} {n : NodeGhosts N} (i : IterMut K V S N L T g h b w n) (at : Node) (v : V) where
   -- whatever proves that its places are still in the list
   pub walk_with_value-is : (p : StandsIn n.node (with_value_at i.map.now at v).nodes i.places)
-      → record { map = record i.map { now = with_value_at i.map.now at v }; places = i.places; stands = p }
+      → record i { map = record i.map { now = with_value_at i.map.now at v }; stands = p }
       ≡ walk_with_value i at v
   walk_with_value-is p =
       ap (λ q. record (walk_with_value i at v) { stands = q })
@@ -32,12 +33,12 @@ module _ {K V S T : Type 0} {g : EqGhosts K} {h : HashGhosts K} {b : BuilderGhos
 -- from the walk with a place taken off to the walk as it was
 module _ {K V S T : Type 0} {g : EqGhosts K} {h : HashGhosts K} {b : BuilderGhosts S T}
     {w : HasherGhosts T}
-    {N : Type 0} {n : NodeGhosts N} (old mid : MutBor (IterMut K V S N T g h b w n)) (j : ℕ)
+    {N L : Type 0} {n : NodeGhosts N} (old mid : MutBor (IterMut K V S N L T g h b w n)) (j : ℕ)
     (stepped : WritingWalk K V S) where
   pub steps-on : (taken : Option Node) (r : Option (Bor K × MutBor V))
       → LentFrom (walk_map mid.now).now taken r
       → TakesOff walk_map walk_state old j stepped mid taken
-      → (new : IterMut K V S N T g h b w n) (v : V)
+      → (new : IterMut K V S N L T g h b w n) (v : V)
       → OnSome r (StepsAndWrites walk_map walk_state mid.now new (walk_state mid.now)
       (place_number (walk_map mid.now).now.nodes taken) v)
       → OnSome r (StepsAndWrites walk_map walk_state old.now new stepped j v)
@@ -53,7 +54,7 @@ module _ {K V S T : Type 0} {g : EqGhosts K} {h : HashGhosts K} {b : BuilderGhos
   pub stays-on : (taken : Option Node) (r : Option (Bor K × MutBor V))
       → LentFrom (walk_map mid.now).now taken r
       → TakesOff walk_map walk_state old j stepped mid taken
-      → (new : IterMut K V S N T g h b w n)
+      → (new : IterMut K V S N L T g h b w n)
       → StaysThere walk_map walk_state mid.now new
       → IfNone r (StaysThere walk_map walk_state old.now new)
   stays-on None None lent t new told = (told.0 ∙ t.same_map, told.1 ∙ t.unchanged, told.2 ∙ t.takes.1)
@@ -63,7 +64,7 @@ module _ {K V S T : Type 0} {g : EqGhosts K} {h : HashGhosts K} {b : BuilderGhos
 
 -- the place that was taken, and the pair there
 module _ {K V S T : Type 0} {g : EqGhosts K} {h : HashGhosts K} {b : BuilderGhosts S T}
-    {w : HasherGhosts T} (old mid : MutBor (IterMut K V S Node T g h b w TheImpl.ghosts)) where
+    {w : HasherGhosts T} (old mid : MutBor (IterMut K V S Node OfEntries T g h b w TheImpl.ghosts)) where
   pub step-is_place : (j : ℕ) (stepped : WritingWalk K V S) (taken : Option Node)
       → TakesOff walk_map walk_state old j stepped mid taken
       → IsPlace (walk_map mid.now).now.nodes taken
@@ -105,10 +106,10 @@ module _ {K V S T : Type 0} {g : EqGhosts K} {h : HashGhosts K} {b : BuilderGhos
 module _ (K V S T : RattleType) (g : EqGhosts K.Denot) (h : HashGhosts K.Denot)
     (b : BuilderGhosts S.Denot T.Denot) (w : HasherGhosts T.Denot) where
   abbrev Walk : Type 0
-  Walk = IterMut K.Denot V.Denot S.Denot Node T.Denot g h b w TheImpl.ghosts
+  Walk = IterMut K.Denot V.Denot S.Denot Node OfEntries T.Denot g h b w TheImpl.ghosts
 
   abbrev Row : RattleType
-  Row = walk.the_row (record { mir = named 1; lft = [] }) K V S node_row T g h b w TheImpl.ghosts
+  Row = walk.the_row (record { mir = named 1; lft = [] }) K V S node_row entries_row T g h b w TheImpl.ghosts
 
   abbrev Pair : Type 0
   Pair = Option (Bor K.Denot × MutBor V.Denot)
@@ -175,10 +176,12 @@ module _ (K V S T : RattleType) (g : EqGhosts K.Denot) (h : HashGhosts K.Denot)
 module _ (K V S T : RattleType) (LK : Laws K) (LV : Laws V) (p : EqGhosts K.Denot) (h : HashGhosts K.Denot)
     (b : BuilderGhosts S.Denot T.Denot) (w : HasherGhosts T.Denot) where
   abbrev pub Writer : NamedLft → RattleType
-  Writer ℓ = walk.the_row ℓ (param 0 K) (param 1 V) (param 2 S) node_row (param 3 T) p h b w TheImpl.ghosts
+  Writer ℓ =
+      walk.the_row ℓ (param 0 K) (param 1 V) (param 2 S) node_row entries_row (param 3 T) p h b w
+      TheImpl.ghosts
 
   abbrev Held : Type 0
-  Held = IterMut K.Denot V.Denot S.Denot Node T.Denot p h b w TheImpl.ghosts
+  Held = IterMut K.Denot V.Denot S.Denot Node OfEntries T.Denot p h b w TheImpl.ghosts
 
   abbrev State : Type 0
   State = WritingWalk K.Denot V.Denot S.Denot

@@ -7,10 +7,11 @@ use Rattle.hashlink_map.specs.Bounds.{EqGhosts, HashGhosts, HasherGhosts, Builde
 use Rattle.hashlink_core.specs.{Keyed.{Keyed, entries_of}, Places.{Node, place_number}}
 use Rattle.hashlink_core.specs.KeyedLends.{node_row, with_value_at}
 use Rattle.hashlink_map.specs.contracts.iter_mut.IterMut as walk
-use Rattle.hashlink_map.specs.contracts.values_mut.ValuesMut as values
+use Rattle.hashlink_map.specs.contracts.iter_mut.OfEntries as of_entries
+use Rattle.hashlink_map.specs.contracts.iter_mut.OfValues as of_values
 use Rattle.hashlink_map.specs.WritingWalk.{WritingWalk, TakesPlace, walk_with, after_front, after_back}
-use Rattle.hashlink_map.specs.declared.{iter_mut.IterMut.IterMut, values_mut.ValuesMut.ValuesMut}
-use Rattle.hashlink_map.specs.{IterMut.{walk_map, walk_state, values_map, values_state}, Cursor.lent_pair}
+use Rattle.hashlink_map.specs.declared.iter_mut.{IterMut.IterMut, OfEntries.OfEntries}
+use Rattle.hashlink_map.specs.{IterMut.{walk_map, walk_state}, Cursor.lent_pair}
 use Rattle.hashlink_map.specs.{WritingWalk.last_place, Standing.still_standing}
 
 -- a walk of any type, by the map that it borrows and its state
@@ -52,9 +53,9 @@ LentValue e r = option_copied_mut r ≡ option_map (λ e. e.1) e
 
 module _ {K V S T : Type 0} {g : EqGhosts K} {h : HashGhosts K} {b : BuilderGhosts S T}
     {w : HasherGhosts T}
-    {N : Type 0} {n : NodeGhosts N} where
+    {N L : Type 0} {n : NodeGhosts N} where
   -- the walk with v as the value of the node
-  abbrev pub walk_with_value : IterMut K V S N T g h b w n → Node → V → IterMut K V S N T g h b w n
+  abbrev pub walk_with_value : IterMut K V S N L T g h b w n → Node → V → IterMut K V S N L T g h b w n
   walk_with_value i at v =
       let ns = i.map.now.nodes in
       record i {
@@ -62,74 +63,65 @@ module _ {K V S T : Type 0} {g : EqGhosts K} {h : HashGhosts K} {b : BuilderGhos
         stands = still_standing v ns (place_number ns (Some at)) i.stands;
       }
 
-module _ (K V S T : RattleType) {g : EqGhosts K.Denot} {h : HashGhosts K.Denot}
+-- the rows of the marks
+abbrev pub entries_row : RattleType
+entries_row = of_entries.the_row
+
+abbrev pub values_row : RattleType
+values_row = of_values.the_row
+
+module _ (K V S L T : RattleType) {g : EqGhosts K.Denot} {h : HashGhosts K.Denot}
     {b : BuilderGhosts S.Denot T.Denot}
     {w : HasherGhosts T.Denot} {n : NodeGhosts Node} where
   -- the walk ends as `stepped`, with the written value at the place j; if none was left, it ends as it was.
   -- Its lifetime is the second of the signature
-  abbrev pub LendsFromWalk : MutBor (IterMut K.Denot V.Denot S.Denot Node T.Denot g h b w n)
+  abbrev pub LendsFromWalk : MutBor (IterMut K.Denot V.Denot S.Denot Node L.Denot T.Denot g h b w n)
       → WritingWalk K.Denot V.Denot S.Denot → ℕ → Option (MutBor V.Denot)
       → Fml
   LendsFromWalk i stepped j r =
-      LendsSo (walk.the_row (record { mir = named 1; lft = [] }) K V S node_row T g h b w n) V i r
+      LendsSo (walk.the_row (record { mir = named 1; lft = [] }) K V S node_row L T g h b w n) V i r
       (λ new v. StepsBy walk_map walk_state r i.now new stepped j v)
       (λ new. IfNone r (StaysThere walk_map walk_state i.now new))
 
   -- the first place left is taken off, and its value lent; then the same for the last place
-  abbrev pub LendsFirst : MutBor (IterMut K.Denot V.Denot S.Denot Node T.Denot g h b w n)
+  abbrev pub LendsFirst : MutBor (IterMut K.Denot V.Denot S.Denot Node L.Denot T.Denot g h b w n)
       → Option (MutBor V.Denot)
       → Fml
   LendsFirst i r = LendsFromWalk i (after_front (walk_state i.now)) (walk_state i.now).at r
 
-  abbrev pub LendsLast : MutBor (IterMut K.Denot V.Denot S.Denot Node T.Denot g h b w n)
+  abbrev pub LendsLast : MutBor (IterMut K.Denot V.Denot S.Denot Node L.Denot T.Denot g h b w n)
       → Option (MutBor V.Denot)
       → Fml
   LendsLast i r = LendsFromWalk i (after_back (walk_state i.now)) (last_place (walk_state i.now)) r
 
-  -- the same for the walk over the values only
-  abbrev pub LendsFromValues : MutBor (ValuesMut K.Denot V.Denot S.Denot Node T.Denot g h b w n)
-      → WritingWalk K.Denot V.Denot S.Denot → ℕ → Option (MutBor V.Denot)
-      → Fml
-  LendsFromValues i stepped j r =
-      LendsSo (values.the_row (record { mir = named 1; lft = [] }) K V S node_row T g h b w n) V i r
-      (λ new v. StepsBy values_map values_state r i.now new stepped j v)
-      (λ new. IfNone r (StaysThere values_map values_state i.now new))
-
-  abbrev pub LendsFirstValue : MutBor (ValuesMut K.Denot V.Denot S.Denot Node T.Denot g h b w n)
-      → Option (MutBor V.Denot)
-      → Fml
-  LendsFirstValue i r = LendsFromValues i (after_front (values_state i.now)) (values_state i.now).at r
-
-  abbrev pub LendsLastValue : MutBor (ValuesMut K.Denot V.Denot S.Denot Node T.Denot g h b w n)
-      → Option (MutBor V.Denot)
-      → Fml
-  LendsLastValue i r =
-      LendsFromValues i (after_back (values_state i.now)) (last_place (values_state i.now)) r
-
+-- an iterator that lends each value with its key
+module _ (K V S T : RattleType) {g : EqGhosts K.Denot} {h : HashGhosts K.Denot}
+    {b : BuilderGhosts S.Denot T.Denot}
+    {w : HasherGhosts T.Denot} {n : NodeGhosts Node} where
   -- the walk ends with the written value at the node
-  abbrev pub LendsAtWalkNode : MutBor (IterMut K.Denot V.Denot S.Denot Node T.Denot g h b w n)
+  abbrev pub LendsAtWalkNode : MutBor (IterMut K.Denot V.Denot S.Denot Node OfEntries T.Denot g h b w n)
       → Node → MutBor V.Denot
       → Fml
   LendsAtWalkNode i at r =
-      Lends (walk.the_row (record { mir = named 1; lft = [] }) K V S node_row T g h b w n) V i r
+      Lends (walk.the_row (record { mir = named 1; lft = [] }) K V S node_row entries_row T g h b w n) V i r
       (walk_with_value i.now at)
 
   -- the walk ends with the written value at the place j if a pair of it is lent, and else as it was
-  abbrev pub LendsPairThere : MutBor (IterMut K.Denot V.Denot S.Denot Node T.Denot g h b w n) → ℕ
-      → Option (Bor K.Denot × MutBor V.Denot)
+  abbrev pub LendsPairThere : MutBor (IterMut K.Denot V.Denot S.Denot Node OfEntries T.Denot g h b w n)
+      → ℕ → Option (Bor K.Denot × MutBor V.Denot)
       → Fml
   LendsPairThere i j r =
-      follows_so (walk.the_row (record { mir = named 1; lft = [] }) K V S node_row T g h b w n) V i.ghost_name
-      (name_if_some (λ p. p.1.ghost_name) r)
+      follows_so (walk.the_row (record { mir = named 1; lft = [] }) K V S node_row entries_row T g h b w n) V
+      i.ghost_name (name_if_some (λ p. p.1.ghost_name) r)
       (λ v new. OnSome r (StepsAndWrites walk_map walk_state i.now new (walk_state i.now) j v))
       (λ new. StaysThere walk_map walk_state i.now new)
 
   -- `LendsFromWalk` for a value that is lent together with its key
-  abbrev pub LendsPairFromWalk : MutBor (IterMut K.Denot V.Denot S.Denot Node T.Denot g h b w n)
+  abbrev pub LendsPairFromWalk : MutBor (IterMut K.Denot V.Denot S.Denot Node OfEntries T.Denot g h b w n)
       → WritingWalk K.Denot V.Denot S.Denot → ℕ → Option (Bor K.Denot × MutBor V.Denot)
       → Fml
   LendsPairFromWalk i stepped j r =
-      follows_so (walk.the_row (record { mir = named 1; lft = [] }) K V S node_row T g h b w n) V i.ghost_name
-      (name_if_some (λ p. p.1.ghost_name) r)
+      follows_so (walk.the_row (record { mir = named 1; lft = [] }) K V S node_row entries_row T g h b w n) V
+      i.ghost_name (name_if_some (λ p. p.1.ghost_name) r)
       (λ v new. OnSome r (StepsAndWrites walk_map walk_state i.now new stepped j v))
       (λ new. IfNone r (StaysThere walk_map walk_state i.now new))

@@ -1,5 +1,5 @@
 //! Debug texts.
-use crate::drain::Drain;
+use crate::drain::{DrainOf, Drainable};
 use crate::entry::{Entry, OccupiedEntry, VacantEntry};
 use crate::iter_mut::IterMut;
 use crate::map::LinkedHashMap;
@@ -17,8 +17,7 @@ impl<K: Eq + Hash + fmt::Debug, V: fmt::Debug, S: BuildHasher> fmt::Debug
     }
 }
 
-impl<'a, K: Eq + Hash + fmt::Debug, V: fmt::Debug, S: BuildHasher> fmt::Debug
-    for Drain<'a, K, V, S> {
+impl<'a, C: Drainable<K, V>, K: fmt::Debug, V: fmt::Debug> fmt::Debug for DrainOf<'a, C, K, V> {
     fn fmt<W: fmt::Write>(&self, f: &mut fmt::Formatter<W>) -> fmt::Result {
         self.drained.iter().fmt(f)
     }

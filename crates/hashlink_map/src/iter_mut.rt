@@ -2,61 +2,43 @@
 //! sees it as the map's state, the index of the first place left, and the number of entries left.
 ghost use Rattle.std.specs.{Prelude.{◌≡◌, Some, length, slice_get}, Borrow.sem, Map.Iter.deref_pair};
 ghost use Rattle.std.specs.Option.{option_map};
-ghost use Rattle.hashlink_core.specs.{Keyed.{entries_of, state_of}, Places.{Holds, IsPlace, place_number}};
+ghost use Rattle.hashlink_core.specs.{Keyed.entries_of, Places.{Holds, IsPlace, place_number}};
 ghost use Rattle.hashlink_model.specs.Walk.{first_of, last_of};
 ghost use Rattle.hashlink_map.specs.WritingWalk.{StandsIn, StandsIn-prop};
 
 use crate::as_node::AsNode;
 use crate::map::LinkedHashMap;
 use crate::places_left::PlacesLeft;
-use crate::values_mut::ValuesMut;
 use hashlink_core::{DefaultHashBuilder, Node};
 use std::hash::{BuildHasher, Hash};
+use std::marker::PhantomData;
+
+/// The mark of an iterator that lends each value with its key.
+pub struct OfEntries;
+
+/// The mark of an iterator that lends the values only.
+pub struct OfValues;
 
 /// A lending iterator over the entries of a map, from front to back, with mutable references to the values.
 #[derive(Drop)]
-pub struct IterMut<'a, K: Eq + Hash, V, S: BuildHasher = DefaultHashBuilder, N: AsNode = Node> {
+pub struct IterMut<
+    'a,
+    K: Eq + Hash,
+    V,
+    S: BuildHasher = DefaultHashBuilder,
+    N: AsNode = Node,
+    L = OfEntries,
+> {
     pub(crate) map: &'a mut LinkedHashMap<K, V, S>,
     pub(crate) places: PlacesLeft<N>,
+    pub(crate) lends: PhantomData<L>,
     ghost stands: { StandsIn N.node map.now.nodes places } by { StandsIn-prop N.node map.now.nodes places },
-}
-
-impl<K: Eq + Hash, V, S: BuildHasher> LinkedHashMap<K, V, S> {
-    ghost use Rattle.hashlink_map.specs.IterMut.{walk_map, walk_state, values_map, values_state};
-    ghost use Rattle.hashlink_map.specs.WritingWalk.{writing_walk};
-
-    /// Returns a lending iterator over the entries, from front to back, with mutable references to the
-    /// values. It takes constant time and does not allocate.
-    pub fn iter_mut(&mut self) -> IterMut<'_, K, V, S>
-        ensures same_map { (walk_map result).ghost_name ≡ self.entry.ghost_name }
-        ensures unchanged { (walk_map result).now ≡ self.old }
-        ensures rest { walk_state result ≡ writing_walk (state_of self.old) 0 (length (entries_of self.old)) }
-    {
-        IterMut {
-            places: PlacesLeft::all(self),
-            map: self,
-        }
-    }
-
-    /// Returns a lending iterator over the values, from front to back, with mutable references to them. It
-    /// takes constant time and does not allocate.
-    pub fn values_mut(&mut self) -> ValuesMut<'_, K, V, S>
-        ensures same_map { (values_map result).ghost_name ≡ self.entry.ghost_name }
-        ensures unchanged { (values_map result).now ≡ self.old }
-        ensures rest { values_state result ≡ writing_walk (state_of self.old) 0
-            (length (entries_of self.old)) }
-    {
-        ValuesMut {
-            places: PlacesLeft::all(self),
-            map: self,
-        }
-    }
 }
 
 impl<'a, K: Eq + Hash, V, S: BuildHasher> IterMut<'a, K, V, S> {
     ghost use Rattle.hashlink_map.specs.IterMutLends.{LendsAtWalkNode, LendsPairThere, LendsPairFromWalk};
     ghost use Rattle.hashlink_map.specs.{Cursor.lent_pair, IterMut.{walk_map, walk_state}};
-    ghost use Rattle.hashlink_map.specs.IterMutLends.{LendsFirst, LendsLast, LentFrom, LentValue, TakesOff};
+    ghost use Rattle.hashlink_map.specs.IterMutLends.{LentFrom, TakesOff};
     ghost use Rattle.hashlink_map.specs.WritingWalk.{HasLeft, walk_rest, after_front, after_back, last_place};
 
     /// Returns the pair of the node.
@@ -139,12 +121,18 @@ impl<'a, K: Eq + Hash, V, S: BuildHasher> IterMut<'a, K, V, S> {
         }
         Some(self.map.pair_at(self.places.first))
     }
+}
+
+impl<'a, K: Eq + Hash, V, S: BuildHasher, L> IterMut<'a, K, V, S, Node, L> {
+    ghost use Rattle.hashlink_map.specs.IterMut.{walk_state};
+    ghost use Rattle.hashlink_map.specs.IterMutLends.{LendsFirst, LendsLast, LentValue};
+    ghost use Rattle.hashlink_map.specs.WritingWalk.{HasLeft, walk_rest};
 
     /// Returns a mutable reference to the next value from the front, or `None` if none is left. It takes
-    /// constant time. Unlike with `next`, a caller can prove exactly what the map is afterwards.
+    /// constant time. Unlike with `IterMut::next`, a caller can prove exactly what the map is afterwards.
     #[inline(always)]
     pub fn next_value(&mut self) -> Option<&mut V>
-        ensures* lends { sem 𝓛 (LendsFirst K.row V.row S.row S.Hasher.row self.entry result) }
+        ensures* lends { sem 𝓛 (LendsFirst K.row V.row S.row L.row S.Hasher.row self.entry result) }
         ensures value { LentValue (first_of (walk_rest (walk_state self.old))) result }
         ensures left { HasLeft (walk_state self.old) result }
     {
@@ -153,10 +141,10 @@ impl<'a, K: Eq + Hash, V, S: BuildHasher> IterMut<'a, K, V, S> {
     }
 
     /// Returns a mutable reference to the next value from the back, or `None` if none is left. It takes
-    /// constant time. Unlike with `next_back`, a caller can prove exactly what the map is afterwards.
+    /// constant time. As with `next_value`, a caller can prove exactly what the map is afterwards.
     #[inline(always)]
     pub fn next_value_back(&mut self) -> Option<&mut V>
-        ensures* lends { sem 𝓛 (LendsLast K.row V.row S.row S.Hasher.row self.entry result) }
+        ensures* lends { sem 𝓛 (LendsLast K.row V.row S.row L.row S.Hasher.row self.entry result) }
         ensures value { LentValue (last_of (walk_rest (walk_state self.old))) result }
         ensures left { HasLeft (walk_state self.old) result }
     {
@@ -164,7 +152,7 @@ impl<'a, K: Eq + Hash, V, S: BuildHasher> IterMut<'a, K, V, S> {
         Some(self.map.value_at_mut(node))
     }
 
-    /// Returns the number of entries that are left. It takes constant time.
+    /// Returns the number of entries or values that are left. It takes constant time.
     pub fn len(&self) -> usize
         ensures { result ≡ (walk_state self.now).left }
     {

@@ -10,6 +10,7 @@ mod compare;
 mod cursor;
 mod debug;
 mod drain;
+mod drain_over;
 mod emptied;
 mod entry;
 mod extend;
@@ -27,7 +28,8 @@ mod values_mut;
 pub use as_drained::AsDrained;
 pub use as_node::AsNode;
 pub use cursor::CursorMut;
-pub use drain::{Drain, put_back, take_nodes};
+pub use drain::{Drain, DrainOf, Drainable};
+pub use drain_over::{drain_of, take_nodes};
 pub use entry::{Entry, OccupiedEntry, VacantEntry};
 pub use hashlink_core::{
     DefaultHashBuilder, DefaultHasher, DrainedNodes, Equivalent, ExtendError, IntoIter, Iter, Keys,

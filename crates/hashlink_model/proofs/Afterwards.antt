@@ -7,7 +7,8 @@ use Rattle.hashlink_model.proofs.Splits.{none_from_lookup, remove_entry-none, re
 use Rattle.hashlink_model.proofs.Finds.{lookup_is, lookup_key_is, stored_key-equal, lookup_entry-without}
 use Rattle.hashlink_model.{proofs.Names.{stored_key, put, moved, moved_at}, specs.Entries.moved_match}
 use Rattle.hashlink_model.proofs.{Splits.{place_of-none, splits}, Distinct.each-left, Finds.lookup-equal}
-use Rattle.hashlink_model.proofs.Puts.{put_back, put_front, lookup_entry-put, none_without, IsEntries-put, puts}
+use Rattle.hashlink_model.proofs.Puts.{put_back, put_front, lookup_entry-put, none_without, puts}
+use Rattle.hashlink_model.proofs.Puts.{IsEntries-put}
 pub use Rattle.hashlink_model.proofs.ByPlace.{moved-there}
 
 pub moved_match-none : {K V : Type 0} (test : K → Bool) (es : List (K × V)) (b : ℕ) → NonePasses test es

@@ -109,5 +109,6 @@ updates-fitted eq laws es mid new budget k v weight put_last d u light kept =
           (sym put_last ∙ s.1) some,
       evicts-others eq es (fitting mid budget) k (λ q n.
           ⊎_elim (λ e. inl e) (λ e. inr (e ∙ ap (lookup (eq q)) (sym s.1) ∙ u.2 q n))
-          (by_found eq laws q s.0 (fitting mid budget) whole (lookup_entry (eq q) (fitting mid budget)) refl)),
+          (by_found eq laws q s.0 (fitting mid budget) whole (lookup_entry (eq q) (fitting mid budget))
+          refl)),
     )

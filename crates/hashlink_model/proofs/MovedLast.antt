@@ -38,7 +38,8 @@ moved_match_last eq laws test tells old new w d at s =
 
 -- ---- if no key passes, nothing is lent, and a write of any value changes nothing
 
-module _ {K V S : Type 0} (test : K → Bool) (m : MapState K V S) (w : V) (none : NonePasses test m.entries) where
+module _ {K V S : Type 0} (test : K → Bool) (m : MapState K V S) (w : V)
+    (none : NonePasses test m.entries) where
   pub writes_none : m ≡ with_match_value test m w
   writes_none = ap (λ es. record m { entries = es }) (sym (set_value-none test m.entries w none))
 

@@ -7,7 +7,8 @@ use Names.{IsEntries, place_of, place_left, put, moved_at, without, set_value_at
 use Rattle.hashlink_model.proofs.ByPlace.{set_value_at-here, set_key_at-here, remove-here, moved_at-last}
 use Rattle.hashlink_model.specs.Entry.{IsRawEntry, raw_entry_of, insert_value, insert_entry, replace_entry}
 use Rattle.hashlink_model.proofs.Distinct.{none_equal, none_others, IsEntries-middle, IsEntries-insert}
-use Rattle.hashlink_model.proofs.{Finds.lookup_entry-middle, Puts.{none_without, unequal}, Splits.stands_from_place}
+use Rattle.hashlink_model.proofs.{Finds.lookup_entry-middle, Puts.{none_without, unequal}}
+use Rattle.hashlink_model.proofs.Splits.{stands_from_place}
 use Rattle.hashlink_model.proofs.Places.{split_at, place_of_its_key}
 use Rattle.hashlink_model.proofs.ByPlace.{moved_at-put, remove-place, length-set_value_at, by_place}
 

@@ -7,7 +7,8 @@ use Names.{Holds, IsRing, IsSound, SoundAt, ring_at, ring_of, walk, entry_of, en
 use Names.{AreThere, nil_from_length}
 use Rattle.std.proofs.{Common.{false, ◌⊎◌, inl, inr}, lemmas.List.Elements.{All-contains, All-from_recursion}}
 use Rattle.std.specs.List.{Contains}
-use Rattle.hashlink_nodes.proofs.{Paths.{all_right, length-walk, walk-linked, walk-chain}, Cuts.{Cut, Gap, cut}}
+use Rattle.hashlink_nodes.proofs.Paths.{all_right, length-walk, walk-linked, walk-chain}
+use Rattle.hashlink_nodes.proofs.Cuts.{Cut, Gap, cut}
 use Rattle.hashlink_nodes.proofs.Rings.{InRing, in_ring}
 
 pub if_some : {X : Type 0} {o : Option X} {x : X} (P : X → Type 0) → o ≡ Some x → P x → IfSome o P
@@ -225,4 +226,5 @@ module _ {K V : Type 0} where
 -- what each node has
 pub ruleset nodes_have = (has_block, has_node, holds, shows, shows_entry)
 
-pub ruleset ring_facts = (known, nodes_have, counted, guard_there, entry_guard, differ, counts_free, none_free)
+pub ruleset ring_facts =
+    (known, nodes_have, counted, guard_there, entry_guard, differ, counts_free, none_free)

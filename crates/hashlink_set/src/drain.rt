@@ -5,7 +5,7 @@ ghost use Rattle.hashlink_core.specs.Drained.{FitsBack, FitsBack-prop};
 ghost use Rattle.hashlink_model.specs.Steps.{Drains};
 
 use crate::set::LinkedHashSet;
-use hashlink_map::{AsDrained, DefaultHashBuilder, DrainedNodes, put_back, take_nodes};
+use hashlink_map::{AsDrained, DefaultHashBuilder, Drainable, DrainedNodes, take_nodes};
 use std::hash::{BuildHasher, Hash};
 use std::iter::FusedIterator;
 
@@ -32,7 +32,9 @@ impl<'a, T: Eq + Hash + Drop, S: BuildHasher, D: AsDrained<T, ()>> Drop for Drai
         ensures { Drains (drained_set self.entry).now self.exit.0.now }
     {
         let Drain { set, drained } = self;
-        put_back(&mut set.map, drained.into_drained());
+        let mut nodes = drained.into_drained();
+        nodes.clear();
+        let _own = set.map.swap_nodes(nodes);
     }
 }
 

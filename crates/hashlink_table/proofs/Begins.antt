@@ -50,7 +50,8 @@ module _ {N : Type 0} {ts : List ℕ} {ns : List N} {rs : List Rest} {fs : List 
   flag_at i low = ap (λ ys. get_or ys i 0) flags ∙ get_or-map flag_of v i bare_cell 0 low
 
   -- the mask of the sixteen bytes from `base` on
-  pub begins_tests : (base bits : ℕ) (bytes : List ℕ) → bits ≡ mask_l (map (λ f. eqb f 1) (chunk base 16 bytes))
+  pub begins_tests : (base bits : ℕ) (bytes : List ℕ)
+      → bits ≡ mask_l (map (λ f. eqb f 1) (chunk base 16 bytes))
       → bytes ≡ fs
       → bits ≡ mask_l (map begins (chunk base 16 v))
   begins_tests base bits bytes is at =

@@ -4,14 +4,16 @@ use Rattle.std.proofs.Common.{◌≡◌, ℕ, ◌^◌, ◌<◌, ◌⊎◌, Bool,
 use Rattle.std.proofs.Common.{[], ◌∷◌, length, get_or, zero, suc, Option, None, Some, option_and_then, map}
 use Rattle.std.proofs.Common.{decimal, refl, sym, ap, ap₂, ◌∙◌, subst, inl, inr, ⊎_elim, arith, lit<, is_none}
 use Rattle.std.specs.{Map.lookup, Option.{option_map, option_map_or}, Str.Parse.{AllDigits, digits_value}}
-use Rattle.std.specs.{List.{All, AllByRecursion, join_with_byte, list_all}, Str.{all_ascii_digits, bytes_eq}}
+use Rattle.std.specs.{List.{All, AllByRecursion, join_with_byte}, Str.{all_ascii_digits, bytes_eq}}
 use Rattle.std.proofs.lemmas.{Bool.{and_parts, not-true, ne_eqb, lt-ltb, ltb-true}, Slice.Eq.bytes_eq-Decides}
 use Rattle.std.proofs.lemmas.{Option.{cond_some, same_Some, none-some}, List.Elements.{All-nil, All-cons}}
 use Rattle.std.proofs.lemmas.{List.Sums.AllPass-from_list_all, Str.Parse.digit_from_value}
 use Rattle.std.proofs.lemmas.List.Splits.{slice_split_none, slice_split_at, join_with_byte-slice_split}
 use Rattle.std.proofs.lemmas.Fmt.{decimal_is_IsNumeral, decimal_digit, first_decimal, decimal-digits_value}
 use Rattle.hashlink_text.specs.Lines.{words_of, begins_as_number, value_of, number_of}
-use Rattle.hashlink_text.specs.Reading.{first_name, by_name, read_in, read_words}
+use Rattle.hashlink_text.specs.Reading.{first_name, by_name, read_in, read_words, word_of, token_of}
+use Rattle.hashlink_text.specs.Reading.{are_names, has_no_space, IsRead, AllNamed, EachNamed, EachFound}
+use Rattle.hashlink_text.specs.Reading.{IsNamed}
 use Rattle.hashlink_text.specs.Spelling.{Word, Name, Number, word_shown, FitsWord, Spells, Says}
 use Rattle.hashlink_text.{specs.Tables.{Token, tokens, numbers_of}, proofs.Digits.digits_model}
 
@@ -74,15 +76,6 @@ number_of-decimal (suc m) low =
 
 -- ---- words as they are read, and the words of a spelling
 
--- the word whose spelling this is
-abbrev pub word_of : List ℕ → Word
-word_of written = option_map_or Number (number_of written) (Name written)
-
--- what is read from a written word
-abbrev pub token_of : Word → Token
-token_of (Name name) = (name, None)
-token_of (Number n) = (decimal n, Some n)
-
 abbrev pub shown : List Word → List (List ℕ)
 shown words = map word_shown words
 
@@ -104,9 +97,6 @@ shown-word_of (word ∷ written) =
 abbrev Spaceless : List ℕ → Type 0
 Spaceless word = All (λ b. nat_eq b 32 ≡ false) word
 
-abbrev has_no_space : List ℕ → Bool
-has_no_space name = list_all (λ b. not (nat_eq b 32)) name
-
 spaceless : (word : List ℕ) → has_no_space word ≡ true → Spaceless word
 spaceless word e = λ k d at. not-true _ (AllPass-from_list_all (λ b. not (nat_eq b 32)) word e k d at)
 
@@ -116,12 +106,6 @@ Spaceless-digits (d ∷ digits) h =
     let digit = digit_from_value d h.0 in
     All-cons (λ b. nat_eq b 32 ≡ false) d digits (ne_eqb d 32 (λ e. omega arith))
     (Spaceless-digits digits h.1)
-
--- each name is a single word, and no number
-abbrev pub are_names : List Word → Bool
-are_names [] = true
-are_names (Name name ∷ words) = has_no_space name && (is_none (number_of name) && are_names words)
-are_names (Number n ∷ words) = are_names words
 
 words_of-join : (word : List ℕ) (words : List (List ℕ)) → AllByRecursion Spaceless (word ∷ words)
     → words_of (join_with_byte 32 (word ∷ words)) ≡ word ∷ words
@@ -152,20 +136,14 @@ tokens-shown (Number n ∷ words) fit e =
 
 module _ {X : Type 0} (spell : X → Option (List Word)) where
   module _ (read : List Token → Option X) where
-    -- if x has words, x is read from them. This is stated in two equations even if there are none, so that
-    -- one proof serves for each
-    abbrev pub IsRead : Option (List Word) → X → Type 0
-    IsRead None x = (true ≡ true) × (Some x ≡ Some x)
-    IsRead (Some words) x = (are_names words ≡ true) × (read (map token_of words) ≡ Some x)
-
-    -- and if x is read from words, it has them
+    -- if x is read from words, it has them
     abbrev pub IsOf : List (List ℕ) → Type 0
     IsOf written = (x : X) → read (tokens written) ≡ Some x → spell x ≡ Some (map word_of written)
 
     pub record IsReader : Type 0 where
       pub empty : read [] ≡ None
       pub from : (written : List (List ℕ)) → IsOf written
-      pub to : (x : X) → IsRead (spell x) x
+      pub to : (x : X) → IsRead read (spell x) x
 
     -- a text means what is read from it
     abbrev pub SaysWhatIsRead : Type 0
@@ -174,7 +152,7 @@ module _ {X : Type 0} (spell : X → Option (List Word)) where
 
 module _ {X : Type 0} {spell : X → Option (List Word)} {read : List Token → Option X}
     (is : IsReader spell read) where
-  read_back : (x : X) (words : List Word) → AllByRecursion FitsWord words → IsRead spell read (Some words) x
+  read_back : (x : X) (words : List Word) → AllByRecursion FitsWord words → IsRead read (Some words) x
       → read (tokens (words_of (join_with_byte 32 (shown words)))) ≡ Some x
   read_back x [] fit h = absurd (none-some x (sym is.empty ∙ h.1))
   read_back x (word ∷ words) fit h =
@@ -193,7 +171,7 @@ module _ {X : Type 0} {spell : X → Option (List Word)} {read : List Token → 
             is = sym (ap (join_with_byte 32) back.0 ∙ join_with_byte-slice_split 32 text);
           },
           λ s. ap (λ t. read (tokens (words_of t))) s.is
-              ∙ read_back x s.words s.fit (subst (λ o. IsRead spell read o x) s.spelled (is.to x)),
+              ∙ read_back x s.words s.fit (subst (λ o. IsRead read o x) s.spelled (is.to x)),
         );
       }
 
@@ -228,11 +206,7 @@ numbers_of-written (word ∷ written) ns e =
     rw (first.1, numbers_of-written written more.0 more.1) (ap (map Number) more.2)
 
 module _ {X : Type 0} (spell : X → Option (List Word)) (among : List ℕ → List X) where
-  -- the spelling of each is its name and the numbers
-  abbrev pub AllNamed : List ℕ → List X → Type 0
-  AllNamed ns xs = map spell xs ≡ map (λ x. Some (word_of (first_name (spell x)) ∷ map Number ns)) xs
-
-  named_so : (ns name : List ℕ) (x : X) (xs : List X) → AllNamed ns xs
+  named_so : (ns name : List ℕ) (x : X) (xs : List X) → AllNamed spell ns xs
       → lookup (bytes_eq name) (map (λ x. (first_name (spell x), x)) xs) ≡ Some x
       → spell x ≡ Some (word_of name ∷ map Number ns)
   named_so ns name x [] all e = cc
@@ -246,13 +220,7 @@ module _ {X : Type 0} (spell : X → Option (List Word)) (among : List ℕ → L
       (chosen (bytes_eq name (first_name (spell y))) (Some y)
       (lookup (bytes_eq name) (map (λ x. (first_name (spell x), x)) xs)) (Some x) e)
 
-  abbrev pub EachNamed : Type 0
-  EachNamed = (ns : List ℕ) → AllNamed ns (among ns)
-
-  abbrev pub EachFound : Type 0
-  EachFound = (x : X) → IsRead spell (read_words spell among) (spell x) x
-
-  module _ (all : EachNamed) where
+  module _ (all : EachNamed spell among) where
     pub read_in-of : (name : List ℕ) (written : List (List ℕ)) (x : X)
         → read_in spell among name (tokens written) ≡ Some x → spell x ≡ Some (map word_of (name ∷ written))
     read_in-of name written x e =
@@ -267,5 +235,10 @@ module _ {X : Type 0} (spell : X → Option (List Word)) (among : List ℕ → L
     read_words-of (name ∷ written) x e = read_in-of name written x e
 
     -- a line that is a name and numbers
-    pub reads_names : EachFound → IsReader spell (read_words spell among)
+    pub reads_names : EachFound spell among → IsReader spell (read_words spell among)
     reads_names found = record { empty = refl; from = read_words-of; to = found }
+
+-- a text means what is read from its words
+pub says_named : {X : Type 0} {spell : X → Option (List Word)} {among : List ℕ → List X} → IsNamed spell among
+    → SaysWhatIsRead spell (read_words spell among)
+says_named {spell = spell} {among = among} is = says_as (reads_names spell among is.named is.found)

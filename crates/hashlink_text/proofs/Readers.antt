@@ -1,12 +1,9 @@
 -- What is read from a line is what it means: for lines to caches, first lines, and lines to a map.
-use Rattle.std.proofs.Common.{◌≡◌, ℕ, zero, suc, true, false, nat_le, List, [], ◌∷◌, ◌++◌, take, drop, map}
+use Rattle.std.proofs.Common.{◌≡◌, ℕ, zero, suc, true, List, [], ◌∷◌, ◌++◌, take, drop, map}
 use Rattle.std.proofs.Common.{Option, Some, option_and_then, refl, codes, sym, ap, ap₂, ◌∙◌, ⊎_elim, cond}
 use Rattle.std.specs.{Option.{option_map, option_map_or}, List.flat_map, Str.bytes_eq}
-use Rattle.std.proofs.lemmas.{Bool.cases_Bool, List.{map-append, take-append-drop, take-map}}
+use Rattle.std.proofs.lemmas.{List.{map-append, take-append-drop, take-map}}
 use Rattle.std.proofs.lemmas.{Option.same_Some, Slice.Eq.bytes_eq-Decides}
-use Rattle.hashlink_run.specs.declared.cache_commands.CacheCommand.TheVariants as cache
-use Rattle.hashlink_run.specs.declared.cache_commands.PairCommand.TheVariants as pair
-use Rattle.hashlink_run.specs.declared.cache_commands.WeightedCommand.TheVariants as weighted
 use Rattle.hashlink_run.specs.declared.commands.{Command.TheVariants.Entry, CursorStep.CursorStep}
 use Rattle.hashlink_run.specs.declared.commands.CursorStep.TheVariants.{Next}
 use Rattle.hashlink_run.specs.declared.commands.EntryStep.TheVariants as step
@@ -16,75 +13,24 @@ use Rattle.hashlink_text.specs.Spelling.{pair_spelled, weighted_spelled, mode_sp
 use Rattle.hashlink_text.specs.Spelling.{entry_steps, Name, Number, Said, Do, Cursor, spelled, step_spelled}
 use Rattle.hashlink_text.specs.{Lines.number_of, Spelling.cursor_step_words, Tables.{Token, tokens}}
 use Rattle.hashlink_text.specs.Reading.{numbers_after, read_in, read_words, some_steps, steps_after}
-use Rattle.hashlink_text.specs.declared.cache_line.CacheLine.TheVariants as cache_line
-use Rattle.hashlink_text.specs.declared.modes.Mode.TheVariants as mode
-use Rattle.hashlink_text.specs.declared.weighted_line.WeightedLine.TheVariants as weighted_line
-use Rattle.hashlink_text.proofs.Grammar.{says_as, EachNamed, EachFound, IsRead, IsReader, IsOf, reads_names}
-use Rattle.hashlink_text.proofs.Grammar.{SaysWhatIsRead, read_in-of, read_words-of, chosen, step_some}
-use Rattle.hashlink_text.proofs.Grammar.{map_some, are_names, word_of, token_of}
+use Rattle.hashlink_text.specs.Reading.{EachNamed, IsRead, are_names, word_of, token_of}
+use Rattle.hashlink_text.specs.Named.{pair_named, cache_named, weighted_named, mode_named}
+use Rattle.hashlink_text.proofs.Grammar.{says_as, IsReader, IsOf, reads_names, SaysWhatIsRead, read_in-of}
+use Rattle.hashlink_text.proofs.Grammar.{read_words-of, chosen, step_some, map_some}
 
 -- ---- lines to caches, and the first line
 
 pub reads_pairs : IsReader pair_spelled (read_words pair_spelled pair_commands)
-reads_pairs = reads_names pair_spelled pair_commands named found
-  where
-    named : EachNamed pair_spelled pair_commands
-    named (k ∷ v ∷ []) = refl
-    named ns = refl
-
-    found : EachFound pair_spelled pair_commands
-    found (pair.Insert k v) = (refl, refl)
-    found command = (refl, refl)
-
-pub says_pair : SaysWhatIsRead pair_spelled (read_words pair_spelled pair_commands)
-says_pair = says_as reads_pairs
+reads_pairs = reads_names pair_spelled pair_commands pair_named.named pair_named.found
 
 pub reads_cache : IsReader cache_spelled (read_words cache_spelled cache_lines)
-reads_cache = reads_names cache_spelled cache_lines named found
-  where
-    named : EachNamed cache_spelled cache_lines
-    named (k ∷ v ∷ []) = refl
-    named ns = refl
-
-    found : EachFound cache_spelled cache_lines
-    found (cache_line.Do (cache.Insert k v)) = (refl, refl)
-    found line = (refl, refl)
-
-pub says_cache : SaysWhatIsRead cache_spelled (read_words cache_spelled cache_lines)
-says_cache = says_as reads_cache
+reads_cache = reads_names cache_spelled cache_lines cache_named.named cache_named.found
 
 pub reads_weighted : IsReader weighted_spelled (read_words weighted_spelled weighted_lines)
-reads_weighted = reads_names weighted_spelled weighted_lines named found
-  where
-    named : EachNamed weighted_spelled weighted_lines
-    named (k ∷ v ∷ w ∷ []) = refl
-    named ns = refl
-
-    found : EachFound weighted_spelled weighted_lines
-    found (weighted_line.Do (weighted.Insert k v w)) = (refl, refl)
-    found line = (refl, refl)
-
-pub says_weighted : SaysWhatIsRead weighted_spelled (read_words weighted_spelled weighted_lines)
-says_weighted = says_as reads_weighted
+reads_weighted = reads_names weighted_spelled weighted_lines weighted_named.named weighted_named.found
 
 pub reads_mode : IsReader mode_spelled (read_words mode_spelled modes)
-reads_mode = reads_names mode_spelled modes named found
-  where
-    named : EachNamed mode_spelled modes
-    named (c ∷ d ∷ []) =
-        ⊎_elim (λ (yes : nat_le c d ≡ true). rw yes (rw yes refl)) (λ (no : nat_le c d ≡ false). rw no refl)
-        (cases_Bool (nat_le c d))
-    named ns = refl
-
-    found : EachFound mode_spelled modes
-    found (mode.Pair c d) =
-        ⊎_elim (λ (yes : nat_le c d ≡ true). rw yes (refl, rw yes (rw yes refl)))
-        (λ (no : nat_le c d ≡ false). rw no (refl, refl))
-        (cases_Bool (nat_le c d))
-    found m = (refl, refl)
-
-pub says_mode : SaysWhatIsRead mode_spelled (read_words mode_spelled modes)
-says_mode = says_as reads_mode
+reads_mode = reads_names mode_spelled modes mode_named.named mode_named.found
 
 -- ---- lines to a map: the steps of an entry
 
@@ -168,7 +114,7 @@ line_of (name ∷ written) x e =
     (chosen (bytes_eq name (codes "entry")) (entry_read (tokens written))
     (cond (bytes_eq name (codes "cursor")) (cursor_read (tokens written)) plain) (Some x) e)
 
-line_found : (x : Said) → IsRead spelled line_read (spelled x) x
+line_found : (x : Said) → IsRead line_read (spelled x) x
 line_found (Do (Entry k step.Get)) = (refl, refl)
 line_found (Cursor []) = (refl, refl)
 line_found (Cursor (step ∷ steps)) =

@@ -4,6 +4,7 @@ pub mod Cuts
 pub mod Tables
 pub mod Spelling
 pub mod Reading
+pub mod Named
 pub mod Transcript
 pub mod CacheTranscript
 pub mod WeightedTranscript

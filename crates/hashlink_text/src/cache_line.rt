@@ -1,7 +1,8 @@
-ghost use Rattle.std.specs.{Prelude.{◌≡◌, [], ◌∷◌}, Map.lookup, Str.bytes_eq};
-ghost use Rattle.hashlink_text.specs.{Reading.by_name, Spelling.{cache_lines, cache_spelled}};
+ghost use Rattle.std.specs.{Prelude.{◌≡◌, [], ◌∷◌, refl}, Map.lookup, Str.bytes_eq};
+ghost use Rattle.hashlink_text.specs.{Named.cache_named, Reading.by_name};
+ghost use Rattle.hashlink_text.specs.Spelling.{cache_lines, cache_spelled};
 
-use crate::named::{Named, meaning_of};
+use crate::named::Named;
 use crate::numbers::Numbers;
 use crate::tables::said_by;
 use crate::words::is;
@@ -18,24 +19,12 @@ pub enum CacheLine {
     Iter,
 }
 
-impl CacheLine {
-    ghost use Rattle.hashlink_text.specs.Spelling.{Says};
-
-    /// Returns the line whose spelling the text is, or `None` if the text is bad. It reads the text once.
-    #[tactic(auto, using(crate::proofs::Readers::says_cache))]
-    pub fn parse(text: &[u8]) -> Option<CacheLine>
-        ensures { Says cache_spelled text.now result }
-    {
-        meaning_of(text)
-    }
-}
-
 impl Named for CacheLine {
-    ghost use Rattle.std.specs.Prelude.{refl};
-
     ghost spelled = { cache_spelled };
 
     ghost among = { cache_lines };
+
+    ghost named = { cache_named };
 
     fn meaning(name: &[u8], numbers: Numbers) -> Option<CacheLine> {
         match numbers {

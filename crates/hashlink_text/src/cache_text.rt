@@ -9,7 +9,7 @@ ghost use Rattle.hashlink_lru.specs.Cached.{state_of};
 use crate::reading::{AnswersLines, answer_lines};
 use crate::shown::Form;
 use crate::text::{push_list, push_replies};
-use crate::{CacheLine, Lines};
+use crate::{CacheLine, Lines, meaning_of};
 use hashlink_lru::LruCache;
 use hashlink_run::answer_cache;
 use std::alloc::{AllocError, Global};
@@ -32,7 +32,7 @@ impl AnswersLines for LruCache<u64, u64> {
     ghost shows = { λ old line text new. CacheLineShows (state_of old) line text (state_of new) };
 
     fn answer_line(&mut self, line: &[u8], out: &mut String) -> Result<(), AllocError> {
-        answer(self, CacheLine::parse(line), out)
+        answer(self, meaning_of(line), out)
     }
 }
 

@@ -1,7 +1,7 @@
-ghost use Rattle.std.specs.{Prelude.{◌≡◌, [], ◌∷◌}, Map.lookup, Str.bytes_eq};
-ghost use Rattle.hashlink_text.specs.{Reading.by_name, Spelling.{modes, Says, mode_spelled}};
+ghost use Rattle.std.specs.{Prelude.{◌≡◌, [], ◌∷◌, refl}, Map.lookup, Str.bytes_eq};
+ghost use Rattle.hashlink_text.specs.{Named.mode_named, Reading.by_name, Spelling.{mode_spelled, modes}};
 
-use crate::named::{Named, meaning_of};
+use crate::named::Named;
 use crate::numbers::Numbers;
 use crate::tables::said_by;
 use crate::words::is;
@@ -19,20 +19,12 @@ pub enum Mode {
     Weighted(u64),
 }
 
-/// Returns the mode whose spelling the line is, or `None` if the line is bad.
-#[tactic(auto, using(crate::proofs::Readers::says_mode))]
-pub fn mode_of(line: &[u8]) -> Option<Mode>
-    ensures { Says mode_spelled line.now result }
-{
-    meaning_of(line)
-}
-
 impl Named for Mode {
-    ghost use Rattle.std.specs.Prelude.{refl};
-
     ghost spelled = { mode_spelled };
 
     ghost among = { modes };
+
+    ghost named = { mode_named };
 
     fn meaning(name: &[u8], numbers: Numbers) -> Option<Mode> {
         match numbers {

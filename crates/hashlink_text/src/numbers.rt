@@ -5,9 +5,9 @@ ghost use Rattle.hashlink_text.specs.Tables.{numbers_of, three_at_most, tokens};
 
 use crate::words::Words;
 
-// The numbers that follow a word, of which there are at most three.
+/// The numbers that follow a word, of which there are at most three.
 #[derive(Clone, Copy)]
-pub(crate) enum Numbers {
+pub enum Numbers {
     Nothing,
     One(u64),
     Two(u64, u64),

@@ -1,26 +1,18 @@
-ghost use Rattle.std.specs.{Prelude.{◌≡◌, [], ◌∷◌}, Map.lookup, Str.bytes_eq};
-ghost use Rattle.hashlink_text.specs.{Reading.by_name, Spelling.{pair_commands, Says, pair_spelled}};
+ghost use Rattle.std.specs.{Prelude.{◌≡◌, [], ◌∷◌, refl}, Map.lookup, Str.bytes_eq};
+ghost use Rattle.hashlink_text.specs.{Named.pair_named, Reading.by_name};
+ghost use Rattle.hashlink_text.specs.Spelling.{pair_commands, pair_spelled};
 
-use crate::named::{Named, meaning_of};
+use crate::named::Named;
 use crate::numbers::Numbers;
 use crate::tables::said_by;
 use hashlink_run::PairCommand;
 
-/// Returns the command to two caches whose spelling the text is, or `None` if the text is bad. It reads the
-/// text once.
-#[tactic(auto, using(crate::proofs::Readers::says_pair))]
-pub fn pair_command(text: &[u8]) -> Option<PairCommand<u64, u64>>
-    ensures { Says pair_spelled text.now result }
-{
-    meaning_of(text)
-}
-
 impl Named for PairCommand<u64, u64> {
-    ghost use Rattle.std.specs.Prelude.{refl};
-
     ghost spelled = { pair_spelled };
 
     ghost among = { pair_commands };
+
+    ghost named = { pair_named };
 
     fn meaning(name: &[u8], numbers: Numbers) -> Option<PairCommand<u64, u64>> {
         match numbers {

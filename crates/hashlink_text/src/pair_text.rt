@@ -8,7 +8,7 @@ ghost use Rattle.hashlink_lru.specs.Cached.{entries_of, state_of};
 
 use crate::shown::Form;
 use crate::text::{push_list, push_reply};
-use crate::{Lines, pair_command};
+use crate::{Lines, meaning_of};
 use hashlink_lru::LruCache;
 use hashlink_run::{PairCommand, Reply, answer_call};
 use std::alloc::{AllocError, Global};
@@ -42,7 +42,7 @@ fn answer_all(
         (entries_of small.old, entries_of large.old) (lines_of lines.entry.rest.now)) out.old out.new) }
 {
     for line in lines {
-        answer(small, large, pair_command(line), out)?;
+        answer(small, large, meaning_of(line), out)?;
     }
     push_lists(small, large, out)
 }

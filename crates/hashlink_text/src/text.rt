@@ -8,7 +8,7 @@ use crate::map_text::run_map_lines;
 use crate::pair_text::run_pair_lines;
 use crate::shown::Form;
 use crate::weighted_text::run_weighted_lines;
-use crate::{Lines, Mode, mode_of};
+use crate::{Lines, Mode, meaning_of};
 use hashlink_map::Iter;
 use hashlink_run::Reply;
 use std::alloc::{AllocError, Global};
@@ -28,7 +28,7 @@ pub fn run_text(alloc: Global, input: &[u8]) -> Result<Vec<u8>, AllocError>
         return Ok(Vec::new(alloc));
     };
     let mut out = String::new(alloc);
-    run_lines(alloc, mode_of(mode), lines, &mut out)?;
+    run_lines(alloc, meaning_of(mode), lines, &mut out)?;
     Ok(out.into_bytes())
 }
 

@@ -1,7 +1,8 @@
-ghost use Rattle.std.specs.{Prelude.{◌≡◌, [], ◌∷◌}, Map.lookup, Str.bytes_eq};
-ghost use Rattle.hashlink_text.specs.{Reading.by_name, Spelling.{weighted_lines, weighted_spelled}};
+ghost use Rattle.std.specs.{Prelude.{◌≡◌, [], ◌∷◌, refl}, Map.lookup, Str.bytes_eq};
+ghost use Rattle.hashlink_text.specs.{Named.weighted_named, Reading.by_name};
+ghost use Rattle.hashlink_text.specs.Spelling.{weighted_lines, weighted_spelled};
 
-use crate::named::{Named, meaning_of};
+use crate::named::Named;
 use crate::numbers::Numbers;
 use crate::tables::said_by;
 use hashlink_run::WeightedCommand;
@@ -19,24 +20,12 @@ pub enum WeightedLine {
     Iter,
 }
 
-impl WeightedLine {
-    ghost use Rattle.hashlink_text.specs.Spelling.{Says};
-
-    /// Returns the line whose spelling the text is, or `None` if the text is bad. It reads the text once.
-    #[tactic(auto, using(crate::proofs::Readers::says_weighted))]
-    pub fn parse(text: &[u8]) -> Option<WeightedLine>
-        ensures { Says weighted_spelled text.now result }
-    {
-        meaning_of(text)
-    }
-}
-
 impl Named for WeightedLine {
-    ghost use Rattle.std.specs.Prelude.{refl};
-
     ghost spelled = { weighted_spelled };
 
     ghost among = { weighted_lines };
+
+    ghost named = { weighted_named };
 
     fn meaning(name: &[u8], numbers: Numbers) -> Option<WeightedLine> {
         match numbers {

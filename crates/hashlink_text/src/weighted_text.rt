@@ -8,7 +8,7 @@ ghost use Rattle.hashlink_text.specs.WeightedTranscript.{WeightedLineShows, Weig
 use crate::reading::{AnswersLines, answer_lines};
 use crate::shown::Form;
 use crate::text::push_replies;
-use crate::{Lines, WeightedLine};
+use crate::{Lines, WeightedLine, meaning_of};
 use hashlink_run::answer_weighted;
 use hashlink_weighted::{WeightedCache, WeightedIter};
 use std::alloc::{AllocError, Global};
@@ -31,7 +31,7 @@ impl AnswersLines for WeightedCache<u64, u64> {
     ghost shows = { WeightedLineShows };
 
     fn answer_line(&mut self, line: &[u8], out: &mut String) -> Result<(), AllocError> {
-        answer(self, WeightedLine::parse(line), out)
+        answer(self, meaning_of(line), out)
     }
 }
 

@@ -8,7 +8,7 @@ use hashlink::run::{
     CacheCommand, Command, EntryStep, PairCommand, Reply, run, run_cache, run_pair, run_uses,
 };
 use hashlink::{LinkedHashMap, LruCache};
-use hashlink_text::{CacheLine, Line as MapLine, pair_command};
+use hashlink_text::{CacheLine, Line as MapLine, meaning_of};
 use std::alloc::{AllocError, Global};
 
 type Map = LinkedHashMap<u64, u64, Hashing>;
@@ -24,8 +24,8 @@ pub trait Listed: Sized {
     /// The command that a line spells.
     fn command(alloc: Global, line: &str) -> Result<Self::Command, Stop>;
 
-    /// Runs the commands. The closure of the run returns whether the value is even or, if `is_any`, true. This
-    /// is the reply to a read, and whether a keep keeps the pair.
+    /// Runs the commands. The closure of the run returns whether the value is even or, if `is_any`, true.
+    /// This is the reply to a read, and whether a keep keeps the pair.
     fn replies(&mut self, commands: Vec<Self::Command>, is_any: bool) -> Replies;
 }
 
@@ -62,7 +62,7 @@ impl Listed for Cache {
                 _ => Err(Stop::Unread),
             };
         }
-        match CacheLine::parse(line.as_bytes()) {
+        match meaning_of(line.as_bytes()) {
             Some(CacheLine::Do(command)) => Ok(command),
             _ => Err(Stop::Unread),
         }
@@ -209,7 +209,7 @@ fn commands_of_pair(alloc: Global, lines: &str) -> Result<Vec<PairCommand<Name, 
     let mut number = 0u64;
     for line in lines.split('\n') {
         number = number.saturating_add(1);
-        let command = pair_command(line.as_bytes()).ok_or(Stop::Unread)?;
+        let command = meaning_of(line.as_bytes()).ok_or(Stop::Unread)?;
         push(&mut commands, numbered(command, number))?;
     }
     Ok(commands)

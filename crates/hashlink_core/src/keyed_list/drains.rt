@@ -1,6 +1,5 @@
 //! Calls that take the nodes of a keyed list out, to drain them, and that put them back.
-ghost use Rattle.std.specs.Prelude.{◌≡◌};
-ghost use Rattle.hashlink_model.specs.Steps.{Drains};
+ghost use Rattle.std.specs.Prelude.{◌≡◌, []};
 ghost use Rattle.hashlink_core.specs.{Keyed.{state_of, IsKeyed}, Drained.{with_drained, FitsBack}};
 
 use super::KeyedList;
@@ -27,21 +26,15 @@ impl<K: Eq + Hash, V, S: BuildHasher> KeyedList<K, V, S> {
         }
     }
 
-    /// Puts back nodes that `take_nodes` took out, and drops the entries that they still have. Every node is
-    /// then free. It stores three links for each entry that it drops.
-    pub fn put_back(&mut self, drained: DrainedNodes<K, V>)
-    where
-        K: Drop,
-        V: Drop,
-        requires { FitsBack (state_of self.old) drained }
-        ensures { Drains (state_of (with_drained self.old drained)) (state_of self.new) }
+    /// Exchanges the nodes of the list, which is empty, for nodes that `take_nodes` took out and that have no
+    /// entries. Returns those of the list.
+    pub fn swap_nodes(&mut self, drained: DrainedNodes<K, V>) -> DrainedNodes<K, V>
+        requires fits { FitsBack (state_of self.old) drained }
+        requires empty { drained.nodes ≡ [] }
+        ensures { self.new ≡ with_drained self.old drained }
     {
-        let DrainedNodes {
-            mut nodes,
-            first: _,
-            last: _,
-        } = drained;
-        nodes.detach_all_into_free();
-        self.nodes = nodes;
+        let DrainedNodes { nodes, first, last } = drained;
+        let nodes = mem::replace(&mut self.nodes, nodes);
+        DrainedNodes { nodes, first, last }
     }
 }

@@ -27,6 +27,19 @@ impl<K: Eq + Hash, V, S: BuildHasher> LruCache<K, V, S> {
         self.map.iter()
     }
 
+    /// Returns a lending iterator over the entries, from front to back, with mutable references to the
+    /// values. It is not a use. It takes constant time and does not allocate.
+    pub fn iter_mut(&mut self) -> IterMut<'_, K, V, S>
+        ensures* hands_on { sem 𝓛
+            (HandsOnMap K.row V.row S.row S.Hasher.row K.Hash S.BuildHasher S.Hasher.Hasher
+            self.entry (walk_map result).ghost_name) }
+        ensures unchanged { (walk_map result).now ≡ map_of self.old }
+        ensures rest { walk_state result ≡ writing_walk (state_of (map_of self.old)) 0
+            (length (entries_of self.old)) }
+    {
+        self.map.iter_mut()
+    }
+
     /// Returns an iterator over the keys, from front to back. It is not a use. It does not allocate, and each
     /// step takes constant time.
     pub fn keys(&self) -> Keys<'_, K, V>
@@ -47,19 +60,6 @@ impl<K: Eq + Hash, V, S: BuildHasher> LruCache<K, V, S> {
         ensures fits { length (entries_of self.now) < 2 ^ 63 }
     {
         self.map.values()
-    }
-
-    /// Returns a lending iterator over the entries, from front to back, with mutable references to the
-    /// values. It is not a use. It takes constant time and does not allocate.
-    pub fn iter_mut(&mut self) -> IterMut<'_, K, V, S>
-        ensures* hands_on { sem 𝓛
-            (HandsOnMap K.row V.row S.row S.Hasher.row K.Hash S.BuildHasher S.Hasher.Hasher
-            self.entry (walk_map result).ghost_name) }
-        ensures unchanged { (walk_map result).now ≡ map_of self.old }
-        ensures rest { walk_state result ≡ writing_walk (state_of (map_of self.old)) 0
-            (length (entries_of self.old)) }
-    {
-        self.map.iter_mut()
     }
 }
 

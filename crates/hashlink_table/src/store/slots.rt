@@ -25,9 +25,9 @@ pub struct Rest {
 
 /// The slots, one for each bucket. Sixteen make a group, and a node may be in any slot of its bucket's group.
 ///
-/// Apart from the slots there are two bytes for each of them. The first is 0 if the slot has no node, and else
-/// a tag of the node's hash. A search compares the tags of a group at once. The second is 1 if a chain begins
-/// at the bucket, and else 0, so that a search for an absent key seldom reads a link.
+/// Apart from the slots there are two bytes for each of them. The first is 0 if the slot has no node, and
+/// else a tag of the node's hash. A search compares the tags of a group at once. The second is 1 if a chain
+/// begins at the bucket, and else 0, so that a search for an absent key seldom reads a link.
 #[derive(Drop)]
 pub struct Slots<N> {
     tags: Vec<u8>,

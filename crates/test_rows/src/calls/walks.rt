@@ -1,8 +1,7 @@
 //! The iterators that lend for writing, and the drains, by steps from both ends.
 use crate::hashers::Hashing;
 use crate::items::{Goes, Item, Shown, Step, Walk, Word, go, write, write_pair};
-use hashlink_lru::Drain as CacheDrain;
-use hashlink_map::{Drain, IterMut, ValuesMut};
+use hashlink_map::{DrainOf, Drainable, IterMut, ValuesMut};
 use hashlink_set::Drain as SetDrain;
 
 impl Walk for IterMut<'_, Item, Item, Hashing> {
@@ -32,15 +31,7 @@ impl Walk for ValuesMut<'_, Item, Item, Hashing> {
     }
 }
 
-impl Walk for Drain<'_, Item, Item, Hashing> {
-    fn step(&mut self, step: Step) -> Word {
-        let came = go(self, step.goes);
-        let hint = self.size_hint();
-        step.said(came, hint.0, hint)
-    }
-}
-
-impl Walk for CacheDrain<'_, Item, Item, Hashing> {
+impl<C: Drainable<Item, Item>> Walk for DrainOf<'_, C, Item, Item> {
     fn step(&mut self, step: Step) -> Word {
         let came = go(self, step.goes);
         let hint = self.size_hint();

@@ -16,7 +16,7 @@ loop-line-preserved c =
       HasCome-line (PairLineShows (state_of c.args.small.now).cap (state_of c.args.large.now).cap)
           c.in-Some.line.now
           (rw c.in-Some.ensures.steps at come.0)
-          (shown.0, (c.pair_command.result, c.pair_command.ensures, shown.1), shown.2),
+          (shown.0, (c.meaning_of.result, c.meaning_of.ensures, shown.1), shown.2),
       answered.small_capacity ∙ come.1,
       answered.large_capacity ∙ come.2,
     )

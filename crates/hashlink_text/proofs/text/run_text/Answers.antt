@@ -11,6 +11,6 @@ returns-clause-answer c =
     sym c.new-lines.ensures ∙ c.in-Some.ensures.steps in
     let text : c.into_bytes.result.items ≡ pushed.0 =
     rw c.into_bytes.ensures.value (pushed.2 ∙ ap (λ old. old ++ pushed.0) c.new-out.ensures.bytes) in
-    let runs = subst (ModeRun DefaultHashBuilder c.mode_of.result rest) (sym text) pushed.1 in
+    let runs = subst (ModeRun DefaultHashBuilder c.meaning_of.result rest) (sym text) pushed.1 in
     subst (λ ls. LinesRun DefaultHashBuilder ls c.into_bytes.result.items) (sym lines)
-    (c.mode_of.result, c.mode_of.ensures, runs)
+    (c.meaning_of.result, c.meaning_of.ensures, runs)

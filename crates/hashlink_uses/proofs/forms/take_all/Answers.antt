@@ -15,5 +15,6 @@ collected steps rest takes i es is items L (Err e) ran = tt
 
 pub returns-clause-pairs : goal.returns-clause-pairs
 returns-clause-pairs g c =
-    collected DrainSteps drain_rest (λ i o j s. s.takes) c.drain.result _ (ap entries_of c.drain.ensures.unchanged)
+    collected DrainSteps drain_rest (λ i o j s. s.takes) c.drain.result _
+    (ap entries_of c.drain.ensures.unchanged)
     (λ v. v.items) _ c.collect-pairs.result c.collect-pairs.ensures.ran

@@ -10,7 +10,8 @@ returns c =
     let began = read-found_or_made elements_of (λ s made. made.0) c.entry.ensures.value
     c.in_ok-ids.ensures.value in
     let updates = updates-entered _ _ _ _ c.args.topic c.insert.new.self string_eq_equiv
-    c.entry.ensures.distinct c.entry.ensures.entry (c.or_default.follows.holds c.insert.new.self (ap is_ok c.in_ok-ids.was)) in
+    c.entry.ensures.distinct c.entry.ensures.entry
+    (c.or_default.follows.holds c.insert.new.self (ap is_ok c.in_ok-ids.was)) in
     let read = read-text_updated elements_in (string_bytes c.args.topic) _ _ _ updates
     (c.in_ok-is_new.ensures.elements ∙ ap (λ xs. put_element nat_eq xs c.args.id (length xs)) began) in
     record {
@@ -24,7 +25,8 @@ returns-in_err-is_new-clause-unchanged c =
     let began = read-found_or_made elements_of (λ s made. made.0) c.entry.ensures.value
     c.in_ok-ids.ensures.value in
     let updates = updates-entered _ _ _ _ c.args.topic c.insert.new.self string_eq_equiv
-    c.entry.ensures.distinct c.entry.ensures.entry (c.or_default.follows.holds c.insert.new.self (ap is_ok c.in_ok-ids.was)) in
+    c.entry.ensures.distinct c.entry.ensures.entry
+    (c.or_default.follows.holds c.insert.new.self (ap is_ok c.in_ok-ids.was)) in
     let same = read-text_same elements_in (string_bytes c.args.topic) _ _ _ updates
     (ap keys_of c.in_err-is_new.ensures.inserts.grows.entries ∙ began) in
     search rules

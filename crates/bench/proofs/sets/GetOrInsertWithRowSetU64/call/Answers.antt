@@ -10,9 +10,11 @@ found false y o m same = same
 
 is_some-find : (x : ℕ) (ys : List ℕ) → is_some (find (nat_eq x) ys) ≡ is_member nat_eq ys x
 is_some-find x [] = refl
-is_some-find x (y ∷ ys) = found (nat_eq x y) y (find (nat_eq x) ys) (is_member nat_eq ys x) (is_some-find x ys)
+is_some-find x (y ∷ ys) =
+    found (nat_eq x y) y (find (nat_eq x) ys) (is_member nat_eq ys x) (is_some-find x ys)
 
-absent_too : (x made : ℕ) (ys : List ℕ) → made ≡ x → find (nat_eq x) ys ≡ None → is_member nat_eq ys made ≡ false
+absent_too : (x made : ℕ) (ys : List ℕ) → made ≡ x → find (nat_eq x) ys ≡ None
+    → is_member nat_eq ys made ≡ false
 absent_too x made ys same absent =
     sym (is_some-find made ys) ∙ ap (λ y. is_some (find (nat_eq y) ys)) same ∙ ap is_some absent
 

@@ -20,7 +20,8 @@ returns-in-Some-clause-inserts g c =
 
 -- ---- an absent key
 
-pub returns-in_err-insert_before-in-None-clause-inserts : goal.returns-in_err-insert_before-in-None-clause-inserts
+pub returns-in_err-insert_before-in-None-clause-inserts
+    : goal.returns-in_err-insert_before-in-None-clause-inserts
 returns-in_err-insert_before-in-None-clause-inserts g c =
     let old = c.args.self.now in
     let new = c.insert_before.new.self in
@@ -31,7 +32,8 @@ returns-in_err-insert_before-in-None-clause-inserts g c =
     (refused g.K.PartialEq.eq old new c.args.key c.args.value c.in_err-insert_before-in-None.field-0.0
     c.in-None.ensures.found e.no_spare e.handed_back e.refused)
 
-pub returns-in_ok-insert_before-in-None-clause-inserts : goal.returns-in_ok-insert_before-in-None-clause-inserts
+pub returns-in_ok-insert_before-in-None-clause-inserts
+    : goal.returns-in_ok-insert_before-in-None-clause-inserts
 returns-in_ok-insert_before-in-None-clause-inserts g c =
     let old = c.args.self.now in
     added g.K.PartialEq.eq old c.insert_before.new.self c.args.key c.args.value (length (entries_of old)) _

@@ -9,4 +9,5 @@ returns-clause-stored g c =
 
 pub returns-clause-there : goal.returns-clause-there
 unfolding store_prev
-returns-clause-there g c n = ap (λ (t : State g.row.K.Denot g.row.V.Denot). t.has n) (returns-clause-stored g c)
+returns-clause-there g c n =
+    ap (λ (t : State g.row.K.Denot g.row.V.Denot). t.has n) (returns-clause-stored g c)

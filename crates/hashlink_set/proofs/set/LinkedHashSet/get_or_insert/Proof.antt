@@ -2,7 +2,8 @@
 use Rattle.hashlink_set.proofs.Names
 use Names.{◌≡◌, List, [], ◌∷◌, ◌++◌, refl, sym, ap, subst, ◌∙◌, SProp, ent, id⊢, emp, a_type, named, ty_ptr}
 use Names.{dcons, dnil, inst_fn, Val, of_list, vptr, vstruct, WpFn, sem, ‵, raw, ◌⊛◌, some, later, ◌$◌, ◌∵◌}
-use Names.{ !, qed, by, move, keep, drop, split, join, fsplit, fjoin, fpick, feq_l, pick, await, rewrite, use0}
+use Names.{ !, qed, by, move, keep, drop, split, join, fsplit, fjoin, fpick, feq_l, pick, await, rewrite}
+use Names.{use0}
 use Names.{use1, whole, sub, stop, fld, of_opd, addr, and_then, no_more, returns, enter, alloc_all, pass_all}
 use Names.{free_all, look_at, get, get_in, through, sets, lands_as, ◌⊑◌, fact, fact_i, Lfts, tables, no, Is}
 use Names.{shows, bounded, layout, param, Laws, param_laws, of_field, copy_shared, RattleType, Valss, MutRef}

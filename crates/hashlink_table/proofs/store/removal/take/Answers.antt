@@ -49,7 +49,8 @@ returns-in-None-clause-arranged g c =
 pub returns-in-None-clause-nodes : goal.returns-in-None-clause-nodes
 returns-in-None-clause-nodes g c =
     rw (c.set_free.ensures, c.in-Slot.is)
-    (if_kept _ _ (λ kept is. set-nodes c.args.slots.now c.in-Slot.at _ (nodes_in c.args.cells.now) None (Some kept)
+    (if_kept _ _ (λ kept is.
+    set-nodes c.args.slots.now c.in-Slot.at _ (nodes_in c.args.cells.now) None (Some kept)
     (low g (goal.at.returns-in-None-clause-nodes g c).In-Slot) refl is))
 
 pub returns-in-Some-clause-arranged : goal.returns-in-Some-clause-arranged

@@ -94,6 +94,7 @@ returns-clause-nodes g c =
     ((nodes_in later ++ nodes_in c.double.new.cells.items) ++ c.in_ok-chained.chained.nodes.items)
     c.insert_chained.new.self.nodes
     = c.insert_chained.ensures.inserted in
-    subst (λ (u : Contents g.row.N.Denot). IsPermutation u.nodes c.insert_chained.new.self.nodes) c.self.view_is
+    subst (λ (u : Contents g.row.N.Denot). IsPermutation u.nodes c.insert_chained.new.self.nodes)
+    c.self.view_is
     (IsPermutation-trans _ _ _ c.in_ok-chained.ensures.nodes
     (rw (c.in_ok-chained.ensures.no_overflow, append-nil (nodes_in later)) at inserted))

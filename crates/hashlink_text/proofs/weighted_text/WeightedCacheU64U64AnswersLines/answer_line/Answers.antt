@@ -3,5 +3,6 @@ use Rattle.hashlink_text.proofs.weighted_text.WeightedCacheU64U64AnswersLines.an
 
 pub returns : goal.returns
 returns c =
-    on_ok_weaker c.answer.result (λ pushed. (pushed.0, (c.parse.result, c.parse.ensures, pushed.1), pushed.2))
+    let line = c.meaning_of in
+    on_ok_weaker c.answer.result (λ pushed. (pushed.0, (line.result, line.ensures, pushed.1), pushed.2))
     c.answer.ensures

@@ -16,8 +16,10 @@ returns c =
     = c.in_default.ensures.entries ∙ ap (λ b. put string_eq old c.args.path b (length old)) pinned in
     let excess = c.saturating_sub-excess.ensures
     ∙ ap (λ n. n - c.self.inside.limit) (c.len.ensures.len ∙ ap length put_last) in
-    let left = all.left_are.entries ∙ ap (without_first (λ e. not e.1) c.saturating_sub-excess.result) put_last in
-    let files = left ∙ ap (λ n. without_first (λ e. not e.1) n (with_last string_eq old c.args.path)) excess in
+    let left =
+    all.left_are.entries ∙ ap (without_first (λ e. not e.1) c.saturating_sub-excess.result) put_last in
+    let files =
+    left ∙ ap (λ n. without_first (λ e. not e.1) n (with_last string_eq old c.args.path)) excess in
     rw (← c.self.view_is) (record {
       opened = λ i. record { files = files i; limit = c.self.inside.limit };
       spared = ap (filter (λ e. e.1)) left

@@ -10,6 +10,8 @@ returns-clause-set c =
 pub returns-in_default-clause-set : goal.returns-in_default-clause-set
 returns-in_default-clause-set c =
     let same = c.get_mut.follows.holds-at-none in
-    let absent = set_value-absent _ (entries_of c.self.inside.files) c.args.is_pinned (sym c.in_default.ensures.value) in
+    let absent =
+    set_value-absent _ (entries_of c.self.inside.files) c.args.is_pinned
+    (sym c.in_default.ensures.value) in
     rw (← c.self.view_is)
     (λ i. record { files = (ap (λ m. m.entries) same ∙ sym absent) i; limit = c.self.inside.limit })

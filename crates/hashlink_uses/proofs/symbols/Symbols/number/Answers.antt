@@ -8,7 +8,8 @@ use Rattle.hashlink_uses.{proofs.Common.{subst, sym, ◌++◌, ◌∙◌, ◌∷
 use Rattle.hashlink_uses.proofs.symbols.Symbols.number.Goals as goal
 
 module _ {A : Type 0} (text : List ℕ) (es : List (String A × ℕ)) (numbered : AreNumbered es) where
-  named : (n : ℕ) → lookup (is_text text) es ≡ Some n → slice_get (map string_bytes (keys_of es)) n ≡ Some text
+  named : (n : ℕ) → lookup (is_text text) es ≡ Some n
+      → slice_get (map string_bytes (keys_of es)) n ≡ Some text
   named n found =
       let at = place-from_text text es n found in
       ap (slice_get (map string_bytes (keys_of es))) (numbered at.0 (at.1, n) at.2)

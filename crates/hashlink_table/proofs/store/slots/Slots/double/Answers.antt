@@ -1,6 +1,7 @@
 -- Each cell is doubled in turn, and the lists keep their lengths.
 use Rattle.hashlink_table.proofs.Names.{◌≡◌, ◌*◌, length, replicate, length-append, length-replicate, refl}
-use Rattle.hashlink_table.proofs.Names.{sym, ap, ◌∙◌, subst, arith, IsPowerOfTwo, with_items, with_items_is, bare_cell}
+use Rattle.hashlink_table.proofs.Names.{sym, ap, ◌∙◌, subst, arith, IsPowerOfTwo, with_items}
+use Rattle.hashlink_table.proofs.Names.{with_items_is, bare_cell}
 use Rattle.hashlink_table.proofs.Begins.{flags-doubled, flags_long, stored_with}
 use Rattle.hashlink_table.proofs.Storing.{sizes}
 use Rattle.hashlink_table.proofs.Doubling.{doubled-all, doubled-none, doubled-on, twice_power}

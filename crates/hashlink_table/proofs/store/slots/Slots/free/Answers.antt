@@ -8,8 +8,10 @@ lanes_with-requires g c =
 
 pub returns-clause-lanes : goal.returns-clause-lanes
 returns-clause-lanes g c =
-    group_tests c.self.invariant.tagged c.self.view_is (λ t. eqb t 0) (λ d. is_none d.kept) agrees_free c.args.base _
+    group_tests c.self.invariant.tagged c.self.view_is (λ t. eqb t 0) (λ d. is_none d.kept) agrees_free
+    c.args.base _
     _ c.lanes_with.ensures c.deref.ensures.value
 
 pub returns-clause-small : goal.returns-clause-small
-returns-clause-small g c = omega (arith, c.self.inside.tags.small, sizes c.self.invariant.tagged c.self.view_is)
+returns-clause-small g c =
+    omega (arith, c.self.inside.tags.small, sizes c.self.invariant.tagged c.self.view_is)

@@ -13,7 +13,8 @@ index-requires-else-index-eq0-2 g c = omega (arith, sizes c.self.invariant.tagge
 
 pub returns-then-index-eq0 : goal.returns-then-index-eq0
 returns-then-index-eq0 g c =
-    none_read c.self.invariant.tagged c.self.view_is c.args.at c.requires _ c.index.ensures c.if-index-eq0.true
+    none_read c.self.invariant.tagged c.self.view_is c.args.at c.requires _ c.index.ensures
+    c.if-index-eq0.true
 
 pub returns-else-index-eq0 : goal.returns-else-index-eq0
 returns-else-index-eq0 g c =

@@ -13,4 +13,5 @@ returns-clause-lanes g c =
     c.deref.ensures.value
 
 pub returns-clause-small : goal.returns-clause-small
-returns-clause-small g c = omega (arith, c.self.inside.tags.small, sizes c.self.invariant.tagged c.self.view_is)
+returns-clause-small g c =
+    omega (arith, c.self.inside.tags.small, sizes c.self.invariant.tagged c.self.view_is)

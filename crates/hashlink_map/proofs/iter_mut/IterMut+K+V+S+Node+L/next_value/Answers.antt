@@ -1,8 +1,9 @@
 use Rattle.hashlink_map.proofs.{Names.{refl, still_standing}, Walking.{lent-taken, first-taken}}
-use Rattle.hashlink_map.proofs.iter_mut.IterMut+K+V+S.next_value.Goals as goal
+use Rattle.hashlink_map.proofs.iter_mut.IterMut+K+V+S+Node+L.next_value.Goals as goal
 
 pub invariant_of-self-lent : goal.invariant_of-self-lent
-invariant_of-self-lent g c w = (still_standing w c.args.self.now.map.now.nodes _ c.in_ok-node.ensures.stands, tt)
+invariant_of-self-lent g c w =
+    (still_standing w c.args.self.now.map.now.nodes _ c.in_ok-node.ensures.stands, tt)
 
 pub returns : goal.returns
 returns g c =
