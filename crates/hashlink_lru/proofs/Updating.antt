@@ -3,11 +3,12 @@ use Rattle.std.specs.Prelude.{◌≡◌, ◌⊎◌, ℕ, Bool, List, ◌++◌, m
 use Rattle.std.specs.{Prelude.MatchOption, Cmp.IsEquivalence, Map.{lookup, lookup_entry, set_value}}
 use Rattle.std.{specs.Option.option_map, proofs.Common.{refl, ap, sym, subst, ◌∙◌, is_some, inl, inr, arith}}
 use Rattle.std.proofs.{Math.Path.fun_ext, lemmas.List.take-append-drop, lemmas.Map.NonePasses}
-use Rattle.hashlink_model.specs.{Cache.{CacheState, CacheGetsAndWrites, last_entries}, Lookups.UpdatesFitting}
+use Rattle.hashlink_model.specs.Cache.{CacheState, CacheGetsAndWrites, last_entries}
+use Rattle.hashlink_model.specs.Lookups.{EvictsSome, UpdatesFitting}
 use Rattle.hashlink_model.{specs.Entries.{IsEntries, IsKeyTest, moved_match}, proofs.Finds.lookup_is}
 use Rattle.hashlink_model.proofs.{CacheUpdates.{evicts-others, updates-pushed}, Remaining.found_in_end}
 use Rattle.hashlink_model.proofs.{Splits.{Stands, splits, lookup-none}, Updates.updates-lent_moved}
-use Rattle.hashlink_lru.specs.{Cached.{PutsNewIn, UpdatesUsed}, Evicted.EvictsSome}
+use Rattle.hashlink_lru.specs.Cached.{PutsNewIn, UpdatesUsed}
 
 -- ---- evictions from the front
 

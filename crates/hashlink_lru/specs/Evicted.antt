@@ -1,21 +1,13 @@
 -- What an insert evicts, and the step of a push.
-use Rattle.std.specs.Prelude.{◌≡◌, ◌⊎◌, ℕ, ◌-◌, Bool, List, length, take, nat_lt, if◌then◌else◌, Option, None}
+use Rattle.std.specs.Prelude.{◌≡◌, ℕ, ◌-◌, Bool, List, length, take, nat_lt, if◌then◌else◌, Option, None}
 use Rattle.std.specs.{Prelude.{Result, IfOk}, Map.{lookup, remove_entry}, Option.{option_map, option_or}}
 use Rattle.std.specs.Result.{result_map_both}
-use Rattle.hashlink_model.specs.{Cache.{CacheState, CacheInserts}, Entries.{IsKeyTest, put}, Walk.first_of}
+use Rattle.hashlink_model.specs.{Cache.{CacheState, CacheInserts}, Entries.put, Walk.first_of}
 
 module _ {K V : Type 0} where
   -- the entries before the last `cap`, which are evicted in order
   abbrev pub evicted_entries : List (K × V) → ℕ → List (K × V)
   evicted_entries es cap = take (length es - cap) es
-
-  -- what a look-up finds after evictions: what it found before, or nothing. The two parts are for every key,
-  -- and for every query
-  abbrev pub EvictsSome : (K → K → Bool) → List (K × V) → List (K × V) → Type 0
-  EvictsSome eq old new =
-      ((q : K) → (lookup (eq q) new ≡ None) ⊎ (lookup (eq q) new ≡ lookup (eq q) old))
-      × ((test : K → Bool) → IsKeyTest eq test
-      → (lookup test new ≡ None) ⊎ (lookup test new ≡ lookup test old))
 
   -- the entry that the insert of a key that passes the test evicts first: the first of the other entries, if
   -- they fill the capacity

@@ -39,7 +39,15 @@ module _ {K V : Type 0} (eq : K → K → Bool) where
   abbrev pub UpdatesPopped : List (K × V) → List (K × V) → Option (K × V) → Type 0
   UpdatesPopped old new popped = IfSome popped (λ e. UpdatesBy eq (eq e.0) old new None)
 
-  -- a lookup of each key but k is unchanged, or finds nothing, since the key was evicted. The two parts are
+  -- each lookup is unchanged, or finds nothing, since the key was evicted. The two parts are for every key, and
+  -- for every query
+  abbrev pub EvictsSome : List (K × V) → List (K × V) → Type 0
+  EvictsSome old new =
+      ((q : K) → (lookup (eq q) new ≡ None) ⊎ (lookup (eq q) new ≡ lookup (eq q) old))
+      × ((test : K → Bool) → IsKeyTest eq test
+      → (lookup test new ≡ None) ⊎ (lookup test new ≡ lookup test old))
+
+  -- the same, but for the key k: a lookup of each other key is unchanged, or finds nothing. The two parts are
   -- for every key, and for every query apart from k
   abbrev pub EvictsOthers : List (K × V) → List (K × V) → K → Type 0
   EvictsOthers old new k =

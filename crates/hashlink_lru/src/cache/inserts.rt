@@ -1,8 +1,7 @@
 //! Inserts, and the evictions of the least recently used entries that make room for them.
 ghost use Rattle.std.specs.Prelude.{◌≡◌, OnOk};
 ghost use Rattle.hashlink_model.specs.{Cache.{CacheInserts, EvictsFront, IsWithin, OnMap}, Entries.IsEntries};
-ghost use Rattle.hashlink_model.specs.Lookups.{UpdatesWithin};
-ghost use Rattle.hashlink_lru.specs.Evicted.{EvictsSome};
+ghost use Rattle.hashlink_model.specs.Lookups.{EvictsSome, UpdatesWithin};
 
 use super::LruCache;
 use std::hash::{BuildHasher, Hash};

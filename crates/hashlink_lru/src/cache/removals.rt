@@ -3,9 +3,8 @@
 ghost use Rattle.std.specs.{Prelude.{◌≡◌, IfSome, None, Contains}, Map.{lookup, lookup_entry, remove_entry}};
 ghost use Rattle.std.specs.Map.{Calls.{CalledAtPair, TakesPair, CallableOnEachPair}, Iter.TakesFirst};
 ghost use Rattle.hashlink_model.specs.{Cache.{IsWithin, KeepsLast, OnMap, SetsCapacity}, Entries.IsEntries};
-ghost use Rattle.hashlink_model.specs.Lookups.{UpdatesBy, UpdatesKept, UpdatesPopped};
+ghost use Rattle.hashlink_model.specs.Lookups.{EvictsSome, UpdatesBy, UpdatesKept, UpdatesPopped};
 ghost use Rattle.hashlink_model.specs.{Retain.RetainsInOrder, Steps.{RemovesMatch, PopsFront, Clears}};
-ghost use Rattle.hashlink_lru.specs.Evicted.{EvictsSome};
 
 use super::LruCache;
 use hashlink_map::Equivalent;

@@ -22,13 +22,13 @@ pub fn call_map(map: &mut Map, line: &mut Line<'_>) -> Result<(), Stop> {
         "shrink" => map.shrink_to_fit().shown(),
         "clone" => made(map.clone(), map),
         "back_value_mut" => write(map.back_value_mut(), line.words.optional()),
-        _ => return ask_room(map, name, line),
+        _ => return call_of_number(map, name, line),
     };
     line.say(word)
 }
 
 /// Makes the call of this name, if it takes the number that comes next.
-fn ask_room(map: &mut Map, name: &str, line: &mut Line<'_>) -> Result<(), Stop> {
+fn call_of_number(map: &mut Map, name: &str, line: &mut Line<'_>) -> Result<(), Stop> {
     let word = match name {
         "reserve" => map.reserve(line.words.size()).shown(),
         "try_reserve" => map.try_reserve(line.words.size()).shown(),

@@ -19,13 +19,13 @@ pub fn call_set(set: &mut Set, line: &mut Line<'_>) -> Result<(), Stop> {
         "clear" => set.clear().shown(),
         "shrink" => set.shrink_to_fit().shown(),
         "clone" => made(set.clone(), set),
-        _ => return ask_room(set, name, line),
+        _ => return call_of_number(set, name, line),
     };
     line.say(word)
 }
 
 /// Makes the call of this name, if it takes the number that comes next.
-fn ask_room(set: &mut Set, name: &str, line: &mut Line<'_>) -> Result<(), Stop> {
+fn call_of_number(set: &mut Set, name: &str, line: &mut Line<'_>) -> Result<(), Stop> {
     let word = match name {
         "reserve" => set.reserve(line.words.size()).shown(),
         "try_reserve" => set.try_reserve(line.words.size()).shown(),
