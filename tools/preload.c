@@ -37,7 +37,7 @@ typedef long ssize_t;
 #define FROM_START 0
 #define FROM_HERE 1
 #define FILES 16
-#define MOST_SAID (1 << 22)
+#define MAX_SAID (1 << 22)
 
 void *__libc_malloc(size_t);
 void *__libc_calloc(size_t, size_t);
@@ -90,7 +90,7 @@ static unsigned long blocks, held;
 
 /* Whether the program is copied at each request, whether this is a copy, and the output so far. */
 static int is_each, is_copy;
-static char said[MOST_SAID];
+static char said[MAX_SAID];
 static size_t said_count;
 
 __attribute__((constructor)) static void begin(void) {
@@ -108,7 +108,7 @@ static void tell(const char *bytes, size_t count) {
 
 /* Keeps the standard output until the end. */
 static ssize_t say(const void *bytes, size_t count) {
-    if (count > MOST_SAID - said_count) abort();
+    if (count > MAX_SAID - said_count) abort();
     memcpy(said + said_count, bytes, count);
     said_count += count;
     return (ssize_t)count;
@@ -268,13 +268,13 @@ IS_SEEN ssize_t __write(int file, const void *bytes, size_t count) {
 #include <time.h>
 #include <unistd.h>
 
-enum { MOST_PROGRAMS = 8, SLICE_NS = 5000000 };
+enum { MAX_PROGRAMS = 8, SLICE_NS = 5000000 };
 
 struct shared {
     atomic_int running;             /* which program runs */
     atomic_int processor;           /* on which all run, and one more */
-    atomic_int rows[MOST_PROGRAMS]; /* how many rows each has done */
-    atomic_bool ended[MOST_PROGRAMS];
+    atomic_int rows[MAX_PROGRAMS]; /* how many rows each has done */
+    atomic_bool ended[MAX_PROGRAMS];
 };
 
 static struct shared *shared;
@@ -301,7 +301,7 @@ static void wait_to_run(void) {
 
 static void let_run(int program) {
     shared->running = program;
-    syscall(SYS_futex, &shared->running, FUTEX_WAKE, MOST_PROGRAMS, NULL, NULL, 0);
+    syscall(SYS_futex, &shared->running, FUTEX_WAKE, MAX_PROGRAMS, NULL, NULL, 0);
 }
 
 /* The next program that has not ended and is not a row ahead of this one; or this one. */
@@ -345,7 +345,7 @@ __attribute__((constructor)) static void begin(void) {
     if (!name) return;
     me = number("SLICES_ME");
     of = number("SLICES_OF");
-    check(me < of && of <= MOST_PROGRAMS);
+    check(me < of && of <= MAX_PROGRAMS);
     check(prctl(PR_SET_PDEATHSIG, SIGTERM) == 0); /* ends with the shell that began it */
     int file = open(name, O_RDWR);
     check(file >= 0);

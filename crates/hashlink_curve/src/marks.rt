@@ -7,7 +7,7 @@ use std::alloc::{AllocError, Global};
 use std::marker::Model;
 
 /// The greatest number of places.
-const MOST_PLACES: usize = 1 << 60;
+const MAX_PLACES: usize = 1 << 60;
 
 /// The number of entries of a row that have one sum.
 const BLOCK: usize = 64;
@@ -48,7 +48,7 @@ impl Marks {
         ensures unmarked { IfOk result (λ marks. Marked marks []) }
         ensures exact { IfOk result (λ marks. length marks ≡ places) }
     {
-        if places > MOST_PLACES {
+        if places > MAX_PLACES {
             return Err(AllocError);
         }
         let row = vec![in alloc; 0; places]?;

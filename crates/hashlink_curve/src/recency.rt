@@ -201,7 +201,7 @@ fn free_place<K: Eq + Hash + Drop, S: BuildHasher>(
 }
 
 /// With more keys than this no row is built, because there could be no memory for it.
-const MOST_KEYS: usize = 1 << 55;
+const MAX_KEYS: usize = 1 << 55;
 
 /// The number of places that are built for each key. So keys get new places this many times less often than
 /// they are used.
@@ -220,7 +220,7 @@ fn renumber<K: Eq + Hash + Drop, S: BuildHasher>(
     ensures unchanged { OnErr result (places.new ≡ places.old) }
 {
     let count = places.len();
-    if count > MOST_KEYS {
+    if count > MAX_KEYS {
         return Err(AllocError);
     }
     let mut marks = Marks::with_places(alloc, PLACES * (count + 1))?;

@@ -39,8 +39,8 @@ module _ {K V : Type 0} (eq : K → K → Bool) where
   abbrev pub UpdatesPopped : List (K × V) → List (K × V) → Option (K × V) → Type 0
   UpdatesPopped old new popped = IfSome popped (λ e. UpdatesBy eq (eq e.0) old new None)
 
-  -- each lookup is unchanged, or finds nothing, since the key was evicted. The two parts are for every key, and
-  -- for every query
+  -- each lookup is unchanged, or finds nothing, since the key was evicted. The two parts are for every key,
+  -- and for every query
   abbrev pub EvictsSome : List (K × V) → List (K × V) → Type 0
   EvictsSome old new =
       ((q : K) → (lookup (eq q) new ≡ None) ⊎ (lookup (eq q) new ≡ lookup (eq q) old))

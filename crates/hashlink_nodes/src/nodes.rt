@@ -82,7 +82,7 @@ impl<K, V> Nodes<K, V> {
         ensures apart { OnOk result (IsDistinct same_node (keys_of self.new.entries ++ self.new.free)) }
         ensures link_writes { OnOk result (self.new.link_writes ≡ self.old.link_writes + 4) }
         ensures handed_back { IfErr result (λ pair. pair ≡ (key, value)) }
-        ensures refused { OnErr result (self.new ≡ self.old) }
+        ensures unchanged { OnErr result (self.new ≡ self.old) }
         ensures succeeds { 0 < length self.old.free → IsOk result }
     {
         if self.spare == 0 {
@@ -117,9 +117,9 @@ impl<K, V> Nodes<K, V> {
         ensures apart { OnOk result (IsDistinct same_node (keys_of self.new.entries ++ self.new.free)) }
         ensures link_writes { OnOk result (self.new.link_writes ≡ self.old.link_writes + 4) }
         ensures handed_back { IfErr result (λ pair. pair ≡ (key, value)) }
-        ensures refused { OnErr result (self.new ≡ self.old) }
+        ensures unchanged { OnErr result (self.new ≡ self.old) }
     {
-        if self.len >= MOST {
+        if self.len >= MAX_NODES {
             return Err((key, value));
         }
         let guard = match self.pool.guard(self.guard, self.alloc) {
@@ -168,4 +168,4 @@ impl<K: Drop, V: Drop> Drop for Nodes<K, V> {
 }
 
 /// The greatest number of nodes that a ring may have.
-const MOST: usize = (1 << 63) - 1;
+const MAX_NODES: usize = (1 << 63) - 1;

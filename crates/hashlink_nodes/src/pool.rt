@@ -105,7 +105,7 @@ impl<K, V> Pool<K, V> {
     /// Returns the guard. If there is none, it allocates one.
     pub(crate) fn guard(&mut self, guard: Option<Node>, alloc: Global) -> Result<Node, AllocError>
         ensures made { IfOk result (λ g. GuardIs (state_of self.old) (state_of self.new) guard g) }
-        ensures refused { OnErr result (self.new ≡ self.old) }
+        ensures unchanged { OnErr result (self.new ≡ self.old) }
     {
         match guard {
             Some(guard) => Ok(guard),

@@ -39,7 +39,7 @@ where
         (λ replies. LawfulCacheRun K.eq (ClosureSays F.Fn keep.now) (state_of cache.old)
         commands.items replies.items
         (state_of cache.new)) }
-    ensures refused { OnErr result (cache.new ≡ cache.old) }
+    ensures unchanged { OnErr result (cache.new ≡ cache.old) }
     ensures none { commands.items ≡ [] → IsOk result }
     ensures bounded { OnOk result (StaysBounded (state_of cache.old) commands.items (state_of cache.new)) }
     ensures distinct { OnOk result (IsEntries K.eq (entries_of cache.new)) }

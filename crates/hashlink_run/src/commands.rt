@@ -131,7 +131,7 @@ where
         (state_of map.new)
         × (replies.new.items ≡ replies.old.items ++ more)) }
     ensures count { OnOk result (vec_len replies.new ≡ vec_len replies.old + reply_count command) }
-    ensures refused { OnErr result ((map.new ≡ map.old) × (replies.new.items ≡ replies.old.items)
+    ensures unchanged { OnErr result ((map.new ≡ map.old) × (replies.new.items ≡ replies.old.items)
         × (vec_capacity replies.new ≡ vec_capacity replies.old)) }
     ensures room { vec_len replies.old + reply_count command ≤ vec_capacity replies.old → IsOk result }
     ensures capacity { vec_capacity replies.old ≤ vec_capacity replies.new }

@@ -42,7 +42,7 @@ where
     ensures ran { IfOk result
         (λ replies. LawfulRun K.eq (ClosureSays F.Fn keep.now) (ClosureSays F.Fn keep.now) (state_of map.old)
         commands.items replies.items (state_of map.new)) }
-    ensures refused { OnErr result (map.new ≡ map.old) }
+    ensures unchanged { OnErr result (map.new ≡ map.old) }
     ensures none { reply_total commands.items ≡ 0 → IsOk result }
 
     // So a map that is left shorter than it was, by commands that freed no node, has a free node.

@@ -182,7 +182,7 @@ impl<N: Copy> Table<N> {
             × F.post is_match node true) }
         ensures none { IfNone result
             ((node : N) → Keeps self.old hash node → F.post is_match node false) }
-        ensures same { IfNone result (self.new ≡ self.old) }
+        ensures unchanged { IfNone result (self.new ≡ self.old) }
         ensures room { self.new.room ≡ self.old.room }
     {
         self.remove_from::<F, Brand>(hash, is_match, Blank::new(1))
@@ -206,7 +206,7 @@ impl<N: Copy> Table<N> {
             × F.post is_match node true) }
         ensures none { IfNone result
             ((node : N) → Keeps self.old hash node → F.post is_match node false) }
-        ensures same { IfNone result (self.new ≡ self.old) }
+        ensures unchanged { IfNone result (self.new ≡ self.old) }
         ensures room { self.new.room ≡ self.old.room }
     {
         let mut steps = Steps::<L>::new(blank);
@@ -229,7 +229,7 @@ impl<N: Copy> Table<N> {
             × F.post is_match node true) }
         ensures none { IfNone result
             ((node : N) → Keeps self.old hash node → F.post is_match node false) }
-        ensures same { IfNone result (self.new ≡ self.old) }
+        ensures unchanged { IfNone result (self.new ≡ self.old) }
         ensures room { self.new.room ≡ self.old.room }
         ensures goes_on { steps.old ≤ steps.new }
         ensures cost { (m : ℕ) × AreBuckets self.old m × (steps.new ≤ steps.old + agreeing self.old hash m) }
@@ -334,7 +334,7 @@ impl<N: Copy> Table<N> {
         ensures room { self.old.room ≤ self.new.room }
         ensures bound { self.new.room ≤ max self.old.room (2 * max 4 (len_of self.old + additional)) }
         ensures power { self.old.room < self.new.room → IsPowerOfTwo self.new.room }
-        ensures err { OnErr result (self.new ≡ self.old) }
+        ensures unchanged { OnErr result (self.new ≡ self.old) }
 
         // If there is enough room, it does not fail and changes nothing.
         ensures enough { len_of self.old + additional ≤ self.old.room → IsOk result × (self.new ≡ self.old) }
@@ -357,7 +357,7 @@ impl<N: Copy> Table<N> {
     pub fn shrink(&mut self) -> Result<(), AllocError>
         ensures nodes { IsPermutation self.old.nodes self.new.nodes }
         ensures ok { OnOk result (self.new.room ≡ len_of self.old) }
-        ensures err { OnErr result (self.new ≡ self.old) }
+        ensures unchanged { OnErr result (self.new ≡ self.old) }
         ensures empty { len_of self.old ≡ 0 → IsOk result }
     {
         if self.len == 0 {
@@ -382,7 +382,7 @@ impl<N: Copy> Table<N> {
         requires whole { buckets % LANES ≡ 0 }
         ensures nodes { IsPermutation self.old.nodes self.new.nodes }
         ensures ok { OnOk result (self.new.room ≡ room) }
-        ensures err { OnErr result (self.new ≡ self.old) }
+        ensures unchanged { OnErr result (self.new ≡ self.old) }
     {
         let now = self.slots.len();
         if (buckets != now && buckets != 2 * now) || buckets > MAX_BUCKETS {
@@ -413,7 +413,7 @@ impl<N: Copy> Table<N> {
         requires whole { buckets % LANES ≡ 0 }
         ensures nodes { IsPermutation self.old.nodes self.new.nodes }
         ensures ok { OnOk result (self.new.room ≡ room) }
-        ensures err { OnErr result (self.new ≡ self.old) }
+        ensures unchanged { OnErr result (self.new ≡ self.old) }
     {
         if buckets > MAX_BUCKETS {
             return Err(AllocError);

@@ -77,7 +77,7 @@ impl<V: Copy, T: Store<V>> PageCache<V, T> {
     /// and the content does not change.
     pub fn read(&mut self, number: u64) -> Result<V, T::Error>
         ensures read { IfOk result (λ value. value ≡ content T.page self.old number) }
-        ensures same { (n : ℕ) → content T.page self.new n ≡ content T.page self.old n }
+        ensures unchanged { (n : ℕ) → content T.page self.new n ≡ content T.page self.old n }
     {
         if let Some(value) = self.find(number) {
             return Ok(value);
@@ -121,7 +121,7 @@ impl<V: Copy, T: Store<V>> PageCache<V, T> {
     /// Returns the value of a page in the cache, which is then the most recently used one.
     fn find(&mut self, number: u64) -> Option<V>
         ensures found { result ≡ option_map (λ p. p.value) (lookup (nat_eq number) self.old.held) }
-        ensures same { (n : ℕ) → lookup (nat_eq n) self.new.held ≡ lookup (nat_eq n) self.old.held }
+        ensures unchanged { (n : ℕ) → lookup (nat_eq n) self.new.held ≡ lookup (nat_eq n) self.old.held }
         ensures store { self.new.store ≡ self.old.store }
     {
         self.pages.get(&number).map(|page| page.value)
@@ -149,7 +149,7 @@ impl<V: Copy, T: Store<V>> PageCache<V, T> {
     fn save_leaving(&mut self, number: u64) -> Result<(), T::Error>
         ensures distinct { IsEntries nat_eq self.new.held }
         ensures pages { (self.new.held ≡ self.old.held) × (self.new.capacity ≡ self.old.capacity) }
-        ensures same { (n : ℕ) → content T.page self.new n ≡ content T.page self.old n }
+        ensures unchanged { (n : ℕ) → content T.page self.new n ≡ content T.page self.old n }
         ensures saved { OnOk result (IfSome (evicted_by (nat_eq number) self.old.held self.old.capacity)
             (λ e. T.page self.new.store e.0 ≡ content T.page self.old e.0)) }
     {
@@ -165,7 +165,7 @@ impl<V: Copy, T: Store<V>> PageCache<V, T> {
     /// Saves the least recently used page, and then removes it.
     fn save_first(&mut self) -> Result<(), T::Error>
         ensures left { OnOk result (length self.new.held ≡ length self.old.held - 1) }
-        ensures same { (n : ℕ) → content T.page self.new n ≡ content T.page self.old n }
+        ensures unchanged { (n : ℕ) → content T.page self.new n ≡ content T.page self.old n }
     {
         let Some((first, _)) = self.pages.peek_lru() else {
             return Ok(());
@@ -180,7 +180,7 @@ impl<V: Copy, T: Store<V>> PageCache<V, T> {
     fn save(&mut self, number: u64) -> Result<(), T::Error>
         ensures distinct { IsEntries nat_eq self.new.held }
         ensures pages { (self.new.held ≡ self.old.held) × (self.new.capacity ≡ self.old.capacity) }
-        ensures same { (n : ℕ) → content T.page self.new n ≡ content T.page self.old n }
+        ensures unchanged { (n : ℕ) → content T.page self.new n ≡ content T.page self.old n }
         ensures saved { OnOk result (T.page self.new.store number ≡ content T.page self.old number) }
     {
         match self.pages.peek(&number) {

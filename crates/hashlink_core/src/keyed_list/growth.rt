@@ -15,7 +15,7 @@ impl<K: Eq + Hash, V, S: BuildHasher> KeyedList<K, V, S> {
     pub fn reserve(&mut self, additional: usize) -> Result<(), TryReserveError>
         ensures ok { OnOk result (length self.old.nodes + additional ≤ self.new.room) }
         ensures grown { GrowsRoom additional self.old self.new }
-        ensures err { OnErr result (self.new ≡ self.old) }
+        ensures unchanged { OnErr result (self.new ≡ self.old) }
         ensures enough { length self.old.nodes + additional ≤ self.old.room → IsOk result
             × (self.new ≡ self.old) }
         ensures overflow { (result ≡ Err CapacityOverflow) ↔ (MAX_ROOM < length self.old.nodes + additional) }
@@ -47,7 +47,7 @@ impl<K: Eq + Hash, V, S: BuildHasher> KeyedList<K, V, S> {
     fn shrink_table(&mut self) -> Result<(), AllocError>
         requires { self.old.spare ≡ 0 }
         ensures ok { OnOk result (self.new ≡ record self.old { room = length self.old.nodes }) }
-        ensures err { OnErr result (self.new ≡ self.old) }
+        ensures unchanged { OnErr result (self.new ≡ self.old) }
         ensures empty { self.old.nodes ≡ [] → IsOk result }
         ensures sound { IsKeyed K.eq self.old }
     {

@@ -16,7 +16,7 @@ impl<K: Eq + Hash, V, S: BuildHasher> KeyedList<K, V, S> {
         requires a { Holds self.old.nodes a }
         requires b { Holds self.old.nodes b }
         ensures value { IsTrue result ↔ (a ≡ b) }
-        ensures same { self.new ≡ self.old }
+        ensures unchanged { self.new ≡ self.old }
     {
         let number = self.nodes.number(b);
         if self.nodes.number(a) != number {
@@ -34,7 +34,7 @@ impl<K: Eq + Hash, V, S: BuildHasher> KeyedList<K, V, S> {
         requires node { Holds self.old.nodes node }
         requires place { IsPlace self.old.nodes place }
         ensures value { IsTrue result ↔ (place ≡ Some node) }
-        ensures same { self.new ≡ self.old }
+        ensures unchanged { self.new ≡ self.old }
     {
         match place {
             Some(at) => self.is_same(at, node),

@@ -45,7 +45,7 @@ impl<K: Eq + Hash, V, S: BuildHasher> LruCache<K, V, S> {
         ensures updates { IfOk result (λ _. UpdatesUsed K.eq (state_of self.old) key) }
         ensures value { IfOk result
             (λ v. UnwrapsOrElse (lookup (K.eq key) (entries_of self.old)) (F.post make) v.now) }
-        ensures given { IfErr result (λ pair. pair.0 ≡ key) }
+        ensures handed_back { IfErr result (λ pair. pair.0 ≡ key) }
         ensures made { IfErr result (λ pair. F.post make pair.1) }
     {
         let before = self.map.len();

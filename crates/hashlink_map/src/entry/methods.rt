@@ -67,7 +67,7 @@ impl<'a, K: Eq + Hash, V, S: BuildHasher> Entry<'a, K, V, S> {
         ensures value { IfOk result (λ v. v.now ≡ unwrap_or (entry_value (entry_state self.entry)) default) }
         ensures updates { IfOk result (λ _. UpdatesLast K.eq (entry_state self.entry).map.entries
             (entry_state self.entry).key) }
-        ensures given { IfErr result (λ pair. pair ≡ ((entry_state self.entry).key, default)) }
+        ensures handed_back { IfErr result (λ pair. pair ≡ ((entry_state self.entry).key, default)) }
     {
         match self {
             Entry::Occupied(entry) => entry.into_last_mut(),
@@ -88,7 +88,7 @@ impl<'a, K: Eq + Hash, V, S: BuildHasher> Entry<'a, K, V, S> {
             (λ v. UnwrapsOrElse (entry_value (entry_state self.entry)) (F.post default) v.now) }
         ensures updates { IfOk result (λ _. UpdatesLast K.eq (entry_state self.entry).map.entries
             (entry_state self.entry).key) }
-        ensures given { IfErr result (λ pair. pair.0 ≡ (entry_state self.entry).key) }
+        ensures handed_back { IfErr result (λ pair. pair.0 ≡ (entry_state self.entry).key) }
         ensures made { IfErr result (λ pair. F.post default pair.1) }
     {
         match self {
@@ -110,7 +110,7 @@ impl<'a, K: Eq + Hash, V, S: BuildHasher> Entry<'a, K, V, S> {
             (λ v. UnwrapsOrElse (entry_value (entry_state self.entry)) V.is_made_with v.now) }
         ensures updates { IfOk result (λ _. UpdatesLast K.eq (entry_state self.entry).map.entries
             (entry_state self.entry).key) }
-        ensures given { IfErr result (λ pair. pair.0 ≡ (entry_state self.entry).key) }
+        ensures handed_back { IfErr result (λ pair. pair.0 ≡ (entry_state self.entry).key) }
         ensures made { IfErr result (λ pair. V.is_made_with pair.1) }
     {
         match self {

@@ -106,7 +106,7 @@ impl<K: Eq + Hash, V, S: BuildHasher> LinkedHashMap<K, V, S> {
         ensures updates { IfOk result (λ _. UpdatesLast K.eq (entries_of self.old) key) }
         ensures value { IfOk result
             (λ v. UnwrapsOrElse (lookup (K.eq key) (entries_of self.old)) (F.post make) v.now) }
-        ensures given { IfErr result (λ pair. pair.0 ≡ key) }
+        ensures handed_back { IfErr result (λ pair. pair.0 ≡ key) }
         ensures made { IfErr result (λ pair. F.post make pair.1) }
     {
         let hash = self.list.hash_of(&key);

@@ -63,7 +63,7 @@ impl<K, V> Pool<K, V> {
     /// Allocates a node that holds nothing. Its links lead nowhere until they are stored.
     pub(crate) fn make(&mut self, alloc: Global) -> Result<Node, AllocError>
         ensures made { IfOk result (λ n. Adds n (state_of self.old) (state_of self.new)) }
-        ensures refused { OnErr result (self.new ≡ self.old) }
+        ensures unchanged { OnErr result (self.new ≡ self.old) }
     {
         match Vacant::take(alloc) {
             Ok(vacant) => Ok(self.arena.keep(vacant, Links::nowhere())),
@@ -75,7 +75,7 @@ impl<K, V> Pool<K, V> {
     /// two links.
     pub(super) fn make_guard(&mut self, alloc: Global) -> Result<Node, AllocError>
         ensures made { IfOk result (λ g. MakesGuard g (state_of self.old) (state_of self.new)) }
-        ensures refused { OnErr result (self.new ≡ self.old) }
+        ensures unchanged { OnErr result (self.new ≡ self.old) }
     {
         let guard = self.make(alloc)?;
         let mut writes = LinkWrites::new();

@@ -126,7 +126,7 @@ impl<N: Copy> Slots<N> {
         requires power { IsPowerOfTwo (length self.old) }
         requires small { length self.old ≤ 2 ^ 30 }
         ensures ok { OnOk result (self.new ≡ doubled self.old) }
-        ensures err { OnErr result (self.new ≡ self.old) }
+        ensures unchanged { OnErr result (self.new ≡ self.old) }
     {
         let count = self.len();
         self.widen(count, filler)?;
@@ -144,7 +144,7 @@ impl<N: Copy> Slots<N> {
     fn widen(&mut self, count: usize, filler: N) -> Result<(), AllocError>
         requires small { length self.old + count < 2 ^ 64 }
         ensures ok { OnOk result (self.new ≡ self.old ++ replicate count bare_cell) }
-        ensures err { OnErr result (self.new ≡ self.old) }
+        ensures unchanged { OnErr result (self.new ≡ self.old) }
     {
         self.rests.reserve_exact(count)?;
         self.nodes.reserve_exact(count)?;

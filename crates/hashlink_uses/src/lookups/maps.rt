@@ -49,7 +49,8 @@ pub fn forget_one<S: BuildHasher>(
 ) -> Option<u64>
     requires { key ≢ other }
     ensures found { result ≡ lookup (nat_eq other) (entries_of map.old) }
-    ensures same { lookup (nat_eq other) (entries_of map.new) ≡ lookup (nat_eq other) (entries_of map.old) }
+    ensures unchanged { lookup (nat_eq other) (entries_of map.new)
+        ≡ lookup (nat_eq other) (entries_of map.old) }
 {
     map.remove(&key);
     map.get(&other).copied()
@@ -103,7 +104,7 @@ pub fn forget_one_name<S: BuildHasher>(
 ) -> Option<u64>
     requires { name.now ≢ other.now }
     ensures found { result ≡ lookup (is_text other.now) (entries_of map.old) }
-    ensures same { lookup (is_text other.now) (entries_of map.new)
+    ensures unchanged { lookup (is_text other.now) (entries_of map.new)
         ≡ lookup (is_text other.now) (entries_of map.old) }
 {
     map.remove(name);

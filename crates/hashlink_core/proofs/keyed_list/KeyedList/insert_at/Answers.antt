@@ -56,7 +56,7 @@ written : (g : given.Over) (c : After-is_at g)
     → WritesNode c.args.self.now c.is_at.new.self (place_number c.args.self.now.nodes (Some c.in-Some.node))
     c.args.value × IsKeyed g.K.PartialEq.eq c.is_at.new.self
 written g c =
-    rw c.is_at.ensures.same (c.replace_value-old.ensures.written, c.replace_value-old.ensures.sound)
+    rw c.is_at.ensures.unchanged (c.replace_value-old.ensures.written, c.replace_value-old.ensures.sound)
 
 pub returns-then-is_at-clause-inserts : goal.returns-then-is_at-clause-inserts
 returns-then-is_at-clause-inserts g c =

@@ -47,4 +47,4 @@ returns-in_default-clause-no_spare g c =
 pub returns-in_err-node-clause-refused : goal.returns-in_err-node-clause-refused
 returns-in_err-node-clause-refused g c =
     let grown = rw (sym c.self.view_is) at c.reserve.ensures.grown in
-    on_err _ _ (rw (sym c.in_err-node.ensures.refused) at grown)
+    on_err _ _ (rw (sym c.in_err-node.ensures.unchanged) at grown)

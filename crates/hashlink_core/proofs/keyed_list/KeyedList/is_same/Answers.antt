@@ -51,11 +51,11 @@ invariant_of-self g c =
     restored-step c.self.invariant (marked g (goal.at.invariant_of-self g c).After-set_number)
     c.set_number-2.new.self t.entries (t.free ∙ s.free) (t.link_writes ∙ s.link_writes)
 
-pub returns-clause-same : goal.returns-clause-same
-returns-clause-same g c =
+pub returns-clause-unchanged : goal.returns-clause-unchanged
+returns-clause-unchanged g c =
     let s = c.set_number.ensures in
     let t = c.set_number-2.ensures in
     ap (λ r. seen_as r c.self.inside.table c.self.inside.hash_builder)
-    (restored-ring c.self.invariant (marked g (goal.at.returns-clause-same g c).After-set_number)
+    (restored-ring c.self.invariant (marked g (goal.at.returns-clause-unchanged g c).After-set_number)
     c.set_number-2.new.self t.entries (t.free ∙ s.free) (t.link_writes ∙ s.link_writes))
     ∙ c.self.view_is

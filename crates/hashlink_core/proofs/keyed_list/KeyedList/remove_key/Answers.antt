@@ -37,11 +37,11 @@ returns-in_err-node-clause-removes g c =
       answer = sym (lookup_entry-unplaced passes (entries_of c.args.self.now)
           (rw (← c.self.view_is) absent));
       step = ap (λ u. state_of (seen_as c.self.inside.nodes u c.self.inside.hash_builder))
-          c.in_err-node.ensures.same ∙ ap state_of c.self.view_is;
+          c.in_err-node.ensures.unchanged ∙ ap state_of c.self.view_is;
     })
 
 pub returns-in_err-node-clause-sound : goal.returns-in_err-node-clause-sound
-returns-in_err-node-clause-sound g c = rw c.in_err-node.ensures.same (sound refl c.self.invariant)
+returns-in_err-node-clause-sound g c = rw c.in_err-node.ensures.unchanged (sound refl c.self.invariant)
 
 pub detach_into_free-requires : goal.detach_into_free-requires
 detach_into_free-requires g c =

@@ -7,7 +7,8 @@ invariant_of-self g c =
     let t = c.self.inside.table in
     let r = c.self.inside.nodes in
     let room = shrunk-room t c.shrink.new.self c.shrink.result
-    (omega (arith, c.self.invariant.fits, c.self.invariant.count)) c.shrink.ensures.ok c.shrink.ensures.err in
+    (omega (arith, c.self.invariant.fits, c.self.invariant.count)) c.shrink.ensures.ok
+    c.shrink.ensures.unchanged in
     step-same g.met.K.Eq.laws r r t c.shrink.new.self refl c.shrink.ensures.nodes
     (omega (arith, room, c.self.invariant.count, ap (λ m. m.spare) c.self.view_is ∙ c.requires))
     c.self.invariant

@@ -35,7 +35,7 @@ returns g c =
         updates = updates-used eq g.met.K.Eq.laws old c.args.key c.len-before.ensures.distinct;
         value = lent_value eq _ old.map new c.args.key made v
             (rw c.unwrap.ensures at c.lend_last.ensures.value);
-        given = tt;
+        handed_back = tt;
         made = tt;
       },
     )

@@ -12,7 +12,7 @@ returns-in-Occupied g c =
         lends = tt;
         updates = c.into_last_mut.ensures.updates;
         value = or_made r _ _ c.into_last_mut.ensures.value;
-        given = no_pair r _ f.holds-at-none;
+        handed_back = no_pair r _ f.holds-at-none;
         made = no_pair r _ f.holds-at-none;
       },
     )
@@ -27,7 +27,7 @@ returns-in-Vacant g c =
         lends = tt;
         updates = e.updates;
         value = IfOk-weaker r _ _ (λ v is. subst Made (sym is) made) e.value;
-        given = IfErr-weaker r _ _ (λ p is. ap (λ x. x.0) is) e.handed_back;
+        handed_back = IfErr-weaker r _ _ (λ p is. ap (λ x. x.0) is) e.handed_back;
         made = IfErr-weaker r _ _ (λ p is. subst Made (ap (λ x. x.1) (sym is)) made) e.handed_back;
       },
     )

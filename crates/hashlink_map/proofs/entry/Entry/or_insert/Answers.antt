@@ -10,7 +10,7 @@ returns-in-Occupied g c =
       record {
         lends = tt;
         updates = c.into_last_mut.ensures.updates;
-        given = no_pair r _ f.holds-at-none;
+        handed_back = no_pair r _ f.holds-at-none;
         value = or_default r _ c.args.default c.into_last_mut.ensures.value;
       },
     )
@@ -20,5 +20,5 @@ returns-in-Vacant g c =
     let r = c.insert.result in let e = c.insert.ensures in let f = c.insert.follows in
     rw c.in-Vacant.is (
       (refl, (λ w ok. vacant_puts (f.holds w ok)), vacant_refuses _ _ _ _ _ r f.holds-at-none e.handed_back),
-      record { lends = tt; updates = e.updates; given = e.handed_back; value = e.value },
+      record { lends = tt; updates = e.updates; handed_back = e.handed_back; value = e.value },
     )

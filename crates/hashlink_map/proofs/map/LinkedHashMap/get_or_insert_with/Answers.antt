@@ -19,7 +19,7 @@ returns-in-Some g c =
         lends = tt;
         updates = λ w. updates-put eq g.met.K.Eq.laws old.entries k w (length old.entries) distinct;
         value = rw (lookup-place (eq k) old.entries _ found.place ∙ value) refl;
-        given = tt;
+        handed_back = tt;
         made = tt;
       },
     )
@@ -45,7 +45,7 @@ returns g c =
         lends = tt;
         updates = λ w. updates-put eq laws old.entries k w (length old.entries) distinct;
         value = rw value c.make.ensures;
-        given = tt;
+        handed_back = tt;
         made = tt;
       },
     )

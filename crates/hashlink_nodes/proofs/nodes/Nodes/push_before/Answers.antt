@@ -25,6 +25,6 @@ returns g c =
       apart = l.apart;
       link_writes = l.link_writes;
       handed_back = tt;
-      refused = tt;
+      unchanged = tt;
       succeeds = λ _. refl;
     }

@@ -24,8 +24,8 @@ returns-in_err-or_insert-clause-refused g c =
     pair refused
     in
     let one : RefusesEntry eq m new c.args.word 1 pair =
-    subst (λ d. RefusesEntry eq m new c.args.word d pair) (ap (λ p. p.1) c.in_err-or_insert.ensures.given)
-    before
+    subst (λ d. RefusesEntry eq m new c.args.word d pair)
+    (ap (λ p. p.1) c.in_err-or_insert.ensures.handed_back) before
     in
     search rules
 

@@ -5,4 +5,4 @@ pub loop-self-init : goal.loop-self-init
 loop-self-init g c n = refl
 
 pub loop-self-preserved : goal.loop-self-preserved
-loop-self-preserved g c n = c.in_default.ensures.same n ∙ c.loop-self.invariant n
+loop-self-preserved g c n = c.in_default.ensures.unchanged n ∙ c.loop-self.invariant n

@@ -12,7 +12,7 @@ invariant_of-self g c =
           (c.self.invariant.clean n);
     }
 
-pub returns-clause-same : goal.returns-clause-same
-returns-clause-same g c n =
+pub returns-clause-unchanged : goal.returns-clause-unchanged
+returns-clause-unchanged g c n =
     rw (← c.self.view_is, c.get.follows.holds-at-none.2)
     (lookup-moved nat_eq nat_eq_equiv n _ c.args.number _ c.get.ensures.distinct)

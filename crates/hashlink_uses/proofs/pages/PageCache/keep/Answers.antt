@@ -14,7 +14,7 @@ invariant_of-self-2 g c =
           let found = lookup-cache_inserts nat_eq nat_eq_equiv n _ _ c.args.number c.args.page c.in-Ok.field-0
           c.in-Ok.ensures.inserts after.distinct sound.within sound.some in
           let same = eqb-true c.args.number n in
-          grind (arith, found, after.pages, after.same n, sound.clean n, c.requires.stored, same);
+          grind (arith, found, after.pages, after.unchanged n, sound.clean n, c.requires.stored, same);
     }
 
 pub returns-clause-kept : goal.returns-clause-kept
@@ -22,4 +22,4 @@ returns-clause-kept g c n =
     let after = rw (← c.self.view_is) at c.in_default.ensures in
     let found = lookup-cache_inserts nat_eq nat_eq_equiv n _ _ c.args.number c.args.page c.in-Ok.field-0
     c.in-Ok.ensures.inserts after.distinct c.self.invariant.within c.self.invariant.some in
-    grind (arith, found, after.same n, after.saved)
+    grind (arith, found, after.unchanged n, after.saved)

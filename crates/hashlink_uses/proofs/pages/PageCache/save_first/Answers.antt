@@ -16,8 +16,8 @@ invariant_of-self g c =
           grind (arith, found, sound.clean n);
     }
 
-pub returns-clause-same : goal.returns-clause-same
-returns-clause-same g c n =
+pub returns-clause-unchanged : goal.returns-clause-unchanged
+returns-clause-unchanged g c n =
     let after = rw (← c.self-2.view_is) at c.in_ok-save.ensures in
     let found = lookup-takes_first nat_eq nat_eq_equiv n _ _ _ after.distinct c.remove_lru.ensures.entries in
-    grind (arith, found, after.same n, after.saved, eqb-true c.in-Some.first.now n)
+    grind (arith, found, after.unchanged n, after.saved, eqb-true c.in-Some.first.now n)
