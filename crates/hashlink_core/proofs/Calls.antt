@@ -4,7 +4,7 @@ use Names.{◌≡◌, Result, Ok, Err, OnErr, ℕ, ◌+◌, ◌-◌, ◌≤◌, 
 use Names.{None, Some, refl, ap, ap₂, sym, subst, ◌∙◌, arith, slice_get, insert, remove, IsPermutation}
 use Names.{IsDistinct, option_map, IsEquivalence, lookup, remove_entry, set_value, keys_of, values_of}
 use Names.{NonePasses, lookup-none, length-values_of, following_place, preceding_place, place_of, moved_at}
-use Names.{place_left, Node, Held, same_node, same_node_equiv, Holds, IsPlace, next_place, prev_place, Ring}
+use Names.{place_left, Node, Entry, same_node, same_node_equiv, Holds, IsPlace, next_place, prev_place, Ring}
 use Names.{held, pair_of, with_value, with_key, MovesBefore, MovesAfter, put_before, Contents, len_of, Keyed}
 use Names.{nodes_of, pairs_in, entries_of, state_of, keyed, seen_as, pair_with_value, pair_with_key, IsKeyed}
 use Names.{HoldsKey, with_value_at, place_number, IsPlaceAt, renewed_at, AddsNode, RemovesNode, MovesNode}
@@ -104,7 +104,7 @@ module _ {K V S : Type 0} {eq : K → K → Bool} (laws : IsEquivalence eq) {has
     same-here = sym (number-inside (Some n))
 
     -- what the node holds, and its place
-    at : (h : Held K V) × IsNodeAt r.entries n h
+    at : (h : Entry K V) × IsNodeAt r.entries n h
     at = node-at r.entries n held-inside
 
     -- the node after it, and the node before it
@@ -128,8 +128,8 @@ module _ {K V S : Type 0} {eq : K → K → Bool} (laws : IsEquivalence eq) {has
         ∙ pair-at r.entries i n at.0 at.1.at ∙ sym (ap (option_map pair_of) at.1.found)
 
     -- a part of what it holds
-    pub part-stored : {Y : Type 0} (f : Held K V → Y) (g : K × V → Y) → ((h : Held K V) → f h ≡ g (pair_of h))
-        → (y : Y) → option_map f (lookup (same_node n) r.entries) ≡ Some y
+    pub part-stored : {Y : Type 0} (f : Entry K V → Y) (g : K × V → Y)
+        → ((h : Entry K V) → f h ≡ g (pair_of h)) → (y : Y) → option_map f (lookup (same_node n) r.entries) ≡ Some y
         → option_map g (slice_get (entries_of seen) j) ≡ Some y
     part-stored f g same y is =
         let held : f at.0 ≡ y = cc (sym (ap (option_map f) at.1.found) ∙ is) in
@@ -153,7 +153,7 @@ module _ {K V S : Type 0} {eq : K → K → Bool} (laws : IsEquivalence eq) {has
       pub removed-node : s'.link_writes ≡ r.link_writes + 3 → RemovesNode seen (seen_as s' u s) j
       removed-node more =
           let nodes : nodes_of s'.entries ≡ remove seen.nodes j =
-          ap nodes_of gone ∙ remove-map (λ (e : Node × Held K V). (e.0, pair_of e.1)) r.entries i
+          ap nodes_of gone ∙ remove-map (λ (e : Node × Entry K V). (e.0, pair_of e.1)) r.entries i
           ∙ ap₂ remove nodes-seen same-here in
           record {
             nodes = nodes;
@@ -174,7 +174,7 @@ module _ {K V S : Type 0} {eq : K → K → Bool} (laws : IsEquivalence eq) {has
           → IsInStep eq hash s' t × MovesNode seen (seen_as s' t s) j b
       moved b to =
           let nodes : nodes_of s'.entries ≡ moved_at seen.nodes j b =
-          ap nodes_of to ∙ moved-map (λ (e : Node × Held K V). (e.0, pair_of e.1)) r.entries i b
+          ap nodes_of to ∙ moved-map (λ (e : Node × Entry K V). (e.0, pair_of e.1)) r.entries i b
           ∙ ap₂ (λ ns k. moved_at ns k b) nodes-seen same-here in (
             step-renewed laws r s' t n at.0 at.0 i (place_left i b) step at.1.at
                 (to ∙ moved_at-is r.entries i b (n, at.0) at.1.at) refl (laws.refl at.0.key) refl
@@ -198,20 +198,20 @@ module _ {K V S : Type 0} {eq : K → K → Bool} (laws : IsEquivalence eq) {has
             (moves_after-at r.entries n p step.apart held-inside (rest-inside n p place) s'.entries m))
 
     -- ---- its entry was changed in place
-    module _ (s' : Ring K V) (f : Held K V → Held K V) (set : IfSome (lookup (same_node n) r.entries)
+    module _ (s' : Ring K V) (f : Entry K V → Entry K V) (set : IfSome (lookup (same_node n) r.entries)
         (λ h. s'.entries ≡ set_value (same_node n) r.entries (f h))) (free : s'.free ≡ r.free) where
       renewed : s'.entries ≡ renewed_at f r.entries i
       renewed = (rw at.1.found at set) ∙ set_value-at f r.entries n at.0 at.1.found
 
-      renewed-step : ((h : Held K V) → (f h).number ≡ h.number)
-          → ((h : Held K V) → lookup (same_node n) r.entries ≡ Some h → (eq h.key (f h).key ≡ true)
+      renewed-step : ((h : Entry K V) → (f h).number ≡ h.number)
+          → ((h : Entry K V) → lookup (same_node n) r.entries ≡ Some h → (eq h.key (f h).key ≡ true)
           × (hash (f h).key ≡ hash h.key)) → IsInStep eq hash s' t
       renewed-step number key =
           step-renewed laws r s' t n at.0 (f at.0) i i step at.1.at
           (renewed ∙ renewed_at-is f r.entries i (n, at.0) at.1.at) (number at.0)
           (key at.0 at.1.found).0 (key at.0 at.1.found).1 (ap length free)
 
-      renewed-nodes : (g : K × V → K × V) → ((h : Held K V) → pair_of (f h) ≡ g (pair_of h))
+      renewed-nodes : (g : K × V → K × V) → ((h : Entry K V) → pair_of (f h) ≡ g (pair_of h))
           → nodes_of s'.entries ≡ renewed_at g seen.nodes j
       renewed-nodes g same = ap nodes_of renewed ∙ renewed-mapped pair_of f g same r.entries i
           ∙ ap₂ (renewed_at g) nodes-seen same-here
@@ -254,7 +254,7 @@ module _ {K V S : Type 0} {eq : K → K → Bool} (laws : IsEquivalence eq) {has
     pub lent : (w : V) → IsInStep eq hash (ring_with_value_at r n w) t
         × (seen_as (ring_with_value_at r n w) t s ≡ with_value_at seen n w)
     lent w =
-        let set = or-some (λ (h : Held K V). set_value (same_node n) r.entries (with_value h w)) r.entries
+        let set = or-some (λ (h : Entry K V). set_value (same_node n) r.entries (with_value h w)) r.entries
         (lookup (same_node n) r.entries) in
         let written = value-written (ring_with_value_at r n w) w set refl refl in (
           written.0,
@@ -302,7 +302,7 @@ module _ {K V S : Type 0} {eq : K → K → Bool} (laws : IsEquivalence eq) {has
     added-node after stored =
         let before : seen_as r t s ≡ record old { room = seen.room } = view ∙ grown.rest in
         let gone_in : nodes_of r'.entries ≡ insert old.nodes (place_number old.nodes p) (n, (k, v)) =
-        ap nodes_of put-at ∙ insert-map (λ (e : Node × Held K V). (e.0, pair_of e.1)) r.entries
+        ap nodes_of put-at ∙ insert-map (λ (e : Node × Entry K V). (e.0, pair_of e.1)) r.entries
         (place_number r.entries p) (n, held number k v)
         ∙ ap (λ i. insert (nodes_of r.entries) i (n, (k, v))) (sym (place_number-mapped pair_of r.entries p))
         ∙ ap (λ ns. insert ns (place_number ns p) (n, (k, v))) same-nodes in

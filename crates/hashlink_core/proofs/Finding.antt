@@ -6,7 +6,7 @@ use Names.{None, Some, refl, ap, sym, subst, ◌∙◌, arith, ◌⊎◌, inl, i
 use Names.{FnReturnsAt, fold, lookup, remove_entry, set_value, keys_of, option_map, is_some, IfSome, IfNone}
 use Names.{IsTrue, IsPermutation, slice_get, Contains, lookup-set_value, NonePasses, Contains-from_lookup}
 use Names.{lookup-from_Contains, place_of_its_key, slice_get_here, place_of, IsKeyTest, same_node}
-use Names.{same_node_equiv, eq-same_node, Ring, ring, Holds, pair_of, with_number, Held, Node, Contents}
+use Names.{same_node_equiv, eq-same_node, Ring, ring, Holds, pair_of, with_number, Entry, Node, Contents}
 use Names.{Keeps, nodes_of, pairs_in, HoldsMatch, place_number, Tells, IsInStep, short, hash_with, mapped-at}
 use Names.{from_part, element-at, at-element, lookup-map_values, node-at}
 use Rattle.hashlink_core.proofs.Mapped.{place_number-mapped}
@@ -31,7 +31,7 @@ module _ {X : Type 0} (test : Node → Bool) (es : List (Node × X)) (x : X) (fo
 
 -- the number of n's entry was replaced by one that is no short hash, which left the entries fs
 pub record Marked {K V : Type 0} (r : Ring K V) (n : Node) (number : ℕ)
-    (fs : List (Node × Held K V)) : Type 0 where
+    (fs : List (Node × Entry K V)) : Type 0 where
   pub mark : ℕ
   pub long : 2 ^ 32 ≤ mark
   pub held : Holds r.entries n
@@ -48,7 +48,7 @@ pub record Detached {K V : Type 0} (r : Ring K V) (n : Node) (number : ℕ) (s :
 
 module _ {K V : Type 0} {eq : K → K → Bool} {hash : K → ℕ} {r : Ring K V} {t : Contents Node}
     (step : IsInStep eq hash r t) where
-  number-short : (m : Node) (h : Held K V) → lookup (same_node m) r.entries ≡ Some h → h.number < 2 ^ 32
+  number-short : (m : Node) (h : Entry K V) → lookup (same_node m) r.entries ≡ Some h → h.number < 2 ^ 32
   number-short m h at = omega (arith, number-of step m h at)
 
   -- the number of a node's entry
@@ -59,8 +59,8 @@ module _ {K V : Type 0} {eq : K → K → Bool} {hash : K → ℕ} {r : Ring K V
       let own : x.0.number ≡ number = cc (sym (ap (option_map (λ h. h.number)) x.1.found) ∙ is) in
       omega (arith, number-short n x.0 x.1.found, own)
 
-  module _ {n : Node} {number : ℕ} {fs : List (Node × Held K V)} (marked : Marked r n number fs) where
-    abbrev own : Held K V
+  module _ {n : Node} {number : ℕ} {fs : List (Node × Entry K V)} (marked : Marked r n number fs) where
+    abbrev own : Entry K V
     own = (node-at r.entries n marked.held).0
 
     found : lookup (same_node n) r.entries ≡ Some own
@@ -89,7 +89,7 @@ module _ {K V : Type 0} {eq : K → K → Bool} {hash : K → ℕ} {r : Ring K V
         (lookup (same_node m) r.entries)) ≡ true) [ true ↦ refl | false ↦ there ])
 
     -- it has its old number again
-    restored : (gs : List (Node × Held K V)) → IfSome (lookup (same_node n) fs)
+    restored : (gs : List (Node × Entry K V)) → IfSome (lookup (same_node n) fs)
         (λ h. gs ≡ set_value (same_node n) fs (with_number h number)) → gs ≡ r.entries
     restored gs set =
         subst (λ o. IfSome o (λ h. gs ≡ set_value (same_node n) fs (with_number h number))) own-now set
@@ -108,7 +108,7 @@ module _ {K V : Type 0} {eq : K → K → Bool} {hash : K → ℕ} {r : Ring K V
       restored-step = subst (λ r. IsInStep eq hash r t) (sym restored-ring) step
 
     -- a node of the ring that has the mark is n
-    marked-is : (m : Node) → Holds r.entries m → (h : Held K V) → lookup (same_node m) fs ≡ Some h
+    marked-is : (m : Node) → Holds r.entries m → (h : Entry K V) → lookup (same_node m) fs ≡ Some h
         → h.number ≡ marked.mark → m ≡ n
     marked-is m there h at is =
         (elim (same_node n m) as (λ b. same_node n m ≡ b → m ≡ n) [
@@ -122,7 +122,7 @@ module _ {K V : Type 0} {eq : K → K → Bool} {hash : K → ℕ} {r : Ring K V
               absurd (omega (
                 arith,
                 is,
-                ap (λ (h : Held K V). h.number) same,
+                ap (λ (h : Entry K V). h.number) same,
                 number-short m x.0 x.1.found,
                 marked.long,
               ))
@@ -202,7 +202,7 @@ module _ {K V : Type 0} {eq : K → K → Bool} {hash : K → ℕ} {r : Ring K V
         (sym (only number m (was-kept t u number m some.0) some.1)) some.0
 
 -- what a call returned for a node's key
-pub answered-at : {K V : Type 0} (P : K → Type 0) (o : Option (Held K V)) (key : K) (value : V)
+pub answered-at : {K V : Type 0} (P : K → Type 0) (o : Option (Entry K V)) (key : K) (value : V)
     → option_map pair_of o ≡ Some (key, value) → P key
     → IfSome o (λ h. P h.key)
 answered-at P o key value is p =
@@ -221,7 +221,7 @@ told {eq = eq} laws {held = held} {k = k} tells x b within r =
     ∙ ap (λ y. eq y k) r.shows ∙ laws.symm x k
 
 -- the key of a node's entry is among the keys
-pub key-held : {K V : Type 0} (es : List (Node × Held K V)) (n : Node) (h : Held K V)
+pub key-held : {K V : Type 0} (es : List (Node × Entry K V)) (n : Node) (h : Entry K V)
     → lookup (same_node n) es ≡ Some h
     → Contains (keys_of (pairs_in es)) h.key
 key-held es n h is =
@@ -233,7 +233,7 @@ key-held es n h is =
 pub record Search {K V : Type 0} (hash : K → ℕ) (r : Ring K V) (passes : K → Bool) (i : ℕ)
     (Answers : K → Bool → Type 0) : Type 0 where
   pub hashed : (x : K) → passes x ≡ true → short (hash x) ≡ i
-  pub tells : (n : Node) (h : Held K V) → lookup (same_node n) r.entries ≡ Some h
+  pub tells : (n : Node) (h : Entry K V) → lookup (same_node n) r.entries ≡ Some h
       → (b : Bool) → Answers h.key b → b ≡ passes h.key
 
 -- the keys that a query matches have its hash
@@ -265,7 +265,7 @@ module _ {K V : Type 0} {eq : K → K → Bool} (laws : IsEquivalence eq) {hash 
 
   module _ {passes : K → Bool} {i : ℕ} {Answers : K → Bool → Type 0}
       (search : Search hash r passes i Answers) where
-    answered : (n : Node) (h : Held K V) (b : Bool) → lookup (same_node n) r.entries ≡ Some h
+    answered : (n : Node) (h : Entry K V) (b : Bool) → lookup (same_node n) r.entries ≡ Some h
         → IfSome (lookup (same_node n) r.entries) (λ g. Answers g.key b)
         → passes h.key ≡ b
     answered n h b here answer = sym (search.tells n h here b (rw here at answer))

@@ -5,7 +5,7 @@ use Names.{◌≡◌, ℕ, suc, Bool, List, [], ◌∷◌, Some, refl, ap, sym, 
 use Names.{length, ap₂, subst, IsEquivalence, IsDistinct, lookup, keys_of, values_of, slice_get, remove}
 use Names.{Contains, IsPermutation, insert, length-map, get_or-map, NonePasses, Contains-tail}
 use Names.{Contains-from_lookup, lookup-from_Contains, slice_get_within, get_or_from_slice_get, IsEntries-nil}
-use Names.{none_equal, IsEntries, same_node, same_node_equiv, eq-same_node, Ring, ring, pair_of, Held, Node}
+use Names.{none_equal, IsEntries, same_node, same_node_equiv, eq-same_node, Ring, ring, pair_of, Entry, Node}
 use Names.{Contents, Keeps, nodes_of, pairs_in, IsInStep, numbered_nodes, short, element-at, at-element}
 use Names.{mapped-at, from-mapped, length-inserted, length-removed, insert-map, remove-map, IsEntries-removed}
 use Names.{IsEntries-inserted, none-removed}
@@ -80,7 +80,7 @@ was-kept t u number n left =
     Contains-permutation (kept number n ∷ u.nodes) t.nodes (kept number n) (IsPermutation-sym _ _ left)
     (0, omega arith, refl)
 
-pub nodes-numbered : {K V : Type 0} (es : List (Node × Held K V))
+pub nodes-numbered : {K V : Type 0} (es : List (Node × Entry K V))
     → map (λ k. k.node) (numbered_nodes es) ≡ keys_of es
 nodes-numbered [] = refl
 nodes-numbered (e ∷ es) = ap (λ ns. e.0 ∷ ns) (nodes-numbered es)
@@ -88,14 +88,14 @@ nodes-numbered (e ∷ es) = ap (λ ns. e.0 ∷ ns) (nodes-numbered es)
 module _ {K V : Type 0} {eq : K → K → Bool} {hash : K → ℕ} {r : Ring K V} {t : Contents Node}
     (step : IsInStep eq hash r t) where
   -- the number of an entry is the short hash of its key
-  pub number-at : (i : ℕ) (n : Node) (h : Held K V) → slice_get r.entries i ≡ Some (n, h)
+  pub number-at : (i : ℕ) (n : Node) (h : Entry K V) → slice_get r.entries i ≡ Some (n, h)
       → h.number ≡ short (hash h.key)
   number-at i n h at =
-      let left = mapped-at (λ (e : Node × Held K V). e.1.number) r.entries i (n, h) at in
-      let right = mapped-at (λ (e : Node × Held K V). short (hash e.1.key)) r.entries i (n, h) at in
+      let left = mapped-at (λ (e : Node × Entry K V). e.1.number) r.entries i (n, h) at in
+      let right = mapped-at (λ (e : Node × Entry K V). short (hash e.1.key)) r.entries i (n, h) at in
       cc (sym left ∙ ap (λ l. slice_get l i) step.numbered ∙ right)
 
-  module _ (n : Node) (h : Held K V) (here : lookup (same_node n) r.entries ≡ Some h) where
+  module _ (n : Node) (h : Entry K V) (here : lookup (same_node n) r.entries ≡ Some h) where
     entry-in : Contains r.entries (n, h)
     entry-in = Contains-from_lookup eq-same_node n h r.entries here
 
@@ -107,16 +107,16 @@ module _ {K V : Type 0} {eq : K → K → Bool} {hash : K → ℕ} {r : Ring K V
     in-table =
         Contains-permutation (numbered_nodes r.entries) t.nodes (kept h.number n) step.tied
         (element-at (numbered_nodes r.entries) entry-in.0 (kept h.number n)
-        (mapped-at (λ (e : Node × Held K V). kept e.1.number e.0) r.entries entry-in.0 (n, h)
+        (mapped-at (λ (e : Node × Entry K V). kept e.1.number e.0) r.entries entry-in.0 (n, h)
         (at-element r.entries (n, h) entry-in)))
 
   -- each node of the table is in the ring, and its entry has the same number
   pub listed : (number : ℕ) (n : Node) → Keeps t number n
-      → (h : Held K V) × (lookup (same_node n) r.entries ≡ Some h) × (h.number ≡ number)
+      → (h : Entry K V) × (lookup (same_node n) r.entries ≡ Some h) × (h.number ≡ number)
   listed number n there =
       let c = Contains-permutation t.nodes (numbered_nodes r.entries) (kept number n)
       (IsPermutation-sym _ _ step.tied) there in
-      let x = from-mapped (λ (e : Node × Held K V). kept e.1.number e.0) r.entries c.0 (kept number n)
+      let x = from-mapped (λ (e : Node × Entry K V). kept e.1.number e.0) r.entries c.0 (kept number n)
       (at-element (numbered_nodes r.entries) (kept number n) c) in
       let same : x.0.0 ≡ n = ap (λ (k : Hashed Node). k.node) x.2 in (
         x.0.1,
@@ -127,30 +127,30 @@ module _ {K V : Type 0} {eq : K → K → Bool} {hash : K → ℕ} {r : Ring K V
 
 module _ {K V : Type 0} where
   -- ---- the ring's pairs
-  pub pairs-inserted : (es : List (Node × Held K V)) (i : ℕ) (n : Node) (h : Held K V)
+  pub pairs-inserted : (es : List (Node × Entry K V)) (i : ℕ) (n : Node) (h : Entry K V)
       → pairs_in (insert es i (n, h)) ≡ insert (pairs_in es) i (pair_of h)
   pairs-inserted es i n h =
-      ap values_of (insert-map (λ (e : Node × Held K V). (e.0, pair_of e.1)) es i (n, h))
+      ap values_of (insert-map (λ (e : Node × Entry K V). (e.0, pair_of e.1)) es i (n, h))
       ∙ insert-map (λ (e : Node × (K × V)). e.1) (nodes_of es) i (n, pair_of h)
 
-  pub pairs-removed : (es : List (Node × Held K V)) (j : ℕ) → pairs_in (remove es j) ≡ remove (pairs_in es) j
-  pairs-removed es j = ap values_of (remove-map (λ (e : Node × Held K V). (e.0, pair_of e.1)) es j)
+  pub pairs-removed : (es : List (Node × Entry K V)) (j : ℕ) → pairs_in (remove es j) ≡ remove (pairs_in es) j
+  pairs-removed es j = ap values_of (remove-map (λ (e : Node × Entry K V). (e.0, pair_of e.1)) es j)
       ∙ remove-map (λ (e : Node × (K × V)). e.1) (nodes_of es) j
 
-  pub length-pairs : (es : List (Node × Held K V)) → length (pairs_in es) ≡ length es
+  pub length-pairs : (es : List (Node × Entry K V)) → length (pairs_in es) ≡ length es
   length-pairs es = length-map (nodes_of es) (λ e. e.1) ∙ length-map es (λ e. (e.0, pair_of e.1))
 
-  pub pair-at : (es : List (Node × Held K V)) (j : ℕ) (n : Node) (h : Held K V) → slice_get es j ≡ Some (n, h)
-      → slice_get (pairs_in es) j ≡ Some (pair_of h)
+  pub pair-at : (es : List (Node × Entry K V)) (j : ℕ) (n : Node) (h : Entry K V)
+      → slice_get es j ≡ Some (n, h) → slice_get (pairs_in es) j ≡ Some (pair_of h)
   pair-at es j n h at =
       mapped-at (λ (e : Node × (K × V)). e.1) (nodes_of es) j (n, pair_of h)
-      (mapped-at (λ (e : Node × Held K V). (e.0, pair_of e.1)) es j (n, h) at)
+      (mapped-at (λ (e : Node × Entry K V). (e.0, pair_of e.1)) es j (n, h) at)
 
-  pub held-at : (es : List (Node × Held K V)) (j : ℕ) (p : K × V) → slice_get (pairs_in es) j ≡ Some p
-      → (e : Node × Held K V) × (slice_get es j ≡ Some e) × (pair_of e.1 ≡ p)
+  pub held-at : (es : List (Node × Entry K V)) (j : ℕ) (p : K × V) → slice_get (pairs_in es) j ≡ Some p
+      → (e : Node × Entry K V) × (slice_get es j ≡ Some e) × (pair_of e.1 ≡ p)
   held-at es j p at =
       let x = from-mapped (λ (e : Node × (K × V)). e.1) (nodes_of es) j p at in
-      let y = from-mapped (λ (e : Node × Held K V). (e.0, pair_of e.1)) es j x.0 x.1 in
+      let y = from-mapped (λ (e : Node × Entry K V). (e.0, pair_of e.1)) es j x.0 x.1 in
       (y.0, y.1, ap (λ e. e.1) y.2 ∙ x.2)
 
 module _ {K V : Type 0} {eq : K → K → Bool} (laws : IsEquivalence eq) {hash : K → ℕ} where
@@ -160,7 +160,7 @@ module _ {K V : Type 0} {eq : K → K → Bool} (laws : IsEquivalence eq) {hash 
       → IsInStep eq hash r t
   step-none r t none bare fits = record {
     distinct = rw none (IsEntries-nil V eq);
-    apart = rw none (IsEntries-nil (Held K V) same_node);
+    apart = rw none (IsEntries-nil (Entry K V) same_node);
     numbered = rw none refl;
     tied = rw (none, bare) (IsPermutation-refl []);
     count = ap length bare ∙ sym (ap length none);
@@ -181,7 +181,7 @@ module _ {K V : Type 0} {eq : K → K → Bool} (laws : IsEquivalence eq) {hash 
   }
 
   -- the entry h of n was added, to the ring at i and to the table under its number
-  pub step-in : (r s : Ring K V) (t u : Contents Node) (n : Node) (h : Held K V) (i : ℕ)
+  pub step-in : (r s : Ring K V) (t u : Contents Node) (n : Node) (h : Entry K V) (i : ℕ)
       → IsInStep eq hash r t → NonePasses (eq h.key) (pairs_in r.entries)
       → NonePasses (same_node n) r.entries → s.entries ≡ insert r.entries i (n, h)
       → h.number ≡ short (hash h.key) → IsPermutation (kept h.number n ∷ t.nodes) u.nodes
@@ -195,10 +195,10 @@ module _ {K V : Type 0} {eq : K → K → Bool} (laws : IsEquivalence eq) {hash 
         distinct = subst (IsEntries eq) (sym (ap pairs_in put ∙ pairs-inserted r.entries i n h))
             (IsEntries-inserted eq laws (pairs_in r.entries) step.distinct i (pair_of h) none);
         apart = rw put (IsEntries-inserted same_node same_node_equiv r.entries step.apart i (n, h) fresh);
-        numbered = rw put (insert-map (λ (e : Node × Held K V). e.1.number) r.entries i (n, h)
+        numbered = rw put (insert-map (λ (e : Node × Entry K V). e.1.number) r.entries i (n, h)
             ∙ ap₂ (λ l x. insert l i x) step.numbered number
-            ∙ sym (insert-map (λ (e : Node × Held K V). short (hash e.1.key)) r.entries i (n, h)));
-        tied = rw (put, insert-map (λ (e : Node × Held K V). kept e.1.number e.0) r.entries i (n, h))
+            ∙ sym (insert-map (λ (e : Node × Entry K V). short (hash e.1.key)) r.entries i (n, h)));
+        tied = rw (put, insert-map (λ (e : Node × Entry K V). kept e.1.number e.0) r.entries i (n, h))
             (IsPermutation-trans _ _ _
             (IsPermutation-sym _ _ (IsPermutation-insert (numbered_nodes r.entries) i (kept h.number n)))
             (IsPermutation-trans _ _ _ (IsPermutation-cons (kept h.number n) _ _ step.tied) came));
@@ -207,13 +207,13 @@ module _ {K V : Type 0} {eq : K → K → Bool} (laws : IsEquivalence eq) {hash 
       }
 
   -- the entry h of n, which is at j
-  module _ (r s : Ring K V) (t : Contents Node) (n : Node) (h : Held K V) (j : ℕ)
+  module _ (r s : Ring K V) (t : Contents Node) (n : Node) (h : Entry K V) (j : ℕ)
       (step : IsInStep eq hash r t)
       (at : slice_get r.entries j ≡ Some (n, h)) where
     numbered-first : IsPermutation (numbered_nodes r.entries)
         (kept h.number n ∷ remove (numbered_nodes r.entries) j)
     numbered-first =
-        let there = mapped-at (λ (e : Node × Held K V). kept e.1.number e.0) r.entries j (n, h) at in
+        let there = mapped-at (λ (e : Node × Entry K V). kept e.1.number e.0) r.entries j (n, h) at in
         IsPermutation-remove (numbered_nodes r.entries) j (kept h.number n)
         (slice_get_within (numbered_nodes r.entries) j _ there)
         (sym (get_or_from_slice_get (numbered_nodes r.entries) j _ _ there))
@@ -237,10 +237,10 @@ module _ {K V : Type 0} {eq : K → K → Bool} (laws : IsEquivalence eq) {hash 
               (pair-at r.entries j n h at));
           apart = rw removed
               (IsEntries-removed same_node same_node_equiv r.entries step.apart j (n, h) at);
-          numbered = rw removed (remove-map (λ (e : Node × Held K V). e.1.number) r.entries j
+          numbered = rw removed (remove-map (λ (e : Node × Entry K V). e.1.number) r.entries j
               ∙ ap (λ l. remove l j) step.numbered
-              ∙ sym (remove-map (λ (e : Node × Held K V). short (hash e.1.key)) r.entries j));
-          tied = rw (removed, remove-map (λ (e : Node × Held K V). kept e.1.number e.0) r.entries j)
+              ∙ sym (remove-map (λ (e : Node × Entry K V). short (hash e.1.key)) r.entries j));
+          tied = rw (removed, remove-map (λ (e : Node × Entry K V). kept e.1.number e.0) r.entries j)
               (after-first (kept h.number n) (remove (numbered_nodes r.entries) j) u.nodes once
               (IsPermutation-trans _ _ _ (IsPermutation-sym _ _ numbered-first)
               (IsPermutation-trans _ _ _ step.tied left)));
@@ -249,7 +249,7 @@ module _ {K V : Type 0} {eq : K → K → Bool} (laws : IsEquivalence eq) {hash 
         }
 
   -- it now is g, at i: it was removed and inserted again
-  pub step-renewed : (r s : Ring K V) (t : Contents Node) (n : Node) (h g : Held K V) (j i : ℕ)
+  pub step-renewed : (r s : Ring K V) (t : Contents Node) (n : Node) (h g : Entry K V) (j i : ℕ)
       → IsInStep eq hash r t → slice_get r.entries j ≡ Some (n, h)
       → s.entries ≡ insert (remove r.entries j) i (n, g)
       → g.number ≡ h.number → eq h.key g.key ≡ true → hash g.key ≡ hash h.key

@@ -5,7 +5,7 @@ use Names.{◌≡◌, ℕ, zero, suc, ◌+◌, ◌-◌, ◌<◌, ◌≢◌, true
 use Names.{Option, None, Some, refl, ap, sym, ◌∙◌, arith, ⊎_elim, slice_get, is_some, unwrap_or, IfSome}
 use Names.{IsDistinct, option_map, lookup, keys_of, TakesFirst, TakesLast, ShowsInOrder, ShowsInReverse}
 use Names.{from_front, from_back, take-length, take-suc, cases_lt, slice_get_within, get_or_from_slice_get}
-use Names.{preceding_place, place_or_end, Node, Held, same_node, next_place, prev_place, pair_of, Holds}
+use Names.{preceding_place, place_or_end, Node, Entry, same_node, next_place, prev_place, pair_of, Holds}
 use Names.{pairs_in, place_number, drop-at, place_or_end-cons, place_or_end-most, node-at, around}
 use Names.{following-within, IfNone, IsEntries}
 use Rattle.hashlink_core.specs.Walk.{pairs_from, StandsBetween}
@@ -49,7 +49,7 @@ module _ {X : Type 0} where
       [ true ↦ λ _. refl | false ↦ λ k. within-holds es n (omega (arith, k)) ])
       (rw (place_or_end-cons same_node e es n) at lt)
 
-pub pairs_in-last : {K V : Type 0} (es : List (Node × Held K V)) (n : Node) (h : Held K V)
+pub pairs_in-last : {K V : Type 0} (es : List (Node × Entry K V)) (n : Node) (h : Entry K V)
     → pairs_in (es ++ (n, h) ∷ []) ≡ pairs_in es ++ pair_of h ∷ []
 pairs_in-last [] n h = refl
 pairs_in-last (e ∷ es) n h = ap (λ ps. pair_of e.1 ∷ ps) (pairs_in-last es n h)
@@ -106,7 +106,7 @@ module _ {X : Type 0} (es : List (Node × X)) where
   node-number (Some m) z i number none = number
 
 -- an iterator over all entries
-pub walk-of_all : {K V : Type 0} (es : List (Node × Held K V)) (free : List Node) (q q' : Option Node)
+pub walk-of_all : {K V : Type 0} (es : List (Node × Entry K V)) (free : List Node) (q q' : Option Node)
     (z z' first last : Node) (left : ℕ) → IsDistinct same_node (keys_of es ++ free)
     → q ≡ next_place (keys_of es) None → first ≡ unwrap_or q z
     → q' ≡ prev_place (keys_of es) None → last ≡ unwrap_or q' z' → left ≡ length es
@@ -123,7 +123,7 @@ walk-of_all es free q q' z z' first last left apart next is_first prev is_last a
       rw (front, all, take-length es) refl,
     )
 
-module _ {K V : Type 0} {es : List (Node × Held K V)} {first last : Node} {left : ℕ}
+module _ {K V : Type 0} {es : List (Node × Entry K V)} {first last : Node} {left : ℕ}
     (w : StandsBetween es (Some first) (Some last) left) (some : left ≢ 0) where
   one-more : left ≡ suc (left - 1)
   one-more = omega (arith, some)

@@ -3,7 +3,7 @@
 use Rattle.std.specs.{Prelude.{◌≡◌, ℕ, Bool, true, List, length, map, Some, IfSome}, Map.values_of}
 use Rattle.hashlink_model.specs.{Entries.{IsEntries, place_of}, MapState.{MapState, map_state, HasRoom}}
 use Rattle.hashlink_model.specs.Entry.{key_at}
-use Rattle.hashlink_nodes.specs.{declared.node.Node.Node, Node.same_node, declared.held.Held.Held}
+use Rattle.hashlink_nodes.specs.{declared.node.Node.Node, Node.same_node, declared.entry.Entry.Entry}
 use Rattle.hashlink_nodes.specs.Ring.{Ring, Holds, pair_of}
 use Rattle.hashlink_table.specs.Contents.{Contents}
 use Rattle.hashlink_core.specs.Places.{place_number}
@@ -18,11 +18,11 @@ pub record Keyed (K V S : Type 0) : Type 0 where
 
 module _ {K V : Type 0} where
   -- the ring's entries, as pairs with their nodes
-  abbrev pub nodes_of : List (Node × Held K V) → List (Node × (K × V))
+  abbrev pub nodes_of : List (Node × Entry K V) → List (Node × (K × V))
   nodes_of = map (λ e. (e.0, pair_of e.1))
 
   -- the ring's pairs, in order
-  abbrev pub pairs_in : List (Node × Held K V) → List (K × V)
+  abbrev pub pairs_in : List (Node × Entry K V) → List (K × V)
   pairs_in es = values_of (nodes_of es)
 
   -- the node is in the list, at the place of the first key that passes the test

@@ -1,6 +1,6 @@
 -- How the ring of nodes and the table of their hashes agree.
 use Rattle.std.specs.{Prelude.{◌≡◌, ℕ, ◌+◌, ◌%◌, ◌^◌, ◌≤◌, Bool, List, length, map, IsPermutation}, List.fold}
-use Rattle.hashlink_nodes.specs.{declared.node.Node.Node, declared.held.Held.Held, Node.same_node, Ring.Ring}
+use Rattle.hashlink_nodes.specs.{declared.node.Node.Node, Node.same_node, Ring.{Entry, Ring}}
 use Rattle.hashlink_model.specs.Entries.{IsEntries}
 use Rattle.hashlink_core.specs.Keyed.{pairs_in}
 use Rattle.hashlink_table.specs.{Contents.{Contents, len_of}, declared.hashed.Hashed.Hashed}
@@ -16,7 +16,7 @@ short hash = hash % 2 ^ 32
 
 module _ {K V : Type 0} where
   -- the nodes of the entries, each with its entry's number
-  abbrev pub numbered_nodes : List (Node × Held K V) → List (Hashed Node)
+  abbrev pub numbered_nodes : List (Node × Entry K V) → List (Hashed Node)
   numbered_nodes = map (λ e. record { hash = e.1.number; node = e.0 })
 
   -- the ring, its pairs and the table together: no two keys are equal, no node occurs twice, and the number

@@ -1,10 +1,10 @@
 -- The state of an iterator along the ring, from both ends.
 use Rattle.std.specs.Prelude.{◌≡◌, ℕ, ◌+◌, ◌<◌, ◌≤◌, List, length, take, drop, Option}
-use Rattle.hashlink_nodes.specs.declared.{node.Node.Node, held.Held.Held}
+use Rattle.hashlink_nodes.specs.declared.{node.Node.Node, entry.Entry.Entry}
 use Rattle.hashlink_core.specs.{Keyed.pairs_in, Places.place_number}
 
 -- `count` pairs, from a place on
-abbrev pub pairs_from : {K V : Type 0} → List (Node × Held K V) → Option Node → ℕ → List (K × V)
+abbrev pub pairs_from : {K V : Type 0} → List (Node × Entry K V) → Option Node → ℕ → List (K × V)
 pairs_from es place count = pairs_in (take count (drop (place_number es place) es))
 
 -- an iterator with so many entries left has the first and the last of them as its places

@@ -189,7 +189,7 @@ module _ {M : Type 1} (𝓤 : Ura M) (𝓛 : Logic 𝓤) (𝓜 : Model 𝓤 𝓛
       Z' = (walk_of 𝓛 S' lent_stays c).Ghost
 
       -- `part` is taken out of what the block k owns, and any w can be put there
-      pub record Held (n : Node) (k : Kept R.Denot) (change : P.Denot → Kept R.Denot → Kept R.Denot) : Type
+      pub record Entry (n : Node) (k : Kept R.Denot) (change : P.Denot → Kept R.Denot → Kept R.Denot) : Type
           2 where
         pub part : P.Denot
         pub rest : Ptr → Fml
@@ -200,7 +200,7 @@ module _ {M : Type 1} (𝓤 : Ura M) (𝓛 : Logic 𝓤) (𝓜 : Model 𝓤 𝓛
             (sem 𝓛 (block_owns R n.at (change w k)))
 
       module _ {change : P.Denot → Kept R.Denot → Kept R.Denot} (a : Arena R.Denot) {n : Node}
-          {k : Kept R.Denot} (h : Held n k change) (rb ro b o : ℕ) (vs : List Val) where
+          {k : Kept R.Denot} (h : Entry n k change) (rb ro b o : ℕ) (vs : List Val) where
         -- everything but the part
         abbrev Rest : Fml
         Rest =
@@ -232,7 +232,7 @@ module _ {M : Type 1} (𝓤 : Ura M) (𝓛 : Logic 𝓤) (𝓜 : Model 𝓤 𝓛
             (sep 𝓤 (fact 𝓤 (z.0.0.1.0 ⊑ T.lives)) (fact 𝓤 (Asked z.0.3.0.now z.0.3.1.0)))
         pub block : (a : Arena R.Denot) (n : Node) → Asked a n
             → (k : Kept R.Denot) × (lookup (same_node n) a.blocks ≡ Some k)
-        pub held : (a : Arena R.Denot) (n : Node) (asked : Asked a n) → Held n (block a n asked).0 change
+        pub held : (a : Arena R.Denot) (n : Node) (asked : Asked a n) → Entry n (block a n asked).0 change
         pub says : (z : Z') (asked : Asked z.0.3.0.now z.0.3.1.0)
             (r : MutBor P.Denot) → r.now ≡ (held _ _ asked).part
             → ent 𝓤 (sem 𝓛 (follows (arena_row R) P z.0.3.0.ghost_name r.ghost_name

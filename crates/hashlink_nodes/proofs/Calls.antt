@@ -3,7 +3,7 @@ use Rattle.hashlink_nodes.proofs.Names
 use Names.{◌≡◌, ℕ, ◌+◌, ◌-◌, ◌^◌, ◌<◌, [], ◌∷◌, ◌++◌, length, Option, Some, None, refl, sym, ap, ◌∙◌, subst}
 use Names.{arith, keys_of, unwrap_or, remove_entry, set_value, option_map, append-nil, is_some, IsSome, true}
 use Names.{lookup, same_node-refl, Holds, IsDistinct, IsDistinct-head, IsDistinct-tail, List, length-drop}
-use Names.{length-set_value, Node, Inside, same_node, state_of, Ring, ring, Held, IsRing, IsSound, SoundAt}
+use Names.{length-set_value, Node, Inside, same_node, state_of, Ring, ring, Entry, IsRing, IsSound, SoundAt}
 use Names.{ring_of, State, GuardIs, attached, detached, hold, store_next, Adds, Drops, AreThere, IsPlace}
 use Names.{put_before, put_after, held, pair_of, with_number}
 use Rattle.std.proofs.Common.{drop}
@@ -17,7 +17,7 @@ use Rattle.hashlink_nodes.proofs.{Rings.held_anew, Opening.{known, shrinks, node
 module _ {K V : Type 0} where
   -- ---- an entry is inserted
   -- the node n holds it, and is not yet in the ring, which will have len entries
-  pub record Ready (s : State K V) (n g first : Node) (h : Held K V) (len spare : ℕ) (v : Ring K V) : Type 0
+  pub record Ready (s : State K V) (n g first : Node) (h : Entry K V) (len spare : ℕ) (v : Ring K V) : Type 0
     where
       pub ring : IsRing s (n ∷ []) g first v
       pub holds : s.held n ≡ Some h
@@ -31,9 +31,9 @@ module _ {K V : Type 0} where
     pub leaves : {s' : State K V} {guard : Option Node} → guard ≡ Some g → s' ≡ attached n p q s
         → Leaves s' guard first len spare (ring es v.free (v.link_writes + 4))
 
-  module _ {s : State K V} {n g first : Node} {h : Held K V} {len spare : ℕ} {v : Ring K V}
+  module _ {s : State K V} {n g first : Node} {h : Entry K V} {len spare : ℕ} {v : Ring K V}
       (r : Ready s n g first h len spare v) where
-    into : {p q : Node} {put : Node × Held K V → Entries K V} (gap : Gap v.entries put)
+    into : {p q : Node} {put : Node × Entry K V → Entries K V} (gap : Gap v.entries put)
         → Linked s (last_or g (keys_of gap.before)) (head_or g (keys_of gap.after))
         → p ≡ last_or g (keys_of gap.before) → q ≡ head_or g (keys_of gap.after)
         → Into s n g first p q len spare v (put (n, h))
@@ -77,7 +77,7 @@ module _ {K V : Type 0} where
     cut_open = subst (λ es. IsRing s [] g first (ring es v.free v.link_writes)) at.cut.is at.ring
 
     -- it holds another entry
-    pub set_held : {s' : State K V} (w : Held K V) → s' ≡ hold n (Some w) s
+    pub set_held : {s' : State K V} (w : Entry K V) → s' ≡ hold n (Some w) s
         → Leaves s' guard first len spare (ring (set_value (same_node n) v.entries w) v.free v.link_writes)
     set_held {s'} w is =
         leaves at.is
@@ -85,7 +85,7 @@ module _ {K V : Type 0} where
         (renew n at.cut.value at.cut.before at.cut.after cut_open w is))
         (length-set_value (same_node n) v.entries w ∙ at.facts.is_len) at.facts.is_spare
 
-    pub renewed : {s' : State K V} (change : Held K V → Held K V)
+    pub renewed : {s' : State K V} (change : Entry K V → Entry K V)
         → s' ≡ hold n (option_map change (s.held n)) s
         → Leaves s' guard first len spare
         (ring (set_value (same_node n) v.entries (change at.cut.value)) v.free v.link_writes)
@@ -136,7 +136,8 @@ module _ {K V : Type 0} where
 
   -- ---- the steps in between
   -- a block that was written, and what it holds now
-  module _ (p q : Pool K V) (m : Node) (o : Option (Held K V)) (is : state_of q ≡ hold m o (state_of p)) where
+  module _ (p q : Pool K V) (m : Node) (o : Option (Entry K V))
+      (is : state_of q ≡ hold m o (state_of p)) where
     pub bare_now : o ≡ None → (state_of q).held m ≡ None
     bare_now none = held_now (state_of p) is ∙ none
 
@@ -180,7 +181,7 @@ module _ {K V : Type 0} where
     spare_bare some = (here (some_free some)).bare
 
     -- it holds an entry, which can be inserted
-    pub ready_spare : {s' : State K V} {g first' : Node} {h : Held K V} → n.guard ≡ Some g → 0 < n.spare
+    pub ready_spare : {s' : State K V} {g first' : Node} {h : Entry K V} → n.guard ≡ Some g → 0 < n.spare
         → first' ≡ s.next n.first_spare → s' ≡ hold n.first_spare (Some h) s
         → Ready s' n.first_spare g first' h (n.len + 1) (n.spare - 1) v'
     ready_spare {s'} {g} {h = h} is_guard some is_first is =
@@ -226,7 +227,7 @@ module _ {K V : Type 0} where
       (leaves refl (guarded_now sound view is_guard) k.is_len k.is_spare)
 
   -- a new node
-  pub ready_new : {n : Inside K V} {s s₁ s₂ : State K V} {m g : Node} {h : Held K V} {v : Ring K V}
+  pub ready_new : {n : Inside K V} {s s₁ s₂ : State K V} {m g : Node} {h : Entry K V} {v : Ring K V}
       → IsSound n → ring_of n ≡ v → GuardIs (state_of n.pool) s n.guard g → v.free ≡ [] → n.len + 1 < 2 ^ 63
       → Adds m s s₁ → s₂ ≡ hold m (Some h) s₁ → Ready s₂ m g n.first_spare h (n.len + 1) n.spare v
   ready_new {s₁ = s₁} {h = h} sound view is_guard none few a is =
@@ -239,23 +240,23 @@ module _ {K V : Type 0} where
 
   -- ---- the ends of the ring
   -- the node has an entry, and `join` puts this entry back among the others
-  pub record IsEnd (join : Node × Held K V → Entries K V → Entries K V) (n : Node) (es : Entries K V) :
+  pub record IsEnd (join : Node × Entry K V → Entries K V → Entries K V) (n : Node) (es : Entries K V) :
       Type 0 where
-    pub value : Held K V
+    pub value : Entry K V
     pub looked : lookup (same_node n) es ≡ Some value
     pub is : es ≡ join (n, value) (remove_entry (same_node n) es)
 
   -- what is left without the entry, and the entry put back
-  joined : {join : Node × Held K V → Entries K V → Entries K V} {n : Node} {es rest : Entries K V}
-      {h : Held K V} → IsEnd join n es → lookup (same_node n) es ≡ Some h
+  joined : {join : Node × Entry K V → Entries K V → Entries K V} {n : Node} {es rest : Entries K V}
+      {h : Entry K V} → IsEnd join n es → lookup (same_node n) es ≡ Some h
       → rest ≡ remove_entry (same_node n) es → es ≡ join (n, h) rest
   joined {join} {n} e found left = e.is ∙ (λ i. join (n, same_some (sym e.looked ∙ found) i) (sym left i))
 
   -- the two ways to put it back
-  abbrev in_front : Node × Held K V → Entries K V → Entries K V
+  abbrev in_front : Node × Entry K V → Entries K V → Entries K V
   in_front e es = e ∷ es
 
-  abbrev behind : Node × Held K V → Entries K V → Entries K V
+  abbrev behind : Node × Entry K V → Entries K V → Entries K V
   behind e es = es ++ e ∷ []
 
   first_of : (a : Node) (es : Entries K V) → 0 < length es → IsEnd in_front (head_or a (keys_of es)) es
@@ -293,7 +294,7 @@ module _ {K V : Type 0} where
     pub last_held : m ≡ (state_of n.pool).prev g → Holds v.entries m
     last_held is_m = ap is_some (last is_m).looked
 
-    module _ {h : Held K V} {rest : Entries K V} (found : lookup (same_node m) v.entries ≡ Some h)
+    module _ {h : Entry K V} {rest : Entries K V} (found : lookup (same_node m) v.entries ≡ Some h)
         (left : rest ≡ remove_entry (same_node m) v.entries) where
       pub first_left : m ≡ (state_of n.pool).next g → (k : Node) × (v.entries ≡ (k, h) ∷ rest)
       first_left is_m = (m, joined (first is_m) found left)

@@ -1,7 +1,7 @@
 -- The ring after a node's value was replaced by one that was written through a `&mut`.
 use Rattle.hashlink_nodes.proofs.Names.{◌≡◌, Some, ap, sym, subst, ◌∙◌, option_map, option_map_or, set_value}
 use Rattle.hashlink_nodes.proofs.Names.{lookup, Node, Inside, Ring, same_node, state_of, pool_with, IsSound}
-use Rattle.hashlink_nodes.proofs.Names.{ring_of, Held, Holds, pair_of, ring, with_value, entry_in, refl}
+use Rattle.hashlink_nodes.proofs.Names.{ring_of, Entry, Holds, pair_of, ring, with_value, entry_in, refl}
 use Rattle.hashlink_nodes.{specs.NodesLends.with_value_at, proofs.StateLemmas.{pair_at, pair_anew, paired}}
 use Rattle.hashlink_nodes.proofs.{Opening.{Leaves, node_in}, Calls.renewed}
 
@@ -11,7 +11,7 @@ pub lent : {K V : Type 0} {n : Inside K V} {v : Ring K V} → IsSound n → ring
     (with_value_at v m w)
 lent {K} {V} {n} {v} sound view m there p is w =
     let at = node_in sound view m there in let bs = n.pool.arena.blocks in
-    let change = λ (h : Held K V). with_value h w in
+    let change = λ (h : Entry K V). with_value h w in
     let found = pair_at bs m p (paired (entry_in (lookup (same_node m) bs)) ∙ is) in
     subst
     (λ es. Leaves (state_of (pool_with n.pool m (p.0, w))) n.guard n.first_spare n.len n.spare

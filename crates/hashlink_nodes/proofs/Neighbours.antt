@@ -3,7 +3,7 @@ use Rattle.hashlink_nodes.proofs.Names.{◌≡◌, true, false, [], ◌∷◌, O
 use Rattle.hashlink_nodes.proofs.Names.{subst, then_some, is_some, unwrap_or, slice_get, IfSome, keys_of}
 use Rattle.hashlink_nodes.proofs.Names.{Node, State, Holds, IsRing, Ring, IsPlace, next_place, prev_place}
 use Rattle.hashlink_nodes.proofs.Names.{last_node, lookup, same_node, state_of, Inside, IsSound, ring_of}
-use Rattle.hashlink_nodes.proofs.{Names.Held, Paths.{head_or, last_or, all_left, all_right}}
+use Rattle.hashlink_nodes.proofs.{Names.Entry, Paths.{head_or, last_or, all_left, all_right}}
 use Rattle.hashlink_nodes.proofs.Cuts.{AfterPlace, BeforePlace, before_place, after_place}
 use Rattle.hashlink_nodes.proofs.Rings.{Entries, Full, Linked, linked}
 use Rattle.hashlink_nodes.proofs.Opening.{empty, guard_of, node_in, opened}
@@ -91,7 +91,7 @@ module _ {K V : Type 0} where
         let found = lookup (same_node r) v.entries in
         subst (λ o. IfNone o (found ≡ None)) is
         ((elim found as (λ o. found ≡ o → IfNone (if_full s r) (o ≡ None)) [
-          | None ↦ λ none. let nothing : Option (Held K V) = None in
+          | None ↦ λ none. let nothing : Option (Entry K V) = None in
               elim (is_some (s.held r)) as (λ b. IfNone (then_some b r) (nothing ≡ nothing))
               [ true ↦ tt | false ↦ refl ]
           | Some h ↦ λ there.

@@ -3,8 +3,8 @@ use Rattle.hashlink_nodes.proofs.Names
 use Names.{◌≡◌, ℕ, ◌+◌, ◌^◌, ◌<◌, List, [], ◌∷◌, ◌++◌, length, Option, Some, None, refl, sym, ap, ◌∙◌, subst}
 use Names.{arith, true, is_some, IfSome, AllByRecursion, IsDistinct, keys_of, lookup, remove_entry}
 use Names.{length-append, length-keys_of, IsDistinct-tail, Node, Inside, same_node, state_of, Ring, ring}
-use Names.{Holds, IsRing, IsSound, SoundAt, ring_at, ring_of, walk, entry_of, entries_of, State, IsSome, Held}
-use Names.{AreThere, nil_from_length}
+use Names.{Holds, IsRing, IsSound, SoundAt, ring_at, ring_of, walk, entry_of, entries_of, State, IsSome}
+use Names.{AreThere, Entry, nil_from_length}
 use Rattle.std.proofs.{Common.{false, ◌⊎◌, inl, inr}, lemmas.List.Elements.{All-contains, All-from_recursion}}
 use Rattle.std.specs.List.{Contains}
 use Rattle.hashlink_nodes.proofs.Paths.{all_right, length-walk, walk-linked, walk-chain}
@@ -45,7 +45,7 @@ module _ {K V : Type 0} where
   pub seal : {n : Inside K V} → SoundAt (state_of n.pool) n.guard n.first_spare n.len n.spare → IsSound n
   seal h = record { at = h }
 
-  entries-held : (f : Node → Option (Held K V)) (es : List (Node × Held K V))
+  entries-held : (f : Node → Option (Entry K V)) (es : List (Node × Entry K V))
       → AllByRecursion (λ e. f e.0 ≡ Some e.1) es → entries_of f (keys_of es) ≡ es
   unfolding entries_of
   entries-held f [] h = refl

@@ -4,7 +4,7 @@ use Names.{◌≡◌, ℕ, ◌+◌, ◌^◌, ◌<◌, Bool, true, false, List, [
 use Names.{sym, ap, ◌∙◌, subst, arith, AllByRecursion, IsDistinct, keys_of, append_assoc, length-append}
 use Names.{map-append, IsDistinct-head, IsDistinct-tail, IsDistinct-cons, Node, same_node, eq-same_node}
 use Names.{set_at, State, store_next, store_prev, hold, detached, attached, Adds, Differs, Drops, AreThere}
-use Names.{MakesGuard, IsChain, IsLinked, IsRing, Ring, ring, Held}
+use Names.{MakesGuard, IsChain, IsLinked, IsRing, Ring, ring, Entry}
 use Rattle.std.proofs.Common.{drop, lit<}
 use Rattle.hashlink_nodes.proofs.Paths.{set_at_twice, head_or, last_or, Off, IsOff, flip, all_left, all_right}
 use Rattle.hashlink_nodes.proofs.Paths.{all_middle, all_without, all_with, all_both, all_as, all_zip}
@@ -28,7 +28,7 @@ module _ (P : Node → Type 0) where
   of_head b xs (y ∷ ys) p h = (all_right P xs (y ∷ ys) h).0
 
 abbrev pub Entries : Type 0 → Type 0 → Type 0
-Entries K V = List (Node × Held K V)
+Entries K V = List (Node × Entry K V)
 
 pub keys-append : {X : Type 0} (xs ys : List (Node × X)) → keys_of (xs ++ ys) ≡ keys_of xs ++ keys_of ys
 keys-append {X} xs ys = map-append (λ (e : Node × X). e.0) xs ys
@@ -49,7 +49,7 @@ module _ {K V : Type 0} where
     pub back : s.prev q ≡ p
 
   -- n and its neighbours have blocks, and n holds h
-  pub record InRing (s : State K V) (n : Node) (h : Held K V) : Type 0 where
+  pub record InRing (s : State K V) (n : Node) (h : Entry K V) : Type 0 where
     pub holds : s.held n ≡ Some h
     pub fits : AreThere s n (s.prev n) (s.next n)
 
@@ -72,7 +72,7 @@ module _ {K V : Type 0} where
             back = both.1;
           }
 
-      pub in_ring : (xs : Entries K V) (n : Node) (h : Held K V) (ys : Entries K V)
+      pub in_ring : (xs : Entries K V) (n : Node) (h : Entry K V) (ys : Entries K V)
           → v.entries ≡ xs ++ (n, h) ∷ ys → InRing s n h
       in_ring xs n h ys is =
           let before = linked xs ((n, h) ∷ ys) is in
@@ -88,7 +88,7 @@ module _ {K V : Type 0} where
           }
 
   -- ---- a node is taken out of the ring
-  pub detach : {s s' : State K V} {g first n : Node} (h : Held K V) (xs ys : Entries K V) {fs : List Node}
+  pub detach : {s s' : State K V} {g first n : Node} (h : Entry K V) (xs ys : Entries K V) {fs : List Node}
       {w : ℕ} → IsRing s [] g first (ring (xs ++ (n, h) ∷ ys) fs w) → s' ≡ detached n s
       → IsRing s' (n ∷ []) g first (ring (xs ++ ys) fs (w + 2))
   unfolding detached store_next store_prev
@@ -126,7 +126,7 @@ module _ {K V : Type 0} where
       })
 
   -- ---- a node outside of the ring is linked in between two neighbours
-  pub attach : {s s' : State K V} {g first n p q : Node} {h : Held K V} (xs ys : Entries K V)
+  pub attach : {s s' : State K V} {g first n p q : Node} {h : Entry K V} (xs ys : Entries K V)
       {fs : List Node} {w : ℕ} → IsRing s (n ∷ []) g first (ring (xs ++ ys) fs w) → s.held n ≡ Some h
       → p ≡ last_or g (keys_of xs) → q ≡ head_or g (keys_of ys) → s' ≡ attached n p q s
       → IsRing s' [] g first (ring (xs ++ (n, h) ∷ ys) fs (w + 4))
@@ -170,25 +170,25 @@ module _ {K V : Type 0} where
 
   -- ---- what a node holds changes
   -- of two writes, the second counts
-  pub held_anew : {s₁ s₂ : State K V} (n : Node) (o o' : Option (Held K V)) (s : State K V) → s₁ ≡ hold n o s
+  pub held_anew : {s₁ s₂ : State K V} (n : Node) (o o' : Option (Entry K V)) (s : State K V) → s₁ ≡ hold n o s
       → s₂ ≡ hold n o' s₁ → s₂ ≡ hold n o' s
   unfolding hold
   held_anew n o o' s is₁ is₂ =
       is₂ ∙ ap (λ (t : State K V). record t { held = set_at t.held n o' }) is₁
       ∙ (λ i. record s { held = λ m. set_at_twice s.held n m o o' i })
 
-  pub held_now : {s' : State K V} {n : Node} {o : Option (Held K V)} (s : State K V) → s' ≡ hold n o s
+  pub held_now : {s' : State K V} {n : Node} {o : Option (Entry K V)} (s : State K V) → s' ≡ hold n o s
       → s'.held n ≡ o
   unfolding hold
   held_now {n = n} {o = o} s is = ap (λ (t : State K V). t.held n) is ∙ set_at_here s.held n o
 
   -- a node that was detached still holds what it held
-  pub held_out : {s s' : State K V} {n : Node} {h : Held K V} → InRing s n h → s' ≡ detached n s
+  pub held_out : {s s' : State K V} {n : Node} {h : Entry K V} → InRing s n h → s' ≡ detached n s
       → s'.held n ≡ Some h
   unfolding detached store_next store_prev
   held_out {n = n} at is = ap (λ (t : State K V). t.held n) is ∙ at.holds
 
-  differs_hold : (n : Node) (o : Option (Held K V)) (s : State K V) → Differs n s (hold n o s)
+  differs_hold : (n : Node) (o : Option (Entry K V)) (s : State K V) → Differs n s (hold n o s)
   unfolding hold
   differs_hold n o s = record {
     next = λ m k. refl;
@@ -204,8 +204,8 @@ module _ {K V : Type 0} where
   full_off {n = n} d (e ∷ es) off h = (d.held e.0 (flip n e.0 off.0) ∙ h.0, full_off d es off.1 h.1)
 
   -- a node of the ring holds another entry
-  pub renew : {s s' : State K V} {g first : Node} (n : Node) (h : Held K V) (xs ys : Entries K V)
-      {fs : List Node} {w : ℕ} → IsRing s [] g first (ring (xs ++ (n, h) ∷ ys) fs w) → (x : Held K V)
+  pub renew : {s s' : State K V} {g first : Node} (n : Node) (h : Entry K V) (xs ys : Entries K V)
+      {fs : List Node} {w : ℕ} → IsRing s [] g first (ring (xs ++ (n, h) ∷ ys) fs w) → (x : Entry K V)
       → s' ≡ hold n (Some x) s → IsRing s' [] g first (ring (xs ++ (n, x) ∷ ys) fs w)
   unfolding hold
   renew {s} {s'} {g} {first} n h xs ys {fs} {w} r x is =
@@ -285,7 +285,7 @@ module _ {K V : Type 0} where
         (omega (arith, r.few)) (d.link_writes ∙ r.writes)
 
   module _ {s s' : State K V} {g first n : Node} {v : Ring K V} (r : IsRing s (n ∷ []) g first v) where
-    pub holds_now : (o : Option (Held K V)) → s' ≡ hold n o s → IsRing s' (n ∷ []) g first v
+    pub holds_now : (o : Option (Entry K V)) → s' ≡ hold n o s → IsRing s' (n ∷ []) g first v
     unfolding hold
     holds_now o is =
         subst (λ t. IsRing t (n ∷ []) g first v) (sym is)

@@ -4,7 +4,7 @@ use Names.{◌≡◌, ℕ, ◌+◌, Bool, true, false, cond, List, ◌∷◌, le
 use Names.{◌∙◌, arith, IsNone, is_some, lookup, set_value, remove_entry, lookup-set_value, length-set_value}
 use Names.{same_node, same_node-refl, Differs, same_node_equiv, eq-same_node, State, Blocks, state, set_at}
 use Names.{next_in, prev_in, held_in, store_next, store_prev, hold, Adds, MakesGuard, Drops, Node, Link, Kept}
-use Names.{kept, alter, entry_in, with_links, with_pair, held, pair_of, option_map, Held}
+use Names.{kept, alter, entry_in, with_links, with_pair, held, pair_of, option_map, Entry}
 use Rattle.hashlink_nodes.proofs.{ArenaBlocks.found_entry, Opening.length-removed, Cuts.{cut, cut_at}}
 use Rattle.hashlink_nodes.{proofs.Paths.{set_at_here, set_at_other}, specs.declared.pool.links.Links.Links}
 
@@ -126,7 +126,7 @@ module _ {K V : Type 0} (bs : Blocks K V) (count count' : ℕ) (n : Node) (k : K
     })
 
   -- the links stay, and n now holds h
-  pub held_anew : (f : Kept (K × V) → Kept (K × V)) → (f k).links ≡ k.links → (h : Option (Held K V))
+  pub held_anew : (f : Kept (K × V) → Kept (K × V)) → (f k).links ≡ k.links → (h : Option (Entry K V))
       → held_in (Some (f k)) ≡ h → state (changed f) count' ≡ hold n h (state bs count')
   unfolding hold
   held_anew f kept h is_h = changed_state f ∙ (λ i. record S {
@@ -207,7 +207,7 @@ module _ {K V : Type 0} where
 
 -- a node that holds a pair now holds another one
 pub pair_anew : {K V : Type 0} (bs : Blocks K V) (count : ℕ) (n : Node) (p : K × V) (at : PairAt bs n p)
-    (w : K × V) (h : Held K V → Held K V) → h (held at.number p.0 p.1) ≡ held at.number w.0 w.1
+    (w : K × V) (h : Entry K V → Entry K V) → h (held at.number p.0 p.1) ≡ held at.number w.0 w.1
     → state (alter (same_node n) (with_pair w) bs) count
     ≡ hold n (option_map h (held_in (lookup (same_node n) bs))) (state bs count)
 pair_anew bs count n p at w h is_h =

@@ -1,7 +1,7 @@
 -- A ring of nodes, as contracts see it: its entries in order, each with its node, the free nodes, and how
 -- many links were stored. A place of the ring is a node of it, or None for the guard, which is between the
 -- last entry and the first.
-pub use Rattle.hashlink_nodes.specs.declared.held.Held.{Held}
+pub use Rattle.hashlink_nodes.specs.declared.entry.Entry.{Entry}
 use Rattle.std.specs.Prelude.{◌≡◌, ℕ, cond, List, [], ◌∷◌, ◌++◌, slice_get, Option, None, Some, IsSome}
 use Rattle.std.specs.{Prelude.IfSome, Map.{lookup, lookup_entry, remove_entry}}
 use Rattle.hashlink_nodes.specs.{declared.node.Node.Node, Node.same_node}
@@ -9,7 +9,7 @@ use Rattle.hashlink_nodes.specs.{declared.node.Node.Node, Node.same_node}
 -- the entries in the order of the ring, the free nodes in the order in which they will be used, and how many
 -- links were stored in nodes of either kind
 pub record Ring (K V : Type 0) : Type 0 where
-  pub entries : List (Node × Held K V)
+  pub entries : List (Node × Entry K V)
   pub free : List Node
   pub link_writes : ℕ
 
@@ -79,23 +79,23 @@ module _ {X : Type 0} where
       IfSome (lookup_entry (same_node n) old) (λ e. new ≡ put_after place e (remove_entry (same_node n) old))
 
 module _ {K V : Type 0} where
-  abbrev pub held : ℕ → K → V → Held K V
+  abbrev pub held : ℕ → K → V → Entry K V
   held i k v = record { number = i; key = k; value = v }
 
-  abbrev pub ring : List (Node × Held K V) → List Node → ℕ → Ring K V
+  abbrev pub ring : List (Node × Entry K V) → List Node → ℕ → Ring K V
   ring es fs writes = record { entries = es; free = fs; link_writes = writes }
 
-  abbrev pub pair_of : Held K V → K × V
+  abbrev pub pair_of : Entry K V → K × V
   pair_of h = (h.key, h.value)
 
   -- the same with another value
-  abbrev pub with_value : Held K V → V → Held K V
+  abbrev pub with_value : Entry K V → V → Entry K V
   with_value h v = held h.number h.key v
 
   -- the same with another key
-  abbrev pub with_key : Held K V → K → Held K V
+  abbrev pub with_key : Entry K V → K → Entry K V
   with_key h k = held h.number k h.value
 
   -- the same with another number
-  abbrev pub with_number : Held K V → ℕ → Held K V
+  abbrev pub with_number : Entry K V → ℕ → Entry K V
   with_number h i = held i h.key h.value

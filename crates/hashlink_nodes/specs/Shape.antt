@@ -1,7 +1,7 @@
 -- How the links of the blocks make a ring and a free list.
 use Rattle.std.specs.Prelude.{◌≡◌, ℕ, zero, suc, ◌+◌, ◌^◌, ◌<◌, true, List, [], ◌∷◌, ◌++◌, length, Option}
 use Rattle.std.specs.{Prelude.{None, Some}, List.{AllByRecursion, IsDistinct}, Map.keys_of}
-use Rattle.hashlink_nodes.specs.{declared.node.Node.Node, declared.held.Held.Held, Node.same_node, Ring.Ring}
+use Rattle.hashlink_nodes.specs.{declared.node.Node.Node, Node.same_node, Ring.{Entry, Ring}}
 use Rattle.hashlink_nodes.specs.{State.State, Pool.state_of, declared.nodes.Nodes.TheInside.Inside}
 
 -- f leads from a along the nodes to z, and b leads back
@@ -20,12 +20,12 @@ walk f a zero = []
 walk f a (suc count) = a ∷ walk f (f a) count
 
 module _ {K V : Type 0} where
-  abbrev pub entry_of : Node → Option (Held K V) → List (Node × Held K V) → List (Node × Held K V)
+  abbrev pub entry_of : Node → Option (Entry K V) → List (Node × Entry K V) → List (Node × Entry K V)
   entry_of n None es = es
   entry_of n (Some h) es = (n, h) ∷ es
 
   -- the nodes, with what each holds
-  unfoldable pub entries_of : (Node → Option (Held K V)) → List Node → List (Node × Held K V)
+  unfoldable pub entries_of : (Node → Option (Entry K V)) → List Node → List (Node × Entry K V)
   entries_of held [] = []
   entries_of held (n ∷ ns) = entry_of n (held n) (entries_of held ns)
 

@@ -2,13 +2,13 @@
 use Rattle.std.specs.Prelude.{ℕ, ◌+◌, ◌≡◌, Bool, true, false, cond, List, length, Option, None, Some, is_some}
 use Rattle.std.{specs.Map.lookup, specs.Option.option_map}
 use denote.RawPtr.{null_ptr}
-use Rattle.hashlink_nodes.specs.{Node.same_node, declared.node.Node.Node, declared.held.Held.Held, Ring.held}
+use Rattle.hashlink_nodes.specs.{Node.same_node, declared.node.Node.Node, Ring.{Entry, held}}
 use Rattle.hashlink_nodes.specs.Kept.{Kept, entry_in}
 
 pub record State (K V : Type 0) : Type 0 where
   pub next : Node → Node
   pub prev : Node → Node
-  pub held : Node → Option (Held K V)
+  pub held : Node → Option (Entry K V)
   -- whether a node has a block
   pub has : Node → Bool
   -- how many blocks there are
@@ -32,7 +32,7 @@ module _ {K V : Type 0} where
   prev_in None = record { at = null_ptr }
   prev_in (Some b) = b.links.prev.to
 
-  abbrev pub held_in : Option (Kept (K × V)) → Option (Held K V)
+  abbrev pub held_in : Option (Kept (K × V)) → Option (Entry K V)
   held_in b = option_map (λ e. held e.0 e.1.0 e.1.1) (entry_in b)
 
   abbrev pub state : Blocks K V → ℕ → State K V
@@ -53,7 +53,7 @@ module _ {K V : Type 0} where
   store_prev n to s = record s { prev = set_at s.prev n to; link_writes = s.link_writes + 1 }
 
   -- n holds something else now
-  unfoldable pub hold : Node → Option (Held K V) → State K V → State K V
+  unfoldable pub hold : Node → Option (Entry K V) → State K V → State K V
   hold n h s = record s { held = set_at s.held n h }
 
   -- old and new differ at most at n

@@ -2,12 +2,12 @@
 #![tactic(auto)]
 
 mod arena;
-mod held;
+mod entry;
 mod link_writes;
 mod node;
 mod nodes;
 mod pool;
 
-pub use held::Held;
+pub use entry::Entry;
 pub use node::Node;
 pub use nodes::Nodes;

@@ -18,6 +18,6 @@ pub use steps::Steps;
 pub use table::{MAX_ROOM, Table};
 
 // An overflow cell takes 8 bytes besides its node, and a slot 10.
-const _: () = prove!(std::mem::size_of::<store::cell::Stored<u64>>() == 16);
+const _: () = prove!(std::mem::size_of::<store::cell::StoredCell<u64>>() == 16);
 
 const _: () = prove!(std::mem::size_of::<store::slots::Rest>() == 8);

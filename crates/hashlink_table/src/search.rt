@@ -7,10 +7,10 @@ ghost use Rattle.hashlink_table.specs.Chains.{chain_of, kept_at, kept_by, nodes_
 
 use super::steps::Steps;
 use super::store::bucket::{base_of, bucket_of};
-use super::store::cell::{END, Stored};
+use super::store::cell::{END, StoredCell};
 use super::store::lanes::LANES;
 use super::store::slots::Slots;
-use super::store::spot::{Found, Spot};
+use super::store::spot::{FoundNode, Spot};
 use std::sync::ledger::Ledger;
 
 // Searches are inlined into the lookups of the layers above, which are inlined into their callers.
@@ -61,7 +61,7 @@ fn seek_slots<N: Copy, F: Fn(N) -> bool, L: Ledger>(
 #[inline(always)]
 fn seek_overflow<N: Copy, F: Fn(N) -> bool, L: Ledger>(
     slots: &Slots<N>,
-    cells: &[Stored<N>],
+    cells: &[StoredCell<N>],
     bucket: usize,
     hash: u32,
     is_match: &F,
@@ -100,11 +100,11 @@ fn seek_overflow<N: Copy, F: Fn(N) -> bool, L: Ledger>(
 #[inline(always)]
 pub fn seek<N: Copy, F: Fn(N) -> bool, L: Ledger>(
     slots: &Slots<N>,
-    cells: &[Stored<N>],
+    cells: &[StoredCell<N>],
     hash: u32,
     is_match: &F,
     steps: &mut Steps<L>,
-) -> Option<Found<N>>
+) -> Option<FoundNode<N>>
     requires masked { IsPowerOfTwo (length slots.now) }
     requires whole { length slots.now % LANES ≡ 0 }
     requires arranged { (free : ℕ) × IsArranged slots.now cells.now free }
@@ -129,7 +129,7 @@ pub fn seek<N: Copy, F: Fn(N) -> bool, L: Ledger>(
     let base = base_of(hash, buckets);
     if let Some((at, node)) = seek_slots(slots, base, hash, is_match, steps) {
         let spot = Spot::Slot(at);
-        return Some(Found { spot, node });
+        return Some(FoundNode { spot, node });
     }
     let bucket = bucket_of(hash, buckets);
     if !slots.has_chain(bucket) {
@@ -138,7 +138,7 @@ pub fn seek<N: Copy, F: Fn(N) -> bool, L: Ledger>(
     match seek_overflow(slots, cells, bucket, hash, is_match, steps) {
         Some((at, node)) => {
             let spot = Spot::Overflow(at);
-            Some(Found { spot, node })
+            Some(FoundNode { spot, node })
         }
         None => None,
     }

@@ -10,7 +10,7 @@ use crate::hashed::Hashed;
 use crate::search;
 use crate::steps::Steps;
 use crate::store::bucket::{bucket_of, buckets_for};
-use crate::store::cell::{END, Stored};
+use crate::store::cell::{END, StoredCell};
 use crate::store::lanes::LANES;
 use crate::store::slots::Slots;
 use crate::store::{growth, insertion, removal};
@@ -38,7 +38,7 @@ pub struct Table<N> {
     // The slots. Their number is 0 or a power of two, and a multiple of 16.
     slots: Slots<N>,
     // The overflow cells, for nodes whose group has no free slot.
-    overflow: Vec<Stored<N>>,
+    overflow: Vec<StoredCell<N>>,
     // The first free overflow cell, or `END`.
     free: usize,
     len: usize,

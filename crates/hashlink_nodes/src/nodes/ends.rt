@@ -4,7 +4,7 @@ ghost use Rattle.std.specs.Map.{lookup, remove_entry};
 ghost use Rattle.hashlink_nodes.specs.{Node.same_node, Ring.Holds, declared.node.Node.Node};
 
 use super::Nodes;
-use crate::held::Held;
+use crate::entry::Entry;
 use crate::node::Node;
 
 impl<K, V> Nodes<K, V> {
@@ -49,7 +49,7 @@ impl<K, V> Nodes<K, V> {
 
     /// Removes the first entry, frees its block and returns what it held. It stores two links.
     #[inline]
-    pub fn release_first(&mut self) -> Held<K, V>
+    pub fn release_first(&mut self) -> Entry<K, V>
         requires { 0 < length self.old.entries }
         ensures first { (node : Node) × (self.old.entries ≡ (node, result) ∷ self.new.entries) }
         ensures free { self.new.free ≡ self.old.free }
@@ -62,7 +62,7 @@ impl<K, V> Nodes<K, V> {
 
     /// Removes the last entry, frees its block and returns what it held. It stores two links.
     #[inline]
-    pub fn release_last(&mut self) -> Held<K, V>
+    pub fn release_last(&mut self) -> Entry<K, V>
         requires { 0 < length self.old.entries }
         ensures last { (node : Node) × (self.old.entries ≡ self.new.entries ++ (node, result) ∷ []) }
         ensures free { self.new.free ≡ self.old.free }
@@ -75,7 +75,7 @@ impl<K, V> Nodes<K, V> {
 
     /// Removes the node's entry, frees its block and returns what it held. It stores two links.
     #[inline]
-    fn release(&mut self, node: Node) -> Held<K, V>
+    fn release(&mut self, node: Node) -> Entry<K, V>
         requires { Holds self.old.entries node }
         ensures held { lookup (same_node node) self.old.entries ≡ Some result }
         ensures entries { self.new.entries ≡ remove_entry (same_node node) self.old.entries }
@@ -87,7 +87,7 @@ impl<K, V> Nodes<K, V> {
         let (key, value) = self.pool.take(node);
         self.pool.release(node, self.alloc);
         self.len -= 1;
-        Held { number, key, value }
+        Entry { number, key, value }
     }
 
     /// Removes the last entry and returns its pair. Its node is the first free node then. It stores three

@@ -23,14 +23,14 @@ pub struct Cell<N> {
 
 /// A cell as the table stores it, in 8 bytes and a node. A free cell has a node too, which means nothing.
 #[derive(Drop)]
-pub struct Stored<N> {
+pub struct StoredCell<N> {
     node: N,
     hash: u32,
     // The next cell, and whether the cell is free.
     link: u32,
 }
 
-impl<N> Model for Stored<N> {
+impl<N> Model for StoredCell<N> {
     ghost use Rattle.hashlink_table.specs.declared.store.cell.Cell.{Cell};
 
     ghost Value = { Cell N };
@@ -40,14 +40,14 @@ impl<N> Model for Stored<N> {
     ghost view = { λ s. cell_of s.node s.hash s.link };
 }
 
-impl<N: Copy> Stored<N> {
+impl<N: Copy> StoredCell<N> {
     /// Makes a cell with a node.
     #[inline]
     pub fn taken(kept: Hashed<N>, next: usize) -> Self
         requires { next ≤ END }
         ensures { result ≡ record { kept = Some kept; hash = kept.hash; next = next } }
     {
-        Stored {
+        StoredCell {
             node: kept.node,
             hash: kept.hash,
             link: next as u32,
@@ -59,7 +59,7 @@ impl<N: Copy> Stored<N> {
     pub(super) fn copied(&self) -> Self
         ensures { result ≡ self.now }
     {
-        Stored {
+        StoredCell {
             node: self.node,
             hash: self.hash,
             link: self.link,

@@ -3,7 +3,7 @@ ghost use Rattle.std.specs.Prelude.{◌≡◌, ◌+◌, ◌*◌, ◌%◌, ◌^�
 ghost use Rattle.std.specs.{Prelude.{OnOk, Some, length, max, min, vec_capacity, vec_len}, Int.IsPowerOfTwo};
 ghost use Rattle.hashlink_table.specs.{Chains.{nodes_in, IsArranged, IsInPlace}, Contents.len_of};
 
-use super::cell::{END, Stored};
+use super::cell::{END, StoredCell};
 use super::lanes::LANES;
 use super::slots::Slots;
 use crate::hashed::Hashed;
@@ -25,7 +25,10 @@ impl<N> OverflowNodes<N> {
 }
 
 /// Returns the nodes of the overflow cells.
-pub fn chained<N: Copy>(alloc: Global, cells: &[Stored<N>]) -> Result<OverflowNodes<N>, AllocError>
+pub fn chained<N: Copy>(
+    alloc: Global,
+    cells: &[StoredCell<N>],
+) -> Result<OverflowNodes<N>, AllocError>
     ensures { IfOk result (λ chained. chained.nodes.items ≡ nodes_in cells.now) }
 {
     let mut nodes = Vec::with_capacity(alloc, cells.len())?;
@@ -38,7 +41,7 @@ pub fn chained<N: Copy>(alloc: Global, cells: &[Stored<N>]) -> Result<OverflowNo
 }
 
 /// Moves the overflow cells to this block.
-pub fn move_to<N: Copy>(cells: &mut Vec<Stored<N>>, mut block: Vec<Stored<N>>)
+pub fn move_to<N: Copy>(cells: &mut Vec<StoredCell<N>>, mut block: Vec<StoredCell<N>>)
     requires empty { block.items ≡ [] }
     requires roomy { vec_len cells.old ≤ vec_capacity block }
     ensures items { cells.new.items ≡ cells.old.items }
@@ -58,8 +61,8 @@ pub fn move_to<N: Copy>(cells: &mut Vec<Stored<N>>, mut block: Vec<Stored<N>>)
 // are emptied last, so that nothing is lost if the slots cannot grow.
 pub fn double<N: Copy>(
     slots: &mut Slots<N>,
-    cells: &mut Vec<Stored<N>>,
-    block: Vec<Stored<N>>,
+    cells: &mut Vec<StoredCell<N>>,
+    block: Vec<StoredCell<N>>,
     filler: N,
 ) -> Result<OverflowNodes<N>, AllocError>
     requires power { IsPowerOfTwo (length slots.old) }

@@ -4,14 +4,14 @@ ghost use Rattle.std.specs.Prelude.{vec_capacity, vec_len};
 ghost use Rattle.hashlink_table.specs.Chains.{nodes_in, AreTaken, IsArranged, IsPlaced};
 
 use super::bucket::group_of;
-use super::cell::{END, Stored};
+use super::cell::{END, StoredCell};
 use super::lanes::LANES;
 use super::slots::Slots;
 use crate::hashed::Hashed;
 
 // Puts a cell at the first free one's place, or after the last cell if none is free. Returns the place.
 #[inline]
-fn place<N: Copy>(cells: &mut Vec<Stored<N>>, free: &mut usize, cell: Stored<N>) -> usize
+fn place<N: Copy>(cells: &mut Vec<StoredCell<N>>, free: &mut usize, cell: StoredCell<N>) -> usize
     requires within { free.old ≢ END → free.old < vec_len cells.old }
     requires reserved { free.old ≡ END → vec_len cells.old < vec_capacity cells.old }
     requires small { free.old ≡ END → vec_len cells.old < END }
@@ -32,7 +32,7 @@ fn place<N: Copy>(cells: &mut Vec<Stored<N>>, free: &mut usize, cell: Stored<N>)
 // Puts a node into an overflow cell, which becomes the first of its bucket's chain.
 fn chain<N: Copy>(
     slots: &mut Slots<N>,
-    cells: &mut Vec<Stored<N>>,
+    cells: &mut Vec<StoredCell<N>>,
     free: &mut usize,
     bucket: usize,
     kept: Hashed<N>,
@@ -51,7 +51,7 @@ fn chain<N: Copy>(
     ensures full { free.old ≡ END → vec_len cells.new ≡ vec_len cells.old + 1 }
     ensures reused { free.old ≢ END → vec_len cells.new ≡ vec_len cells.old }
 {
-    let cell = Stored::taken(kept, slots.next(bucket));
+    let cell = StoredCell::taken(kept, slots.next(bucket));
     let at = place(cells, free, cell);
     slots.set_next(bucket, at);
 }
@@ -60,7 +60,7 @@ fn chain<N: Copy>(
 #[inline]
 pub fn put<N: Copy>(
     slots: &mut Slots<N>,
-    cells: &mut Vec<Stored<N>>,
+    cells: &mut Vec<StoredCell<N>>,
     free: &mut usize,
     bucket: usize,
     kept: Hashed<N>,

@@ -6,14 +6,14 @@ ghost use Rattle.hashlink_table.specs.declared.store.spot.Spot.TheVariants.{Over
 ghost use Rattle.hashlink_table.specs.Chains.{IsFilled, IsLinked, IsLinkedBut, SameNodes};
 
 use super::bucket::{bucket_of, group_of};
-use super::cell::{END, Stored};
+use super::cell::{END, StoredCell};
 use super::lanes::LANES;
 use super::slots::Slots;
 use super::spot::Spot;
 use crate::hashed::Hashed;
 
 // Removes a cell from its bucket's chain: the link to it now leads to the cell after it.
-fn unlink<N: Copy>(slots: &mut Slots<N>, cells: &mut [Stored<N>], bucket: usize, cell: usize)
+fn unlink<N: Copy>(slots: &mut Slots<N>, cells: &mut [StoredCell<N>], bucket: usize, cell: usize)
     requires within { bucket < length slots.old }
     requires on_chain { chain_at (length slots.old) cells.old cell ≡ bucket }
     requires linked { (free : ℕ) × IsLinked slots.old cells.old free }
@@ -39,7 +39,7 @@ fn unlink<N: Copy>(slots: &mut Slots<N>, cells: &mut [Stored<N>], bucket: usize,
 // Removes a node from its overflow cell, which becomes the first free one.
 fn take_out<N: Copy>(
     slots: &mut Slots<N>,
-    cells: &mut [Stored<N>],
+    cells: &mut [StoredCell<N>],
     free: &mut usize,
     bucket: usize,
     cell: usize,
@@ -78,7 +78,12 @@ fn first_chained<N: Copy>(slots: &Slots<N>, base: usize) -> Option<usize>
 
 // Removes the node that a search found. If it was in a slot and a bucket of the group has a chain, the first
 // node of this chain moves to the slot. It returns nothing, so that no caller can read a hash by it.
-pub fn take<N: Copy>(slots: &mut Slots<N>, cells: &mut [Stored<N>], free: &mut usize, spot: Spot)
+pub fn take<N: Copy>(
+    slots: &mut Slots<N>,
+    cells: &mut [StoredCell<N>],
+    free: &mut usize,
+    spot: Spot,
+)
     requires masked { IsPowerOfTwo (length slots.old) }
     requires whole { length slots.old % LANES ≡ 0 }
     requires there { IsSome (kept_by slots.old cells.old spot) }

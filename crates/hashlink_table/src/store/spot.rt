@@ -7,7 +7,7 @@ pub enum Spot {
 
 /// The result of a search: a node, and its place.
 #[derive(Clone, Copy)]
-pub struct Found<N> {
+pub struct FoundNode<N> {
     pub spot: Spot,
     pub node: N,
 }

@@ -1,12 +1,12 @@
 use Rattle.hashlink_core.proofs.Names.{◌≡◌, Some, ap, subst, sym, ◌∙◌, Contains, FnReturnsAt, fold, keys_of}
-use Rattle.hashlink_core.proofs.Names.{lookup, Held, Node, same_node, entries_of, hash_with, short, Tells}
+use Rattle.hashlink_core.proofs.Names.{lookup, Entry, Node, same_node, entries_of, hash_with, short, Tells}
 use Rattle.hashlink_core.proofs.{Calls.sound, keyed_list.KeyedList.find_with.Goals.After-short_hash}
 use Rattle.hashlink_core.proofs.Finding.{Search, listed-holds, told-hash, found-by_table, key-held, told}
 use Rattle.hashlink_core.proofs.keyed_list.KeyedList.find_with.Given as given
 use Rattle.hashlink_core.proofs.keyed_list.KeyedList.find_with.Goals as goal
 
 -- the key of a node is in the list
-among : (g : given.Over) (c : After-short_hash g) (n : Node) (h : Held g.row.K.Denot g.row.V.Denot)
+among : (g : given.Over) (c : After-short_hash g) (n : Node) (h : Entry g.row.K.Denot g.row.V.Denot)
     → lookup (same_node n) c.self.inside.nodes.entries ≡ Some h
     → Contains (keys_of (entries_of c.args.self.now)) h.key
 among g c n h here =

@@ -1,4 +1,4 @@
-use Rattle.hashlink_nodes.proofs.Names.{ap, ◌∙◌, refl, option_map, Held, pair_of}
+use Rattle.hashlink_nodes.proofs.Names.{ap, ◌∙◌, refl, option_map, Entry, pair_of}
 use Rattle.hashlink_nodes.proofs.{Lending.lent, Opening.node_in, Opening.seal}
 use Rattle.hashlink_nodes.proofs.nodes.Nodes.entry_mut.Goals as goal
 
@@ -13,6 +13,6 @@ returns g c =
       (refl, λ w. (lent c.self.invariant c.self.view_is c.args.node c.requires _ pair w).view),
       record {
         lends = tt;
-        pair = ap (option_map (λ (h : Held g.row.K.Denot g.row.V.Denot). pair_of h)) at.shows ∙ pair;
+        pair = ap (option_map (λ (h : Entry g.row.K.Denot g.row.V.Denot). pair_of h)) at.shows ∙ pair;
       },
     )

@@ -1,4 +1,4 @@
-use Rattle.hashlink_nodes.proofs.{Names.{ap, ◌∙◌, option_map, Held, with_key}, Calls.renewed}
+use Rattle.hashlink_nodes.proofs.{Names.{ap, ◌∙◌, option_map, Entry, with_key}, Calls.renewed}
 use Rattle.hashlink_nodes.proofs.Opening.{if_some, node_in, seal}
 use Rattle.hashlink_nodes.proofs.nodes.Nodes.set_key.Goals as goal
 
@@ -15,6 +15,6 @@ returns g c =
       free = l.free;
       link_writes = l.link_writes;
       key =
-          ap (option_map (λ (h : Held g.row.K.Denot g.row.V.Denot). h.key)) at.shows
+          ap (option_map (λ (h : Entry g.row.K.Denot g.row.V.Denot). h.key)) at.shows
           ∙ c.replace_key.ensures.key;
     }

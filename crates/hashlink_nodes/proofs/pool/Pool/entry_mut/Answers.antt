@@ -1,4 +1,4 @@
-use Rattle.hashlink_nodes.proofs.{Names.{ap, refl, option_map, Held, pair_of}, StateLemmas.pair_at}
+use Rattle.hashlink_nodes.proofs.{Names.{ap, refl, option_map, Entry, pair_of}, StateLemmas.pair_at}
 use Rattle.hashlink_nodes.proofs.pool.Pool.entry_mut.Goals as goal
 
 pub returns : goal.returns
@@ -8,6 +8,6 @@ returns g c =
       (refl, λ w. refl),
       record {
         lends = tt;
-        pair = ap (option_map (λ (h : Held g.row.K.Denot g.row.V.Denot). pair_of h)) at.held;
+        pair = ap (option_map (λ (h : Entry g.row.K.Denot g.row.V.Denot). pair_of h)) at.held;
       },
     )
