@@ -25,7 +25,8 @@ pub use Rattle.hashlink_model.specs.Entries.{place_or_end, set_key_at, set_value
 pub use Rattle.hashlink_model.specs.Steps.{Shrinks, WritesEntry, with_match_value, with_value_of}
 pub use Rattle.hashlink_nodes.specs.Ring.{Holds, IsPlace, MovesAfter, MovesBefore, Ring, held, last_node}
 pub use Rattle.hashlink_nodes.specs.Ring.{next_place, node_after, node_before, pair_of, prev_place}
-pub use Rattle.hashlink_nodes.specs.{Ring.Entry, Node.{eq-same_node, same_node, same_node_equiv}}
+pub use Rattle.hashlink_nodes.specs.{declared.entry.Entry.Entry, Node.{eq-same_node, same_node}}
+pub use Rattle.hashlink_nodes.specs.Node.{same_node_equiv}
 pub use Rattle.hashlink_nodes.specs.Ring.{put_before, ring, with_key, with_number, with_value}
 pub use Rattle.hashlink_nodes.specs.declared.node.Node.{Node}
 pub use Rattle.hashlink_table.specs.Contents.{Contents, Keeps, len_of}

@@ -1,6 +1,6 @@
 -- How the ring of nodes and the table of their hashes agree.
 use Rattle.std.specs.{Prelude.{◌≡◌, ℕ, ◌+◌, ◌%◌, ◌^◌, ◌≤◌, Bool, List, length, map, IsPermutation}, List.fold}
-use Rattle.hashlink_nodes.specs.{declared.node.Node.Node, Node.same_node, Ring.{Entry, Ring}}
+use Rattle.hashlink_nodes.specs.{declared.{node.Node.Node, entry.Entry.Entry}, Node.same_node, Ring.Ring}
 use Rattle.hashlink_model.specs.Entries.{IsEntries}
 use Rattle.hashlink_core.specs.Keyed.{pairs_in}
 use Rattle.hashlink_table.specs.{Contents.{Contents, len_of}, declared.hashed.Hashed.Hashed}
