@@ -166,46 +166,39 @@ where
     ensures count { vec_len replies.new ≡ vec_len replies.old + reply_count command }
     ensures capacity { vec_capacity replies.new ≡ vec_capacity replies.old }
 {
-    match command {
-        Command::Insert(key, value) => {
-            replies.push_reserved(insert_reply(map.insert(key, value)));
-        }
-        Command::InsertFront(key, value) => {
-            replies.push_reserved(insert_reply(map.insert_front(key, value)));
-        }
-        Command::Replace(key, value) => {
-            replies.push_reserved(insert_reply(map.replace(key, value)));
-        }
-        Command::Get(key) => {
-            replies.push_reserved(Reply::Seen(said_of(map.get_key_value(&key), says)));
-        }
-        Command::Remove(key) => replies.push_reserved(Reply::Value(map.remove(&key))),
-        Command::RemoveEntry(key) => replies.push_reserved(Reply::Pair(map.remove_entry(&key))),
-        Command::PopFront => replies.push_reserved(Reply::Pair(map.pop_front())),
-        Command::PopBack => replies.push_reserved(Reply::Pair(map.pop_back())),
+    let reply = match command {
+        Command::Insert(key, value) => insert_reply(map.insert(key, value)),
+        Command::InsertFront(key, value) => insert_reply(map.insert_front(key, value)),
+        Command::Replace(key, value) => insert_reply(map.replace(key, value)),
+        Command::Get(key) => Reply::Seen(said_of(map.get_key_value(&key), says)),
+        Command::Remove(key) => Reply::Value(map.remove(&key)),
+        Command::RemoveEntry(key) => Reply::Pair(map.remove_entry(&key)),
+        Command::PopFront => Reply::Pair(map.pop_front()),
+        Command::PopBack => Reply::Pair(map.pop_back()),
         Command::ToFront(key) => match map.to_front(&key) {
-            Some(_value) => replies.push_reserved(Reply::Seen(said_of(map.front(), says))),
-            None => replies.push_reserved(Reply::Seen(None)),
+            Some(_value) => Reply::Seen(said_of(map.front(), says)),
+            None => Reply::Seen(None),
         },
         Command::ToBack(key) => match map.to_back(&key) {
-            Some(_value) => replies.push_reserved(Reply::Seen(said_of(map.back(), says))),
-            None => replies.push_reserved(Reply::Seen(None)),
+            Some(_value) => Reply::Seen(said_of(map.back(), says)),
+            None => Reply::Seen(None),
         },
-        Command::Front => replies.push_reserved(Reply::Seen(said_of(map.front(), says))),
-        Command::Back => replies.push_reserved(Reply::Seen(said_of(map.back(), says))),
-        Command::Len => replies.push_reserved(Reply::Length(map.len())),
+        Command::Front => Reply::Seen(said_of(map.front(), says)),
+        Command::Back => Reply::Seen(said_of(map.back(), says)),
+        Command::Len => Reply::Length(map.len()),
         Command::Clear => {
             map.clear();
-            replies.push_reserved(Reply::Done);
+            Reply::Done
         }
-        Command::Shrink => replies.push_reserved(shrink_reply(map.shrink_to_fit())),
+        Command::Shrink => shrink_reply(map.shrink_to_fit()),
         Command::Keep => {
             keep_where(map, keep);
-            replies.push_reserved(Reply::Done);
+            Reply::Done
         }
-        Command::Entry(key, step) => replies.push_reserved(reply_of_entry(map, key, step, says)),
-        Command::Cursor(steps) => walk_cursor(map, steps, says, replies),
-    }
+        Command::Entry(key, step) => reply_of_entry(map, key, step, says),
+        Command::Cursor(steps) => return walk_cursor(map, steps, says, replies),
+    };
+    replies.push_reserved(reply);
 }
 
 /// Returns the number of replies to the command, in constant time: one, or one for each step of a cursor.

@@ -1,5 +1,4 @@
-use Rattle.std.proofs.Common.{[], ◌∷◌, None, refl, ap, sym, ◌∙◌}
-use Rattle.hashlink_run.specs.declared.replies.Reply.TheVariants.{Seen}
+use Rattle.std.proofs.Common.{rules, [], ◌∷◌, refl, ap, sym, ◌∙◌}
 use Rattle.hashlink_run.proofs.MovedToEnd.{first_of-new, last_of-new, moves_unwritten, unmoved}
 use Rattle.hashlink_run.proofs.commands.answer_in_room.Goals as goal
 
@@ -28,10 +27,8 @@ said_of-requires-in-Back g c = record {
       (rw c.in-Back.is at c.requires.says) pair (sym c.back-in-Back.ensures.found ∙ read);
 }
 
-pub reply_of_entry-requires : goal.reply_of_entry-requires
-reply_of_entry-requires g c = record { says = rw c.in-Entry.is at c.requires.says }
-
--- ---- a move to an end
+pub reply_of_entry-reply-requires : goal.reply_of_entry-reply-requires
+reply_of_entry-reply-requires g c = record { says = rw c.in-Entry.is at c.requires.says }
 
 pub said_of-requires-in-Some : goal.said_of-requires-in-Some
 said_of-requires-in-Some g c = record {
@@ -42,28 +39,6 @@ said_of-requires-in-Some g c = record {
       (rw c.in-ToFront.is at c.requires.says) pair (sym at_end ∙ sym c.front.ensures.found ∙ read);
 }
 
-pub returns-in-Some-clause-answered : goal.returns-in-Some-clause-answered
-returns-in-Some-clause-answered g c =
-    let laws = g.met.K.Eq.laws in
-    let found = sym c.in-Some.ensures.value in
-    let moved = c.to_front.follows.holds c.in-Some._value.now in
-    let at_end = first_of-new laws c.in-ToFront.key c.to_front.ensures.distinct found moved refl in
-    let said = rw (c.front.ensures.found ∙ at_end) at c.said_of-in-Some.ensures in (
-      Seen c.said_of-in-Some.result ∷ [],
-      rw c.in-ToFront.is
-          (moves_unwritten laws c.in-ToFront.key c.to_front.ensures.distinct found moved, (_, said, refl)),
-      c.push_reserved-in-Some.ensures.items,
-    )
-
-pub returns-in-ToFront-clause-answered : goal.returns-in-ToFront-clause-answered
-returns-in-ToFront-clause-answered g c = (
-  Seen None ∷ [],
-  rw c.in-ToFront.is
-      (unmoved g.K.PartialEq.eq _ _ _ c.in-ToFront.key _ (sym c.in-None.ensures.value)
-      c.to_front.follows.holds-at-none),
-  c.push_reserved-in-None.ensures.items,
-)
-
 pub said_of-requires-in-Some-to_back : goal.said_of-requires-in-Some-to_back
 said_of-requires-in-Some-to_back g c = record {
   says = λ pair read.
@@ -73,31 +48,51 @@ said_of-requires-in-Some-to_back g c = record {
       (rw c.in-ToBack.is at c.requires.says) pair (sym at_end ∙ sym c.back.ensures.found ∙ read);
 }
 
-pub returns-in-Some-to_back-clause-answered : goal.returns-in-Some-to_back-clause-answered
-returns-in-Some-to_back-clause-answered g c =
-    let laws = g.met.K.Eq.laws in
-    let found = sym c.in-Some-to_back.ensures.value in
-    let moved = c.to_back.follows.holds c.in-Some-to_back._value.now in
-    let at_end = last_of-new laws c.in-ToBack.key c.to_back.ensures.distinct found moved refl in
-    let said = rw (c.back.ensures.found ∙ at_end) at c.said_of-in-Some-to_back.ensures in (
-      Seen c.said_of-in-Some-to_back.result ∷ [],
-      rw c.in-ToBack.is
-          (moves_unwritten laws c.in-ToBack.key c.to_back.ensures.distinct found moved, (_, said, refl)),
-      c.push_reserved-in-Some-to_back.ensures.items,
+pub returns-clause-answered : goal.returns-clause-answered
+returns-clause-answered g c =
+    let laws = g.met.K.Eq.laws in (
+      c.match-command.reply ∷ [],
+      elim c.match-command.branch [
+        | goal.in-Insert w ↦ rw (w.in-Insert.is, w.map-is, w.reply-is) (search rules)
+        | goal.in-InsertFront w ↦ rw (w.in-InsertFront.is, w.map-is, w.reply-is) (search rules)
+        | goal.in-Replace w ↦ rw (w.in-Replace.is, w.map-is, w.reply-is) (search rules)
+        | goal.in-Get w ↦ rw (w.in-Get.is, w.map-is, w.reply-is) (search rules)
+        | goal.in-Remove w ↦ rw (w.in-Remove.is, w.map-is, w.reply-is) (search rules)
+        | goal.in-RemoveEntry w ↦ rw (w.in-RemoveEntry.is, w.map-is, w.reply-is) (search rules)
+        | goal.in-PopFront w ↦ rw (w.in-PopFront.is, w.map-is, w.reply-is) (search rules)
+        | goal.in-PopBack w ↦ rw (w.in-PopBack.is, w.map-is, w.reply-is) (search rules)
+        | goal.in-ToFront w ↦ rw (w.in-ToFront.is, w.map-is, w.reply-is) (elim w.match-to_front.branch [
+          | goal.in-Some w' ↦
+              let found = sym w'.in-Some.ensures.value in
+              let moved = w.to_front.follows.holds w'.in-Some._value.now in
+              let at_end = first_of-new laws w.in-ToFront.key w.to_front.ensures.distinct found moved refl in
+              let said = rw (w'.front.ensures.found ∙ at_end) at w'.said_of-in-Some.ensures in
+              rw (w'.map-is, w'.reply-is)
+              (moves_unwritten laws w.in-ToFront.key w.to_front.ensures.distinct found moved, (_, said, refl))
+          | goal.in-None w' ↦ rw (w'.map-is, w'.reply-is)
+              (unmoved g.K.PartialEq.eq _ _ _ w.in-ToFront.key _ (sym w'.in-None.ensures.value)
+              w.to_front.follows.holds-at-none)
+        ])
+        | goal.in-ToBack w ↦ rw (w.in-ToBack.is, w.map-is, w.reply-is) (elim w.match-to_back.branch [
+          | goal.in-Some-to_back w' ↦
+              let found = sym w'.in-Some-to_back.ensures.value in
+              let moved = w.to_back.follows.holds w'.in-Some-to_back._value.now in
+              let at_end = last_of-new laws w.in-ToBack.key w.to_back.ensures.distinct found moved refl in
+              let said = rw (w'.back.ensures.found ∙ at_end) at w'.said_of-in-Some-to_back.ensures in
+              rw (w'.map-is, w'.reply-is)
+              (moves_unwritten laws w.in-ToBack.key w.to_back.ensures.distinct found moved, (_, said, refl))
+          | goal.in-None-to_back w' ↦ rw (w'.map-is, w'.reply-is)
+              (unmoved g.K.PartialEq.eq _ _ _ w.in-ToBack.key _ (sym w'.in-None-to_back.ensures.value)
+              w.to_back.follows.holds-at-none)
+        ])
+        | goal.in-Front w ↦ rw (w.in-Front.is, w.map-is, w.reply-is) (search rules)
+        | goal.in-Back w ↦ rw (w.in-Back.is, w.map-is, w.reply-is) (search rules)
+        | goal.in-Len w ↦ rw (w.in-Len.is, w.map-is, w.reply-is) (search rules)
+        | goal.in-Clear w ↦ rw (w.in-Clear.is, w.map-is, w.reply-is) (search rules)
+        | goal.in-Shrink w ↦ rw (w.in-Shrink.is, w.map-is, w.reply-is)
+            (_, w.shrink_to_fit.ensures, ap (λ r. r ∷ []) w.shrink_reply-reply.ensures)
+        | goal.in-Keep w ↦ rw (w.in-Keep.is, w.map-is, w.reply-is) (search rules)
+        | goal.in-Entry w ↦ rw (w.in-Entry.is, w.map-is, w.reply-is) (search rules)
+      ],
+      c.push_reserved.ensures.items,
     )
-
-pub returns-in-ToBack-clause-answered : goal.returns-in-ToBack-clause-answered
-returns-in-ToBack-clause-answered g c = (
-  Seen None ∷ [],
-  rw c.in-ToBack.is
-      (unmoved g.K.PartialEq.eq _ _ _ c.in-ToBack.key _ (sym c.in-None-to_back.ensures.value)
-      c.to_back.follows.holds-at-none),
-  c.push_reserved-in-None-to_back.ensures.items,
-)
-
-pub returns-in-Shrink-clause-answered : goal.returns-in-Shrink-clause-answered
-returns-in-Shrink-clause-answered g c = (
-  c.shrink_reply.result ∷ [],
-  rw c.in-Shrink.is (_, c.shrink_to_fit.ensures, ap (λ r. r ∷ []) c.shrink_reply.ensures),
-  c.push_reserved-in-Shrink.ensures.items,
-)
