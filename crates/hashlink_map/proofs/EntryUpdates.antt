@@ -1,13 +1,15 @@
--- What a look-up finds after a step at the place of a key.
+-- What a look-up finds after a step at the place of a key, which is given or stored there.
 use Rattle.hashlink_map.proofs.Names
 use Names.{◌≡◌, ℕ, ◌+◌, Bool, true, cond, List, [], ◌∷◌, ◌++◌, Option, None, Some, length, sym, ap, ap₂}
 use Names.{subst, ◌∙◌, true≢false, is_some, IsEquivalence, IsEntries, lookup, place_of, MapState, slice_get}
-use Names.{option_map}
+use Names.{option_map, refl, IfSome, EqualsKeyAt, place_of_its_key}
 use Rattle.std.{specs.Prelude.IsSome, specs.Option.option_map_or, proofs.Common.⊎_elim}
 use Rattle.std.{proofs.lemmas.Bool.cases_Bool, specs.Map.{KeepsOthers, set_value}}
 use Rattle.hashlink_model.specs.Entry.{InsertsValue, InsertsEntry, ReplacesEntry, ReplacesKey, TakesEntry}
+use Rattle.hashlink_model.specs.{Entry.ReplacesValue}
 use Rattle.hashlink_model.specs.Entries.{IsKeyTest, moved_at, moved_match, set_key_at, set_value_at}
-use Rattle.hashlink_model.specs.{Entry.replace_entry, Lookups.{UpdatesBy, Updates, KeepsLookups}}
+use Rattle.hashlink_model.specs.{Entry.{replace_entry, key_at}, MapState.MovesAt}
+use Rattle.hashlink_model.specs.Lookups.{UpdatesBy, Updates, UpdatesAt, KeepsLookups, KeepsLookupsAt}
 use Rattle.hashlink_model.proofs.{ByPlace.set_value_at-place, Puts.place_of-set_value}
 use Rattle.hashlink_model.proofs.Splits.{stands_from_place}
 use Rattle.hashlink_model.proofs.Updates.{updates-put, updates-left, updates-written, keeps-moved}
@@ -86,6 +88,15 @@ module _ {K V S : Type 0} (eq : K → K → Bool) (laws : IsEquivalence eq) (old
       subst (λ es. Finds es (Some v)) (sym (inserted-key eq old new k j p v w s).puts.entries)
       (updates-put eq laws old.entries k v (length old.entries) d)
 
+  -- goal: after an entry's moves
+  pub keeps-moved_at : (b : ℕ) → IsEntries eq old.entries → MovesAt old new j b
+      → KeepsLookups eq (eq k) old.entries new.entries
+  keeps-moved_at b d s =
+      let moves : moved_match (eq k) old.entries b ≡ moved_at old.entries j b
+      = ap (λ o. option_map_or (λ i. moved_at old.entries i b) o old.entries) p in
+      subst (KeepsLookups eq (eq k) old.entries) (moves ∙ sym s.entries)
+      (keeps-moved eq laws (eq k) (laws.congr k) old.entries b d)
+
   -- goal: after an entry's removal
   pub updates-taken : (e : K × V) → IsEntries eq old.entries → TakesEntry old new j e
       → Finds new.entries None
@@ -112,12 +123,15 @@ module _ {K V S : Type 0} (eq : K → K → Bool) (laws : IsEquivalence eq) (old
     there : IsSome (lookup (eq k) old.entries)
     there = ap is_some (lookup-place (eq k) old.entries j p ∙ ap (option_map (λ x. x.1)) at)
 
+    finds-valued : Finds valued (Some v)
+    finds-valued =
+        subst (λ es. Finds es (Some v)) (sym value_set)
+        (updates-written eq laws (eq k) (laws.congr k) old.entries v there)
+
     finds-replaced : Finds (replace_entry old.entries j k v) (Some v)
     finds-replaced =
         updates_kept eq laws (eq k) old.entries valued (replace_entry old.entries j k v) (Some v)
-        (subst (λ es. Finds es (Some v)) (sym value_set)
-        (updates-written eq laws (eq k) (laws.congr k) old.entries v there))
-        (keeps-set_key eq laws k valued j place-valued)
+        finds-valued (keeps-set_key eq laws k valued j place-valued)
 
     place-replaced : place_of (eq k) (replace_entry old.entries j k v) ≡ Some j
     place-replaced = place_of-set_key eq laws (eq k) (laws.congr k) k valued j place-valued ∙ place-valued
@@ -138,3 +152,56 @@ module _ {K V S : Type 0} (eq : K → K → Bool) (laws : IsEquivalence eq) (old
       updates_kept eq laws (eq k) old.entries zs new.entries (Some v) (finds-replaced v e s.answer)
       (subst (KeepsLookups eq (eq k) zs) (moves ∙ sym s.step.entries)
       (keeps-moved eq laws (eq k) (laws.congr k) zs b d))
+
+-- ---- by the key that is stored at the place j
+
+if_entry : {K V : Type 0} (P : K → Type 0) (o : Option (K × V)) → ((e : K × V) → o ≡ Some e → P e.0)
+    → IfSome (option_map (λ e. e.0) o) P
+if_entry P None f = tt
+if_entry P (Some e) f = f e refl
+
+module _ {K V S : Type 0} (eq : K → K → Bool) (laws : IsEquivalence eq) (old new : MapState K V S) (j : ℕ)
+    (d : IsEntries eq old.entries) where
+  -- what holds for each entry that is there holds for its key
+  by_entry : (P : K → Type 0)
+      → ((e : K × V) → slice_get old.entries j ≡ Some e → place_of (eq e.0) old.entries ≡ Some j → P e.0)
+      → IfSome (key_at old.entries j) P
+  by_entry P f =
+      if_entry P (slice_get old.entries j)
+      (λ e at. f e at (place_of_its_key eq laws old.entries j e e.0 d at (laws.refl e.0)))
+
+  -- goal: after a raw entry's moves
+  pub keeps-moved_raw : (b : ℕ) → MovesAt old new j b → KeepsLookupsAt eq old.entries new.entries j
+  keeps-moved_raw b s =
+      by_entry (λ k. KeepsLookups eq (eq k) old.entries new.entries)
+      (λ e at p. keeps-moved_at eq laws old new e.0 j p b d s)
+
+  -- goal: after a raw entry's `replace_value`
+  pub updates-value_raw : (v w : V) → ReplacesValue old new j v w
+      → UpdatesAt eq old.entries new.entries j (Some v)
+  updates-value_raw v w s =
+      by_entry (λ k. Updates eq old.entries new.entries k (Some v)) (λ e at p.
+      subst (λ es. Updates eq old.entries es e.0 (Some v)) (sym s.step.entries)
+      (finds-valued eq laws old new e.0 j p v e at))
+
+  -- goal: after a raw entry's removal
+  pub updates-taken_raw : (x : K × V) → TakesEntry old new j x
+      → UpdatesAt eq old.entries new.entries j None
+  updates-taken_raw x s =
+      by_entry (λ k. Updates eq old.entries new.entries k None)
+      (λ e at p. updates-taken eq laws old new e.0 j p x d s)
+
+  -- goal: after a raw entry's `replace_key`
+  pub keeps-key_raw : (h q : K) → EqualsKeyAt eq old.entries j h → ReplacesKey old new j h q
+      → KeepsLookupsAt eq old.entries new.entries j
+  unfolding KeepsOthers
+  keeps-key_raw h q same s =
+      by_entry (λ k. KeepsLookups eq (eq k) old.entries new.entries) (λ e at p.
+      let equal : eq h e.0 ≡ true
+      = subst (λ o. IfSome o (λ x. eq h x ≡ true)) (ap (option_map (λ x. x.0)) at) same in
+      let place = place_of_its_key eq laws old.entries j e h d at equal in
+      subst (KeepsLookups eq (eq e.0) old.entries) (sym s.step.entries) (
+        λ x. lookup-set_key eq laws (eq x) (laws.congr x) h old.entries j place,
+        lookup-set_key eq laws (eq e.0) (laws.congr e.0) h old.entries j place,
+        λ other told apart. lookup-set_key eq laws other told h old.entries j place,
+      ))

@@ -102,6 +102,7 @@ impl<K: Eq + Hash, V, S: BuildHasher> LinkedHashMap<K, V, S> {
         ensures moves { MovesAt (state_of self.old) (state_of self.new)
             (place_number self.old.nodes (Some node)) 0 }
         ensures stays { StaysHeld K.eq self.old self.new node 0 }
+        ensures distinct { IsEntries K.eq (entries_of self.old) }
     {
         self.list.move_after(node, None);
     }
@@ -127,6 +128,7 @@ impl<K: Eq + Hash, V, S: BuildHasher> LinkedHashMap<K, V, S> {
         ensures replaces { ReplacesKey (state_of self.old) (state_of self.new)
             (place_number self.old.nodes (Some node)) key result }
         ensures stays { StaysHeld K.eq self.old self.new node (place_number self.old.nodes (Some node)) }
+        ensures distinct { IsEntries K.eq (entries_of self.old) }
     {
         self.list.replace_key(node, key)
     }

@@ -7,11 +7,12 @@ use Rattle.hashlink_model.{proofs.Names.{stored_key, false, IsKeyTest, NonePasse
 use Rattle.hashlink_model.specs.Lookups.{EvictsOthers, Updates, UpdatesFitting, UpdatesWithin}
 use Rattle.hashlink_model.proofs.{Splits.{Stands, splits, lookup-here, lookup-none}, Distinct.each-right}
 use Rattle.hashlink_model.proofs.{Finds.{lookup_is, stored_key-equal}, Places.none_before}
-use Rattle.hashlink_model.proofs.{Puts.{put_back, IsEntries-put}, Afterwards.length-put}
-use Rattle.hashlink_model.proofs.Caches.{last_entries-end, length-last_entries, cache_put-with_a_place}
+use Rattle.hashlink_model.proofs.{Puts.{put_back, IsEntries-put}, Afterwards.{length-put, length-put_there}}
+use Rattle.hashlink_model.proofs.Caches.{last_entries-end, length-last_entries, last_entries-within}
+use Rattle.hashlink_model.proofs.{Caches.cache_put-with_a_place}
 use Rattle.hashlink_model.proofs.{Remaining.{last_stays, found_in_end}, Updates.{fails_apart, updates-put}}
 use Rattle.hashlink_model.proofs.Weighted.{fitting-end, length-weighted_put}
-use Rattle.std.{specs.Map.AreApart, proofs.Common.⊎_elim, proofs.Math.Path.fun_ext}
+use Rattle.std.{specs.Map.AreApart, specs.Prelude.IsSome, proofs.Common.⊎_elim, proofs.Math.Path.fun_ext}
 
 module _ {K V : Type 0} (eq : K → K → Bool) (old new : List (K × V)) (k : K) where
   abbrev IsLeft : (K → Bool) → Type 0
@@ -60,6 +61,11 @@ module _ {K V : Type 0} (eq : K → K → Bool) (laws : IsEquivalence eq) where
       let none = none_before eq laws (front ++ s.0) (k0, v) [] k (subst (IsEntries eq) whole d) same in
       ap (lookup (eq k)) s.1 ∙ lookup-here (eq k) (k0, v) [] same s.0 (each-right _ front s.0 none)
 
+  length_put : (es : List (K × V)) (k : K) (v : V) (o : Option V) → lookup (eq k) es ≡ o → IsSome o
+      → length (put eq es k v (length es)) ≡ length es
+  length_put es k v None found there = absurd (cc there)
+  length_put es k v (Some w) found there = length-put_there eq es k v (length es) w found
+
   -- goal: the lookups after an insert into a cache
   pub updates-cache_put : (es : List (K × V)) (cap : ℕ) (k : K) (v : V)
       → IsEntries eq (put eq es k v (length es)) → Updates eq es (put eq es k v (length es)) k (Some v)
@@ -73,6 +79,8 @@ module _ {K V : Type 0} (eq : K → K → Bool) (laws : IsEquivalence eq) where
         evicts-others eq es (last_entries zs cap) k (λ q n.
             ⊎_elim (λ e. inl e) (λ e. inr (e ∙ u.2 q n)) (in_the_end q (length zs - cap) zs d)),
         λ room. subst (λ ys. Updates eq es ys k (Some v)) (sym (cache_put-with_a_place eq es cap k v room)) u,
+        λ there room. subst (λ ys. Updates eq es ys k (Some v)) (sym (last_entries-within zs cap
+            (omega (arith, room, length_put es k v (lookup (eq k) es) refl there)))) u,
       )
 
   -- the same from the steps of the insert

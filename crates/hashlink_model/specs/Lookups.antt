@@ -1,8 +1,9 @@
 -- What a lookup finds after a change of the entries, in the words of std's maps and sets.
-use Rattle.std.specs.Prelude.{◌≡◌, ◌⊎◌, ℕ, ◌<◌, Bool, false, cond, List, length, Option, Some, None, IfSome}
-use Rattle.std.specs.{Prelude.MatchOption, List.list_any, Set.{is_member, KeepsOthers as KeepsOtherElements}}
+use Rattle.std.specs.Prelude.{◌≡◌, ◌⊎◌, ℕ, ◌<◌, ◌≤◌, Bool, false, cond, List, length, Option, Some, None}
+use Rattle.std.specs.{Prelude.{IfSome, IsSome, MatchOption}, List.list_any}
+use Rattle.std.specs.Set.{is_member, KeepsOthers as KeepsOtherElements}
 use Rattle.std.specs.Map.{AreApart, lookup, lookup_entry, set_value, KeepsOthers}
-use Rattle.hashlink_model.specs.Entries.{IsKeyTest, put}
+use Rattle.hashlink_model.specs.{Entries.{IsKeyTest, put}, Entry.key_at}
 
 module _ {K V : Type 0} (eq : K → K → Bool) where
   -- the keys that pass the test have the value w now, or are absent if w is `None`; lookups of other keys are
@@ -35,6 +36,15 @@ module _ {K V : Type 0} (eq : K → K → Bool) where
   abbrev pub UpdatesLast : List (K × V) → K → Type 0
   UpdatesLast old k = (w : V) → UpdatesBy eq (eq k) old (put eq old k w (length old)) (Some w)
 
+  -- the key at the place j has the value w now, or is absent if w is `None`; lookups of other keys are
+  -- unchanged
+  abbrev pub UpdatesAt : List (K × V) → List (K × V) → ℕ → Option V → Type 0
+  UpdatesAt old new j w = IfSome (key_at old j) (λ k. UpdatesBy eq (eq k) old new w)
+
+  -- all lookups are unchanged, such as those of the key at the place j
+  abbrev pub KeepsLookupsAt : List (K × V) → List (K × V) → ℕ → Type 0
+  KeepsLookupsAt old new j = IfSome (key_at old j) (λ k. KeepsLookups eq (eq k) old new)
+
   -- the key of the entry that a pop returned is absent now, and lookups of other keys are unchanged
   abbrev pub UpdatesPopped : List (K × V) → List (K × V) → Option (K × V) → Type 0
   UpdatesPopped old new popped = IfSome popped (λ e. UpdatesBy eq (eq e.0) old new None)
@@ -56,11 +66,13 @@ module _ {K V : Type 0} (eq : K → K → Bool) where
       → (lookup test new ≡ None) ⊎ (lookup test new ≡ lookup test old))
 
   -- an insert into a cache with the capacity `cap`: the key has v now, unless `cap` is 0. Lookups of other
-  -- keys are unchanged, or the keys were evicted; none was evicted if there were fewer entries than `cap`
+  -- keys are unchanged, or the keys were evicted. None was evicted if there were fewer entries than `cap`, or
+  -- as many and the key was present
   abbrev pub UpdatesWithin : ℕ → List (K × V) → List (K × V) → K → V → Type 0
   UpdatesWithin cap old new k v =
       (0 < cap → lookup (eq k) new ≡ Some v) × EvictsOthers old new k
       × (length old < cap → UpdatesBy eq (eq k) old new (Some v))
+      × (IsSome (lookup (eq k) old) → length old ≤ cap → UpdatesBy eq (eq k) old new (Some v))
 
   -- an insert into a cache with a budget: the key has v now, and lookups of other keys are unchanged, or the
   -- keys were evicted

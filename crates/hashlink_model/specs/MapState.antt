@@ -19,8 +19,8 @@ pub record StoresAtMost (most old new : ℕ) : Type 0 where
   pub bound : new ≤ old + most
 
 -- the room of a step that needs room for n nodes. If there was enough, it is unchanged; else it is at most
--- twice n, and at most 8 if n is below 4. It grows only to powers of two, so a room for n nodes has grown at
--- most as often as n has binary digits
+-- twice n, and at most 8 if n is below 4. It grows only to powers of two, so between two shrinks it grows at
+-- most as often as the greatest n has binary digits
 pub record RoomFor (n old new : ℕ) : Type 0 where
   pub grows : old ≤ new
   pub same : n ≤ old → new ≡ old

@@ -66,6 +66,7 @@ impl<K: Eq + Hash, V, S: BuildHasher> KeyedList<K, V, S> {
         requires place { IsPlace (remove_entry (same_node node) self.old.nodes) place }
         ensures moved { MovesNode self.old self.new (place_number self.old.nodes (Some node))
             (following_place (length self.old.nodes) (place_number self.old.nodes place)) }
+        ensures was_sound { IsKeyed K.eq self.old }
         ensures sound { IsKeyed K.eq self.new }
     {
         self.nodes.move_after(node, place);

@@ -59,6 +59,7 @@ impl<K: Eq + Hash, V, S: BuildHasher> KeyedList<K, V, S> {
         ensures key { option_map (λ e. e.0)
             (slice_get (entries_of self.old) (place_number self.old.nodes (Some node))) ≡ Some result }
         ensures written { SetsNodeKey self.old self.new (place_number self.old.nodes (Some node)) key }
+        ensures was_sound { IsKeyed K.eq self.old }
         ensures sound { IsKeyed K.eq self.new }
     {
         self.nodes.set_key(node, key)

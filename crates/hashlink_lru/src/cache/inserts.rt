@@ -1,7 +1,7 @@
 //! Inserts, and the evictions of the least recently used entries that make room for them.
-ghost use Rattle.std.specs.Prelude.{◌≡◌, OnOk};
-ghost use Rattle.hashlink_model.specs.{Cache.{CacheInserts, EvictsFront, IsWithin, OnMap}, Entries.IsEntries};
-ghost use Rattle.hashlink_model.specs.Lookups.{EvictsSome, UpdatesWithin};
+ghost use Rattle.std.specs.{Prelude.{◌≡◌, IfOk, IsOk, IsSome, OnOk}, Map.lookup};
+ghost use Rattle.hashlink_model.specs.Cache.{CacheInserts, EvictsFront, IsWithin, OnMap, cache_put};
+ghost use Rattle.hashlink_model.specs.{Entries.IsEntries, Lookups.{EvictsSome, UpdatesWithin}};
 
 use super::LruCache;
 use std::hash::{BuildHasher, Hash};
@@ -28,8 +28,12 @@ impl<K: Eq + Hash, V, S: BuildHasher> LruCache<K, V, S> {
         K: Drop,
         V: Drop,
         ensures inserts { CacheInserts K.eq (state_of self.old) (state_of self.new) key value result }
+        ensures entries { OnOk result (entries_of self.new
+            ≡ cache_put K.eq (entries_of self.old) (state_of self.old).cap key value) }
         ensures updates { OnOk result (UpdatesWithin K.eq (state_of self.old).cap (entries_of self.old)
             (entries_of self.new) key value) }
+        ensures old { IfOk result (λ old. old ≡ lookup (K.eq key) (entries_of self.old)) }
+        ensures there { IsSome (lookup (K.eq key) (entries_of self.old)) → IsOk result }
         ensures distinct { IsEntries K.eq (entries_of self.new) }
         ensures fits { OnOk result (IsWithin (state_of self.new) 0) }
         ensures within { StaysWithin (state_of self.old) (state_of self.new) }

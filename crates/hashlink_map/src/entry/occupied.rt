@@ -101,6 +101,8 @@ impl<'a, K: Eq + Hash, V, S: BuildHasher> OccupiedEntry<'a, K, V, S> {
         ensures same_map { (occupied_map self.new).ghost_name ≡ (occupied_map self.old).ghost_name }
         ensures moves { MovesAt (occupied_state self.old).map (occupied_state self.new).map
             (occupied_place self.old) (length (occupied_state self.old).map.entries) }
+        ensures keeps { KeepsLookups K.eq (K.eq (occupied_state self.old).key)
+            (occupied_state self.old).map.entries (occupied_state self.new).map.entries }
         ensures stands { StandsAt self.old self.new (length (occupied_state self.old).map.entries - 1) }
     {
         let node = self.node;
@@ -112,6 +114,8 @@ impl<'a, K: Eq + Hash, V, S: BuildHasher> OccupiedEntry<'a, K, V, S> {
         ensures same_map { (occupied_map self.new).ghost_name ≡ (occupied_map self.old).ghost_name }
         ensures moves { MovesAt (occupied_state self.old).map (occupied_state self.new).map
             (occupied_place self.old) 0 }
+        ensures keeps { KeepsLookups K.eq (K.eq (occupied_state self.old).key)
+            (occupied_state self.old).map.entries (occupied_state self.new).map.entries }
         ensures stands { StandsAt self.old self.new 0 }
     {
         let node = self.node;

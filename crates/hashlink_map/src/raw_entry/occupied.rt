@@ -1,9 +1,9 @@
 //! Occupied raw entries. Each of their methods takes constant time, and none hashes or allocates.
-ghost use Rattle.std.specs.Prelude.{◌≡◌, ◌-◌, length, slice_get, Some, Err, IfOk, IfErr, MatchResult};
+ghost use Rattle.std.specs.Prelude.{◌≡◌, ◌-◌, length, slice_get, None, Some, Err, IfOk, IfErr, MatchResult};
 ghost use Rattle.std.specs.{Borrow.sem, Map.Iter.deref_pair};
-ghost use Rattle.hashlink_model.specs.MapState.{RemovesAt, MovesAt};
+ghost use Rattle.hashlink_model.specs.{Lookups.{KeepsLookupsAt, UpdatesAt}, MapState.{RemovesAt, MovesAt}};
 ghost use Rattle.hashlink_model.specs.Entry.{key_at, value_at, ReplacesKey, ReplacesValue, TakesEntry};
-ghost use Rattle.hashlink_core.specs.{Keyed.state_of, Places.Holds};
+ghost use Rattle.hashlink_core.specs.{Keyed.{entries_of, state_of}, Places.Holds};
 
 use crate::as_node::AsNode;
 use crate::cursor::CursorMut;
@@ -144,6 +144,8 @@ impl<'a, K: Eq + Hash, V, S: BuildHasher> RawOccupiedEntryMut<'a, K, V, S> {
         ensures same_map { (raw_occupied_map self.new).ghost_name ≡ (raw_occupied_map self.old).ghost_name }
         ensures moves { MovesAt (raw_occupied_state self.old).map (raw_occupied_state self.new).map
             (raw_place self.old) (length (raw_occupied_state self.old).map.entries) }
+        ensures keeps { KeepsLookupsAt K.eq (raw_occupied_state self.old).map.entries
+            (raw_occupied_state self.new).map.entries (raw_place self.old) }
         ensures stands { raw_place self.new ≡ length (raw_occupied_state self.old).map.entries - 1 }
     {
         let node = self.node;
@@ -155,6 +157,8 @@ impl<'a, K: Eq + Hash, V, S: BuildHasher> RawOccupiedEntryMut<'a, K, V, S> {
         ensures same_map { (raw_occupied_map self.new).ghost_name ≡ (raw_occupied_map self.old).ghost_name }
         ensures moves { MovesAt (raw_occupied_state self.old).map (raw_occupied_state self.new).map
             (raw_place self.old) 0 }
+        ensures keeps { KeepsLookupsAt K.eq (raw_occupied_state self.old).map.entries
+            (raw_occupied_state self.new).map.entries (raw_place self.old) }
         ensures stands { raw_place self.new ≡ 0 }
     {
         let node = self.node;
@@ -166,6 +170,8 @@ impl<'a, K: Eq + Hash, V, S: BuildHasher> RawOccupiedEntryMut<'a, K, V, S> {
         ensures same_map { (raw_occupied_map self.new).ghost_name ≡ (raw_occupied_map self.old).ghost_name }
         ensures replaces { ReplacesValue (raw_occupied_state self.old).map (raw_occupied_state self.new).map
             (raw_place self.old) value result }
+        ensures updates { UpdatesAt K.eq (raw_occupied_state self.old).map.entries
+            (raw_occupied_state self.new).map.entries (raw_place self.old) (Some value) }
         ensures stands { raw_place self.new ≡ raw_place self.old }
     {
         let node = self.node;
@@ -179,6 +185,8 @@ impl<'a, K: Eq + Hash, V, S: BuildHasher> RawOccupiedEntryMut<'a, K, V, S> {
         ensures same_map { (raw_occupied_map self.new).ghost_name ≡ (raw_occupied_map self.old).ghost_name }
         ensures replaces { ReplacesKey (raw_occupied_state self.old).map (raw_occupied_state self.new).map
             (raw_place self.old) key result }
+        ensures keeps { KeepsLookupsAt K.eq (raw_occupied_state self.old).map.entries
+            (raw_occupied_state self.new).map.entries (raw_place self.old) }
         ensures stands { raw_place self.new ≡ raw_place self.old }
     {
         let node = self.node;
@@ -198,6 +206,8 @@ impl<'a, K: Eq + Hash, V, S: BuildHasher, N: AsNode> RawOccupiedEntryMut<'a, K, 
             ≡ Some result }
         ensures removes { RemovesAt (raw_occupied_state self.entry).map (state_of self.exit.0.now)
             (raw_place self.entry) }
+        ensures updates { UpdatesAt K.eq (raw_occupied_state self.entry).map.entries
+            (entries_of self.exit.0.now) (raw_place self.entry) None }
     {
         let node = self.node;
         let (_, value) = self.map.take_at(node);
@@ -207,8 +217,10 @@ impl<'a, K: Eq + Hash, V, S: BuildHasher, N: AsNode> RawOccupiedEntryMut<'a, K, 
     /// Removes the entry and returns its pair. It stores at most three links.
     #[inline]
     pub fn remove_entry(self) -> (K, V)
-        ensures { TakesEntry (raw_occupied_state self.entry).map (state_of self.exit.0.now)
+        ensures takes { TakesEntry (raw_occupied_state self.entry).map (state_of self.exit.0.now)
             (raw_place self.entry) result }
+        ensures updates { UpdatesAt K.eq (raw_occupied_state self.entry).map.entries
+            (entries_of self.exit.0.now) (raw_place self.entry) None }
     {
         let node = self.node;
         self.map.take_at(node)

@@ -1,6 +1,6 @@
 //! Inserts, which evict entries to make room.
-ghost use Rattle.std.specs.Prelude.{◌≡◌, ◌<◌, ◌↔◌, IfOk, OnOk, OnErr, Err};
-ghost use Rattle.hashlink_model.specs.{Entries.IsEntries, Lookups.UpdatesFitting};
+ghost use Rattle.std.specs.{Prelude.{◌≡◌, ◌<◌, ◌≤◌, ◌↔◌, IfOk, IsOk, IsSome, OnOk, OnErr, Err}, Map.lookup};
+ghost use Rattle.hashlink_model.specs.{Entries.IsEntries, Lookups.UpdatesFitting, Weights.weighted_put};
 ghost use Rattle.hashlink_weighted.specs.{Answers.without_weight, Weighed.{entries_of, weight_or_none}};
 ghost use Rattle.hashlink_weighted.specs.Evicted.{IsGivenEach, TakesEach, evicted_by};
 ghost use Rattle.hashlink_weighted.specs.declared.error.WeightError.TheVariants.{TooHeavy};
@@ -41,8 +41,14 @@ impl<K: Eq + Hash, V, S: BuildHasher> WeightedCache<K, V, S> {
         K: Drop,
         V: Drop,
         ensures inserts { InsertsWithin K.eq self.old self.new key value weight result }
+        ensures entries { OnOk result (entries_of self.new
+            ≡ weighted_put K.eq (entries_of self.old) self.old.budget key value weight) }
         ensures updates { OnOk result
             (UpdatesFitting K.eq (entries_of self.old) (entries_of self.new) key (value, weight)) }
+        ensures old { IfOk result
+            (λ old. old ≡ without_weight (lookup (K.eq key) (entries_of self.old))) }
+        ensures there { IsSome (lookup (K.eq key) (entries_of self.old)) → weight ≤ self.old.budget
+            → IsOk result }
         ensures too_heavy { (result ≡ Err (TooHeavy (key, value))) ↔ (self.old.budget < weight) }
         ensures distinct { IfOk result (λ _. IsEntries K.eq (entries_of self.new)) }
     {
@@ -69,8 +75,14 @@ impl<K: Eq + Hash, V, S: BuildHasher> WeightedCache<K, V, S> {
         V: Drop,
         requires { TakesEach F.FnMut on_evicted.old (evicted_by K.eq self.old key value weight) }
         ensures inserts { InsertsWithin K.eq self.old self.new key value weight result }
+        ensures entries { OnOk result (entries_of self.new
+            ≡ weighted_put K.eq (entries_of self.old) self.old.budget key value weight) }
         ensures updates { OnOk result
             (UpdatesFitting K.eq (entries_of self.old) (entries_of self.new) key (value, weight)) }
+        ensures old { IfOk result
+            (λ old. old ≡ without_weight (lookup (K.eq key) (entries_of self.old))) }
+        ensures there { IsSome (lookup (K.eq key) (entries_of self.old)) → weight ≤ self.old.budget
+            → IsOk result }
         ensures too_heavy { (result ≡ Err (TooHeavy (key, value))) ↔ (self.old.budget < weight) }
         ensures distinct { IfOk result (λ _. IsEntries K.eq (entries_of self.new)) }
         ensures given { OnOk result (IsGivenEach F.FnMut on_evicted.old

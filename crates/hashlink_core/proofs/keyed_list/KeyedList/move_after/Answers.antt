@@ -24,3 +24,6 @@ invariant_of-self g c =
 
 pub returns-clause-sound : goal.returns-clause-sound
 returns-clause-sound g c = sound refl (invariant_of-self g c)
+
+pub returns-clause-was_sound : goal.returns-clause-was_sound
+returns-clause-was_sound g c = sound c.self.view_is c.self.invariant

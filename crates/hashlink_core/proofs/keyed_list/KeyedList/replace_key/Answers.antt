@@ -34,3 +34,6 @@ set_key-requires g c = held-inside g.met.K.Eq.laws c.self.view_is c.self.invaria
 
 pub returns-clause-sound : goal.returns-clause-sound
 returns-clause-sound g c = sound refl (invariant_of-self g c)
+
+pub returns-clause-was_sound : goal.returns-clause-was_sound
+returns-clause-was_sound g c = sound c.self.view_is c.self.invariant

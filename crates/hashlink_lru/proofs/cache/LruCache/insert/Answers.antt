@@ -1,7 +1,7 @@
-use Rattle.std.{proofs.Common.{rules, subst, sym, length, ◌+◌, ◌≤◌}, specs.Prelude.Ok}
+use Rattle.std.{proofs.Common.{rules, refl, subst, sym, length, ◌+◌, ◌≤◌}, specs.Prelude.Ok}
 use Rattle.hashlink_core.specs.Keyed as keyed
 use Rattle.hashlink_model.{specs.Cache.CacheInserts, proofs.CacheBounds.{within-inserted, within-inserts}}
-use Rattle.hashlink_model.proofs.CacheUpdates.{updates-kept_last}
+use Rattle.hashlink_model.proofs.{CacheSteps.inserts_entries, CacheUpdates.updates-kept_last}
 use Rattle.hashlink_lru.specs.Cached.{state_of}
 use Rattle.hashlink_lru.proofs.cache.LruCache.insert.Goals as goal
 
@@ -24,9 +24,12 @@ returns g c =
     } in
     record {
       inserts = step;
+      entries = inserts_entries eq old new _ _ _ step;
       updates = updates-kept_last eq g.met.K.Eq.laws _ _ _ c.args.self.now.capacity c.args.key c.args.value
           c.in_ok-old.ensures.entries c.in_ok-old.ensures.distinct c.in_ok-old.ensures.updates
           e.keeps.map.entries;
+      old = c.in_ok-old.ensures.old;
+      there = λ _. refl;
       distinct = e.distinct;
       fits = within-inserted old new eq c.args.key c.args.value c.in_ok-old.old step;
       within = λ n. within-inserts old new n eq c.args.key c.args.value (Ok c.in_ok-old.old) step;

@@ -12,4 +12,5 @@ returns g c =
       moves = rw (← c.self.view_is) moved.state;
       stays = stays-first g.met.K.Eq.laws _ _ e.sound c.args.node c.requires
           (rw c.self.view_is at moved.nodes);
+      distinct = rw c.self.view_is at e.was_sound.distinct;
     }

@@ -8,3 +8,6 @@ returns-clause-stays g c =
     stays-renewed laws _ _ sound c.args.node c.requires.held (pair_with_key c.args.key)
     (same-keys laws _ _ sound c.args.node c.requires.held c.args.key c.requires.equal)
     (rw c.self.view_is at c.replace_key.ensures.written.nodes)
+
+pub returns-clause-distinct : goal.returns-clause-distinct
+returns-clause-distinct g c = rw c.self.view_is at c.replace_key.ensures.was_sound.distinct
