@@ -1,9 +1,9 @@
 //! One command to a map, and how a map runs it.
-ghost use Rattle.std.specs.Prelude.{◌≡◌, ◌+◌, ◌≤◌, ◌++◌, [], ◌∷◌, List, OnOk, OnErr, IsOk, Some, length};
-ghost use Rattle.std.specs.{Prelude.{vec_len, vec_capacity}, Map.{lookup, lookup_entry}, Map.Iter.deref_pair};
-ghost use Rattle.std.specs.{Map.Calls.{CallableOnEachPair, CalledAtPair, TakesPair}, Option.option_map};
+ghost use Rattle.std.specs.Prelude.{◌≡◌, ◌+◌, ◌≤◌, ◌++◌, List, OnOk, OnErr, IsOk, Some};
+ghost use Rattle.std.specs.{Prelude.{vec_len, vec_capacity}, Map.Iter.deref_pair};
+ghost use Rattle.std.specs.Option.{option_map};
 ghost use Rattle.hashlink_core.specs.Keyed.{entries_of, state_of};
-ghost use Rattle.hashlink_model.specs.{Retain.RetainsInOrder, Steps.Moves};
+ghost use Rattle.hashlink_model.specs.Steps.{Moves};
 ghost use Rattle.hashlink_run.specs.{Keeps.{IsEntryOf, KeepsWhere}, CallReplies.{insert_reply, shrink_reply}};
 ghost use Rattle.hashlink_run.specs.Reads.{CallableAt, CallableOn, ClosureSays, SaysOf};
 ghost use Rattle.hashlink_run.specs.Step.{AskedBy, ReadBy, Step, reply_count};
@@ -221,30 +221,13 @@ where
     requires keep { CallableOn G.Fn keep.now (IsEntryOf (entries_of map.old)) }
     ensures { KeepsWhere (ClosureSays G.Fn keep.now) (state_of map.old) (state_of map.new) }
 {
-    retain_by(
-        map,
+    map.retain(
         |key, value|
             requires { CallableAt G.Fn keep.now key.now value.old }
             ensures says { ClosureSays G.Fn keep.entry.now key.now value.old result }
             ensures unchanged { (value.new ≡ value.old) × (keep.exit ≡ keep.entry) }
         { keep(key, value) },
     );
-}
-
-// Does what the map's `retain` does. Its condition has a name, so it is a record, which is cheap to compare
-// if the closure is known.
-fn retain_by<K, V, S, F>(map: &mut LinkedHashMap<K, V, S>, keep: F)
-where
-    K: Eq + Hash + Drop,
-    V: Drop,
-    S: BuildHasher,
-    F: FnMut(&K, &mut V) -> bool,
-    requires callable { CallableOnEachPair (CalledAtPair F.FnMut) (TakesPair F.FnMut) keep
-        (entries_of map.old) }
-    ensures { (end : F) × RetainsInOrder (CalledAtPair F.FnMut) keep (state_of map.old) (state_of map.new)
-        end }
-{
-    map.retain(keep);
 }
 
 /// Returns the reply to an insert that returned `answer`, in constant time.

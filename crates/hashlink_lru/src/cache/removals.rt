@@ -105,7 +105,8 @@ impl<K: Eq + Hash, V, S: BuildHasher> LruCache<K, V, S> {
     where
         K: Drop,
         V: Drop,
-        requires { CallableOnEachPair (CalledAtPair F.FnMut) (TakesPair F.FnMut) keep (entries_of self.old) }
+        requires callable { CallableOnEachPair (CalledAtPair F.FnMut) (TakesPair F.FnMut) keep
+            (entries_of self.old) }
         ensures retained { (end : F) × OnMap (λ a b. RetainsInOrder (CalledAtPair F.FnMut) keep a b end)
             (state_of self.old) (state_of self.new) }
         ensures updates { UpdatesKept (CalledAtPair F.FnMut) K.eq (entries_of self.old)
@@ -124,7 +125,7 @@ impl<K: Eq + Hash, V, S: BuildHasher> LruCache<K, V, S> {
     where
         K: Drop,
         V: Drop,
-        requires { CallableOnEachPair (CalledAtPair F.FnMut) (TakesPair F.FnMut) keep.old
+        requires callable { CallableOnEachPair (CalledAtPair F.FnMut) (TakesPair F.FnMut) keep.old
             (entries_of self.old) }
         ensures retained { OnMap (λ a b. RetainsInOrder (CalledAtPair F.FnMut) keep.old a b keep.new)
             (state_of self.old) (state_of self.new) }

@@ -1,10 +1,9 @@
 //! Removals of the elements that a closure rejects. The others keep their order. No method here allocates or
 //! hashes an element. Each node that becomes free serves a later insert of an absent element.
 ghost use Rattle.std.specs.{Fn.CalledAt, List.IsDistinct};
-ghost use Rattle.std.specs.Map.Calls.{CallableOnEachPair, CalledAtPair, TakesPair};
-ghost use Rattle.hashlink_model.specs.{Entries.IsEntries, Lookups.UpdatesKept, Retain.RetainsInOrder};
+ghost use Rattle.hashlink_model.specs.Retain.{RetainsInOrder};
 ghost use Rattle.hashlink_model.specs.Sets.{elements_of, at_element};
-ghost use Rattle.hashlink_core.specs.Keyed.{entries_of, state_of};
+ghost use Rattle.hashlink_core.specs.Keyed.{state_of};
 ghost use Rattle.hashlink_set.specs.Called.{CallableOnEachElement, SetUpdatesKept};
 
 use super::LinkedHashSet;
@@ -18,7 +17,7 @@ impl<T: Eq + Hash, S: BuildHasher> LinkedHashSet<T, S> {
     pub fn retain<F: FnMut(&T) -> bool>(&mut self, mut keep: F)
     where
         T: Drop,
-        requires { CallableOnEachElement F.FnMut keep self.old }
+        requires callable { CallableOnEachElement F.FnMut keep self.old }
         ensures retained { (end : F) × RetainsInOrder (at_element (CalledAt F.FnMut)) keep
             self.old self.new end }
         ensures updates { SetUpdatesKept (CalledAt F.FnMut) T.eq (elements_of self.old)
@@ -34,7 +33,7 @@ impl<T: Eq + Hash, S: BuildHasher> LinkedHashSet<T, S> {
     pub fn retain_with_order<F: FnMut(&T) -> bool>(&mut self, mut keep: F)
     where
         T: Drop,
-        requires { CallableOnEachElement F.FnMut keep self.old }
+        requires callable { CallableOnEachElement F.FnMut keep self.old }
         ensures retained { (end : F) × RetainsInOrder (at_element (CalledAt F.FnMut)) keep
             self.old self.new end }
         ensures updates { SetUpdatesKept (CalledAt F.FnMut) T.eq (elements_of self.old)
@@ -51,7 +50,7 @@ impl<T: Eq + Hash, S: BuildHasher> LinkedHashSet<T, S> {
     pub fn retain_from<F: FnMut(&T) -> bool>(&mut self, keep: &mut F)
     where
         T: Drop,
-        requires { CallableOnEachElement F.FnMut keep.old self.old }
+        requires callable { CallableOnEachElement F.FnMut keep.old self.old }
         ensures retained { RetainsInOrder (at_element (CalledAt F.FnMut)) keep.old self.old self.new
             keep.new }
         ensures updates { SetUpdatesKept (CalledAt F.FnMut) T.eq (elements_of self.old)
@@ -69,33 +68,16 @@ fn retain_in_map<T: Eq + Hash, S: BuildHasher, F: FnMut(&T) -> bool>(
 )
 where
     T: Drop,
-    requires { CallableOnEachElement F.FnMut keep.old (state_of map.old) }
+    requires callable { CallableOnEachElement F.FnMut keep.old (state_of map.old) }
     ensures retained { RetainsInOrder (at_element (CalledAt F.FnMut)) keep.old (state_of map.old)
         (state_of map.new) keep.new }
     ensures updates { SetUpdatesKept (CalledAt F.FnMut) T.eq (elements_of (state_of map.old))
         (elements_of (state_of map.new)) }
     ensures distinct { IsDistinct T.eq (elements_of (state_of map.new)) }
 {
-    retain_by(
-        map,
+    map.retain_from(
         &mut |element: &T, _: &mut ()|
             requires { F.pre keep.now element }
         { keep(element) },
     );
-}
-
-/// Does what the map's `retain_from` does. Its condition has a name, so it is a record, which is cheap to
-/// compare if the closure is known.
-fn retain_by<K: Eq + Hash + Drop, V: Drop, S: BuildHasher, F: FnMut(&K, &mut V) -> bool>(
-    map: &mut LinkedHashMap<K, V, S>,
-    keep: &mut F,
-)
-    requires callable { CallableOnEachPair (CalledAtPair F.FnMut) (TakesPair F.FnMut) keep.old
-        (entries_of map.old) }
-    ensures retained { RetainsInOrder (CalledAtPair F.FnMut) keep.old (state_of map.old) (state_of map.new)
-        keep.new }
-    ensures updates { UpdatesKept (CalledAtPair F.FnMut) K.eq (entries_of map.old) (entries_of map.new) }
-    ensures distinct { IsEntries K.eq (entries_of map.new) }
-{
-    map.retain_from(keep);
 }

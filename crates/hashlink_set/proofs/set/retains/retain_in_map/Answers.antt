@@ -4,19 +4,19 @@ use Rattle.hashlink_model.specs.Sets.{at_element}
 use Rattle.hashlink_set.proofs.Retaining.{callable_seen, retains_seen, updates_seen, name_kept, back}
 use Rattle.hashlink_set.proofs.set.retains.retain_in_map.Goals as goal
 
-pub retain_by-requires : goal.retain_by-requires
-retain_by-requires g c = record {
+pub retain_from-requires : goal.retain_from-requires
+retain_from-requires g c = record {
   callable = callable_seen (λ f. f.0.now) _ (at_element (CalledAt g.F.FnMut)) (λ f t b d call. record {
     shown = call.key;
     shows = call.shows.0;
     called = search (rules, call.called);
-  }) _ _ (λ f t takes p q h i. takes p h) _ _ c.requires;
+  }) _ _ (λ f t takes p q h i. takes p h) _ _ c.requires.callable;
 }
 
 pub returns-clause-retained : goal.returns-clause-retained
 returns-clause-retained g c =
     let Called = at_element (CalledAt g.F.FnMut) in
-    let r = c.retain_by.ensures.retained in
+    let r = c.retain_from.ensures.retained in
     let seen = retains_seen (λ f. f.0.now) _ Called (λ f t b d call. record {
       shown = call.key;
       shows = call.shows.0;
@@ -24,7 +24,7 @@ returns-clause-retained g c =
     }) _ _ _ _ r in
     let name =
     name_kept (λ f. f.0.ghost_name) _ (λ f t b d call. search (rules, call.called)) _ _ _ _ r.calls in
-    back (RetainsInOrder Called c.args.keep.now (state_of c.args.map.now) (state_of c.retain_by.new.map))
+    back (RetainsInOrder Called c.args.keep.now (state_of c.args.map.now) (state_of c.retain_from.new.self))
     c.keep-1.given.1 name seen
 
 pub returns-clause-updates : goal.returns-clause-updates
@@ -33,4 +33,4 @@ returns-clause-updates g c =
       shown = call.key;
       shows = call.shows.0;
       called = search (rules, call.called);
-    }) _ _ _ c.retain_by.ensures.updates
+    }) _ _ _ c.retain_from.ensures.updates

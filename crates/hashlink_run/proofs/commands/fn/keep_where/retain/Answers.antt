@@ -1,6 +1,6 @@
 use Rattle.std.proofs.Common.{refl}
 use Rattle.hashlink_run.proofs.Said.{said_by}
-use Rattle.hashlink_run.proofs.commands.fn.keep_where.retain_by.Goals as goal
+use Rattle.hashlink_run.proofs.commands.fn.keep_where.retain.Goals as goal
 
 pub returns : goal.returns
 returns g c =
