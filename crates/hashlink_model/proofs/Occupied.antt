@@ -2,7 +2,7 @@
 use Rattle.hashlink_model.proofs.Names
 use Names.{insert, remove, zero, suc, ◌<◌, MatchOption, Option, arith, take, drop, length-append, length-take}
 use Names.{length-drop, ◌≡◌, ℕ, Bool, true, cond, List, [], ◌∷◌, ◌++◌, length, slice_get, None, Some, refl}
-use Names.{sym, ap, ap₂, ◌∙◌, subst, IsEquivalence, option_map_or, lookup_entry, NonePasses, append-nil}
+use Names.{sym, ap, ap₂, ◌∙◌, subst, IsEquivalence, option_map_or, lookup_entry, NonePasses}
 use Names.{IsEntries, place_of, place_left, put, moved_at, without, set_value_at, set_key_at, MapState}
 use Rattle.hashlink_model.proofs.ByPlace.{set_value_at-here, set_key_at-here, remove-here, moved_at-last}
 use Rattle.hashlink_model.specs.Entry.{IsRawEntry, raw_entry_of, insert_value, insert_entry, replace_entry}
@@ -19,19 +19,6 @@ module _ {K V : Type 0} where
   replace_entry-here xs e ys h v =
       ap (λ zs. set_key_at zs (length xs) h) (set_value_at-here xs e ys v) ∙ set_key_at-here xs (e.0, v) ys h
 
-  -- an entry with only a new key, or only a new value, keeps its other part
-  pub set_key_at-entry : (es : List (K × V)) (j : ℕ) (e : K × V) (k : K) → slice_get es j ≡ Some e
-      → set_key_at es j k ≡ replace_entry es j k e.1
-  set_key_at-entry [] j e k at = refl
-  set_key_at-entry (x ∷ es) zero e k at = grind (arith, at)
-  set_key_at-entry (x ∷ es) (suc j) e k at = ap (λ zs. x ∷ zs) (set_key_at-entry es j e k at)
-
-  pub set_value_at-entry : (es : List (K × V)) (j : ℕ) (e : K × V) (v : V) → slice_get es j ≡ Some e
-      → set_value_at es j v ≡ replace_entry es j e.0 v
-  set_value_at-entry [] j e v at = refl
-  set_value_at-entry (x ∷ es) zero e v at = grind (arith, at)
-  set_value_at-entry (x ∷ es) (suc j) e v at = ap (λ zs. x ∷ zs) (set_value_at-entry es j e v at)
-
 module _ {K V : Type 0} (eq : K → K → Bool) (laws : IsEquivalence eq) where
   -- the entry at j is gone, and h is the last, with the value
   pub insert_entry-last : (es : List (K × V)) (j : ℕ) (e : K × V) (h : K) (v : V) → IsEntries eq es
@@ -45,12 +32,6 @@ module _ {K V : Type 0} (eq : K → K → Bool) (laws : IsEquivalence eq) where
       ∙ moved_at-last s.0 (h, v) s.1 ∙ ap (λ zs. zs ++ (h, v) ∷ [])
       (sym (remove-here s.0 e s.1) ∙ ap₂ remove (sym s.2) s.3
       ∙ remove-place (eq e.0) es j (place_of_its_key eq laws es j e e.0 d at (laws.refl e.0)))
-
-  pub none_last : (es : List (K × V)) (e : K × V) (h : K) → IsEntries eq es → eq h e.0 ≡ true
-      → NonePasses (eq h) (without eq es e.0 ++ [])
-  none_last es e h d t =
-      rw (append-nil (without eq es e.0))
-      (none_equal eq laws e.0 h (without eq es e.0) (laws.symm e.0 h ∙ t) (none_without eq laws es e.0 d))
 
   -- ---- h in the place of e
 

@@ -1,6 +1,6 @@
 //! Examples and laws of set algebra.
-ghost use Rattle.std.specs.Prelude.{◌≡◌, ℕ, ◌+◌, ◌-◌, ◌^◌, ◌≤◌, Bool, true, false, not, List, [], ◌∷◌, None};
-ghost use Rattle.std.specs.{Prelude.{Some, length, filter}, Cmp.IsEquivalence, List.IsDistinct};
+ghost use Rattle.std.specs.Prelude.{◌≡◌, ℕ, ◌-◌, ◌^◌, ◌≤◌, Bool, true, false, not, List, [], ◌∷◌, None};
+ghost use Rattle.std.specs.{Prelude.{Some, length, filter}, Cmp.IsEquivalence};
 ghost use Rattle.std.specs.{Option.IsSomeAnd, Map.Iter.TakesFirst};
 ghost use Rattle.std.specs.Set.{is_member, IsUnion, IsIntersection, IsDifference, IsSymmetricDifference};
 ghost use Rattle.hashlink_model.specs.Algebra.{PairWalk, first_passing, difference_of, intersection_of};
@@ -16,12 +16,6 @@ pub fn sets_together()
     ensures symmetric_difference { numbers.symmetric_difference (1 ∷ 2 ∷ []) (3 ∷ 1 ∷ []) ≡ 2 ∷ 3 ∷ [] }
     ensures intersection { numbers.intersection (1 ∷ 2 ∷ []) (3 ∷ 1 ∷ []) ≡ 1 ∷ [] }
     ensures difference { numbers.difference (1 ∷ 2 ∷ []) (3 ∷ 1 ∷ []) ≡ 2 ∷ [] }
-{}
-
-/// An iterator over one side may pass over all elements left, or return them all.
-pub fn hints_along_one_side()
-    ensures two { part_hint {T = ℕ} (1 ∷ 2 ∷ []) ≡ (0, Some 2) }
-    ensures none { part_hint {T = ℕ} [] ≡ (0, Some 0) }
 {}
 
 /// The size hints along the union of `1 2` and `3 1`: at the start, after one step, and before and after the
@@ -56,21 +50,6 @@ pub fn members_of_set_algebra<T>()
         → IsSymmetricDifference eq xs ys (symmetric_difference_of eq xs ys) }
 {}
 
-/// No two elements of a result of set algebra are equal.
-pub fn set_algebra_keeps_elements_unequal<T>()
-    ensures union { (eq : T → T → Bool) → IsEquivalence eq → (xs ys : List T) → IsDistinct eq xs
-        → IsDistinct eq ys
-        → IsDistinct eq (union_of eq xs ys) }
-    ensures intersection { (eq : T → T → Bool) → IsEquivalence eq → (xs ys : List T) → IsDistinct eq xs
-        → IsDistinct eq (intersection_of eq xs ys) }
-    ensures difference { (eq : T → T → Bool) → IsEquivalence eq → (xs ys : List T) → IsDistinct eq xs
-        → IsDistinct eq (difference_of eq xs ys) }
-    ensures symmetric_difference { (eq : T → T → Bool) → IsEquivalence eq → (xs ys : List T)
-        → IsDistinct eq xs
-        → IsDistinct eq ys
-        → IsDistinct eq (symmetric_difference_of eq xs ys) }
-{}
-
 /// A subset has only members of the other set; disjoint sets share none.
 pub fn subset_and_disjoint_by_membership<T>()
     ensures subset { (eq : T → T → Bool) → IsEquivalence eq → (xs ys : List T)
@@ -101,14 +80,6 @@ pub fn lazy_walks_give_set_algebra<T>()
     ensures step { (p q : T → Bool) (w : PairWalk T)
         → TakesFirst (λ y. y) (left_to_give p q w) (pair_step p q w).0
         (left_to_give p q (pair_step p q w).1) }
-{}
-
-/// The size hints are bounds on the number of elements left.
-pub fn hints_are_bounds<T>()
-    ensures above { (p q : T → Bool) (w : PairWalk T) → length (left_to_give p q w)
-        ≤ length w.left + length w.right }
-    ensures union_below { (q : T → Bool) (w : PairWalk T) → length w.left ≤ length
-        (left_to_give (λ _. true) q w) }
 {}
 
 /// Each step of an iterator over one side returns the first of the elements left that pass. The number of

@@ -1,11 +1,11 @@
 //! Examples and laws of caches.
-ghost use Rattle.std.specs.Prelude.{◌≡◌, ℕ, ◌+◌, ◌-◌, ◌*◌, ◌≤◌, ◌<◌, min, max, Bool, true, false, nat_eq};
+ghost use Rattle.std.specs.Prelude.{◌≡◌, ℕ, ◌+◌, ◌-◌, ◌*◌, ◌≤◌, ◌<◌, Bool, nat_eq};
 ghost use Rattle.std.specs.Prelude.{List, [], ◌∷◌, ◌++◌, Option, None, Some, Result, Ok, Err, length, drop};
-ghost use Rattle.std.specs.{Prelude.{take, unwrap_or}, Cmp.IsEquivalence, Map.{lookup, lookup_entry}};
+ghost use Rattle.std.specs.{Cmp.IsEquivalence, Map.lookup};
 ghost use Rattle.hashlink_model.specs.Cache.{CacheState, OnMap, IsWithin, HasNodeToSpare, InsertsLast};
 ghost use Rattle.hashlink_model.specs.Cache.{CacheInserts, CacheGets, CacheGetsAndWrites, SetsCapacity};
 ghost use Rattle.hashlink_model.specs.Cache.{EntersCache, CacheUses, front_evicted, last_entries, cache_put};
-ghost use Rattle.hashlink_model.specs.Entries.{IsEntries, put, without, stored_key};
+ghost use Rattle.hashlink_model.specs.Entries.{IsEntries, put};
 ghost use Rattle.hashlink_model.specs.Cache.{cache_get, cache_use, cache_extended};
 ghost use Rattle.hashlink_model.specs.MapState.{MapState, StoresAtMost, Changes, node_count};
 ghost use Rattle.hashlink_model.specs.Steps.{KeepsOnly, Clears, RemovesKey, PopsFront, PopsBack};
@@ -54,16 +54,6 @@ pub fn a_hit_is_kept()
         (7, 70) ∷ (8, 80) ∷ [] }
 {}
 
-/// With uses, the keys of the smaller cache are an end of those of the larger one. With plain reads, they are
-/// not.
-pub fn uses_keep_an_end_and_reads_do_not()
-    ensures small { numbers.cache_insert (numbers.cache_insert [] 1 1 10) 1 2 20 ≡ (2, 20) ∷ [] }
-    ensures large { numbers.cache_insert (numbers.cache_insert [] 2 1 10) 2 2 20 ≡ (1, 10) ∷ (2, 20) ∷ [] }
-    ensures small_use { numbers.cache_use ((2, 20) ∷ []) 1 1 30 ≡ (1, 30) ∷ [] }
-    ensures large_use { numbers.cache_use ((1, 10) ∷ (2, 20) ∷ []) 2 1 30 ≡ (2, 20) ∷ (1, 10) ∷ [] }
-    ensures small_read { numbers.cache_get ((2, 20) ∷ []) 1 ≡ (2, 20) ∷ [] }
-{}
-
 /// Inserts of 5 and 6 into a full cache of capacity 4, and six more pairs inserted through entries.
 pub fn entries_leave_one_more_than_the_capacity()
     ensures inserts { cache_extended {V = ℕ} nat_eq ((1, 10) ∷ (2, 20) ∷ (3, 30) ∷ (4, 40) ∷ []) 4
@@ -84,33 +74,6 @@ pub fn an_extend_inserts_in_turn()
         ((3, 30) ∷ (2, 21) ∷ (4, 40) ∷ (2, 22) ∷ [])
         ≡ (4, 40) ∷ (2, 22) ∷ [] }
     ensures none { cache_extended {V = ℕ} nat_eq ((1, 10) ∷ []) 0 ((1, 11) ∷ []) ≡ [] }
-{}
-
-/// A hit of `get` returns the value and moves its entry to the back, and a miss changes no entry. A smaller
-/// capacity keeps the last entries and evicts the others.
-pub fn what_a_get_and_a_capacity_leave<S>()
-    ensures hit { (old new : CacheState ℕ ℕ S) (r : Option ℕ) → old.map.entries ≡ (1, 10) ∷ (2, 20) ∷ []
-        → CacheGets nat_eq old new 1 r
-        → (r ≡ Some 10) × (new.map.entries ≡ (2, 20) ∷ (1, 10) ∷ []) }
-    ensures miss { (old new : CacheState ℕ ℕ S) (r : Option ℕ) → old.map.entries ≡ (1, 10) ∷ (2, 20) ∷ []
-        → CacheGets nat_eq old new 3 r
-        → (r ≡ None) × (new.map ≡ old.map) }
-    ensures lent { (old new : CacheState ℕ ℕ S) → old.map.entries ≡ (1, 10) ∷ (2, 20) ∷ []
-        → CacheGetsAndWrites nat_eq old new 1 11
-        → new.map.entries ≡ (2, 20) ∷ (1, 11) ∷ [] }
-    ensures capacity { (old new : CacheState ℕ ℕ S) → old.map.entries ≡ (1, 10) ∷ (2, 20) ∷ (3, 30) ∷ []
-        → SetsCapacity old new 1
-        → (new.map.entries ≡ (3, 30) ∷ []) × (new.cap ≡ 1) }
-    ensures spare { (old new : CacheState ℕ ℕ S) → old.map.entries ≡ (1, 10) ∷ (2, 20) ∷ (3, 30) ∷ []
-        → SetsCapacity old new 1
-        → new.map.spare ≡ old.map.spare + 2 }
-{}
-
-/// The least recently used pair is the first one. Reads that move nothing do not change this, and a hit of
-/// `get` does.
-pub fn the_first_is_the_least_recently_used()
-    ensures peeked { numbers.lookup ((2, 20) ∷ (3, 30) ∷ (4, 40) ∷ (5, 50) ∷ (6, 60) ∷ []) 2 ≡ Some 20 }
-    ensures hit { numbers.cache_get ((4, 40) ∷ (5, 50) ∷ (6, 60) ∷ []) 4 ≡ (5, 50) ∷ (6, 60) ∷ (4, 40) ∷ [] }
 {}
 
 /// Uses of 1, 2, 1, 3 in a cache of capacity 2 leave 1 and 3. With capacity 0 nothing is left.
@@ -142,22 +105,6 @@ pub fn a_removal_from_both_caches()
     ensures large_again { numbers.cache_insert ((1, 10) ∷ []) 2 1 11 ≡ (1, 11) ∷ [] }
 {}
 
-/// An eviction removes at most one entry, at the front, and only if there are more than the capacity.
-pub fn an_eviction_drops_at_most_one<K, V>()
-    ensures within { (es : List (K × V)) (cap : ℕ) → length es ≤ cap → front_evicted es cap ≡ es }
-    ensures above { (es : List (K × V)) (cap : ℕ) → cap < length es → front_evicted es cap ≡ drop 1 es }
-    ensures at_most { (es : List (K × V)) (cap n : ℕ) → cap ≤ n → length es ≤ n + 1
-        → length (front_evicted es cap) ≤ n }
-    ensures last_ones { (es : List (K × V)) (cap : ℕ) → length es ≤ cap + 1
-        → front_evicted es cap ≡ last_entries es cap }
-{}
-
-/// The last n entries are an end of the list: n of them, or all if there are fewer.
-pub fn the_last_entries<K, V>()
-    ensures length { (es : List (K × V)) (n : ℕ) → length (last_entries es n) ≡ min n (length es) }
-    ensures end { (es : List (K × V)) (n : ℕ) → take (length es - n) es ++ last_entries es n ≡ es }
-{}
-
 /// After an insert, a cache has at most its capacity of entries, however many it had before. If it had fewer
 /// than its capacity, no entry is evicted. Its keys are pairwise unequal.
 pub fn an_insert_comes_within_the_capacity<K, V>()
@@ -172,98 +119,6 @@ pub fn an_insert_comes_within_the_capacity<K, V>()
         → IsEntries eq (cache_put eq es cap k v) }
     ensures drops { (eq : K → K → Bool) (es : List (K × V)) (n : ℕ) → IsEntries eq es
         → IsEntries eq (drop n es) }
-{}
-
-/// An insert into a cache returns the old value, and leaves the last entries of those that the map's insert
-/// leaves. If it fails, its key is absent and no node is free, and it evicts nothing.
-pub fn what_a_cache_insert_leaves<K, V, S>()
-    ensures answer { (eq : K → K → Bool) (old new : CacheState K V S) (k : K) (v : V) (w : Option V)
-        → CacheInserts eq old new k v (Ok w)
-        → w ≡ lookup (eq k) old.map.entries }
-    ensures entries { (eq : K → K → Bool) (old new : CacheState K V S) (k : K) (v : V) (w : Option V)
-        → CacheInserts eq old new k v (Ok w)
-        → new.map.entries ≡ cache_put eq old.map.entries old.cap k v }
-    ensures refused { (eq : K → K → Bool) (old new : CacheState K V S) (k : K) (v : V) (pair : K × V)
-        → CacheInserts eq old new k v (Err pair)
-        → (new.map.entries ≡ old.map.entries) × (new.map.spare ≡ old.map.spare)
-        × (lookup (eq k) old.map.entries ≡ None) × (old.map.spare ≡ 0) }
-    ensures nodes { (eq : K → K → Bool) (old new : CacheState K V S) (k : K) (v : V)
-        → CacheInserts eq old new k v (Ok None)
-        → node_count new.map
-        ≡ max (node_count old.map) (length (put eq old.map.entries k v (length old.map.entries))) }
-{}
-
-/// A hit of `get` moves its entry to the back with the stored key and its value, and a miss changes nothing.
-/// Neither makes a node or changes the capacity.
-#[tactic(auto, using(crate::proofs::NodeCounts::moves_nodes))]
-pub fn what_a_hit_and_a_miss_leave<K, V, S>()
-    ensures hit { (eq : K → K → Bool) (old new : CacheState K V S) (k : K) (w : V)
-        → CacheGets eq old new k (Some w)
-        → new.map.entries ≡ without eq old.map.entries k ++ (stored_key eq old.map.entries k, w) ∷ [] }
-    ensures miss { (eq : K → K → Bool) (old new : CacheState K V S) (k : K) → CacheGets eq old new k None
-        → new.map ≡ old.map }
-    ensures nodes { (eq : K → K → Bool) (old new : CacheState K V S) (k : K) (r : Option V)
-        → CacheGets eq old new k r
-        → node_count new.map ≡ node_count old.map }
-    ensures capacity { (eq : K → K → Bool) (old new : CacheState K V S) (k : K) (r : Option V)
-        → CacheGets eq old new k r
-        → new.cap ≡ old.cap }
-{}
-
-/// Setting the capacity to n leaves the last n entries, or all if there are at most n, and every node.
-pub fn what_a_capacity_leaves<K, V, S>()
-    ensures length { (old new : CacheState K V S) (n : ℕ) → SetsCapacity old new n
-        → length new.map.entries ≡ min n (length old.map.entries) }
-    ensures end { (old new : CacheState K V S) (n : ℕ) → SetsCapacity old new n
-        → take (length old.map.entries - n) old.map.entries ++ new.map.entries ≡ old.map.entries }
-    ensures nodes { (old new : CacheState K V S) (n : ℕ) → SetsCapacity old new n
-        → node_count new.map ≡ node_count old.map }
-    ensures within { (old new : CacheState K V S) (n : ℕ) → length old.map.entries ≤ n
-        → SetsCapacity old new n
-        → new.map.entries ≡ old.map.entries }
-{}
-
-/// After a hit, a use, inserts in turn, an eviction and a smaller capacity, no two keys are equal, as before.
-pub fn a_cache_keeps_keys_unequal<K, V>()
-    ensures get { (eq : K → K → Bool) → IsEquivalence eq → (es : List (K × V)) (k : K) → IsEntries eq es
-        → IsEntries eq (cache_get eq es k) }
-    ensures use_step { (eq : K → K → Bool) → IsEquivalence eq → (es : List (K × V)) (cap : ℕ) (k : K) (v : V)
-        → IsEntries eq es
-        → IsEntries eq (cache_use eq es cap k v) }
-    ensures extended { (eq : K → K → Bool) → IsEquivalence eq → (es : List (K × V)) (cap : ℕ)
-        (pairs : List (K × V))
-        → IsEntries eq es
-        → IsEntries eq (cache_extended eq es cap pairs) }
-    ensures front_evicted { (eq : K → K → Bool) (es : List (K × V)) (cap : ℕ) → IsEntries eq es
-        → IsEntries eq (front_evicted es cap) }
-    ensures last_entries { (eq : K → K → Bool) (es : List (K × V)) (n : ℕ) → IsEntries eq es
-        → IsEntries eq (last_entries es n) }
-{}
-
-/// After an insert into a cache of at least capacity 1, the key has the new value, and every other key that
-/// is still present has its old pair.
-pub fn lookup_after_a_cache_insert<K, V>()
-    ensures at_key { (eq : K → K → Bool) → IsEquivalence eq → (q : K) (es : List (K × V))
-        (cap : ℕ) (k : K) (v : V)
-        → IsEntries eq es → 1 ≤ cap → eq k q ≡ true
-        → lookup (eq q) (cache_put eq es cap k v) ≡ Some v }
-    ensures at_others { (eq : K → K → Bool) → IsEquivalence eq
-        → (q : K) (es : List (K × V)) (cap : ℕ) (k : K) (v : V) (e : K × V) → IsEntries eq es → eq k q ≡ false
-        → lookup_entry (eq q) (cache_put eq es cap k v) ≡ Some e
-        → lookup_entry (eq q) es ≡ Some e }
-{}
-
-/// After a use in a cache of at least capacity 1, the key has its old value, or the given one if it was
-/// absent. Every other key that is still present has its old pair.
-pub fn lookup_after_a_use<K, V>()
-    ensures at_key { (eq : K → K → Bool) → IsEquivalence eq → (q : K) (es : List (K × V))
-        (cap : ℕ) (k : K) (v : V)
-        → IsEntries eq es → 1 ≤ cap → eq k q ≡ true
-        → lookup (eq q) (cache_use eq es cap k v) ≡ Some (unwrap_or (lookup (eq k) es) v) }
-    ensures at_others { (eq : K → K → Bool) → IsEquivalence eq
-        → (q : K) (es : List (K × V)) (cap : ℕ) (k : K) (v : V) (e : K × V) → IsEntries eq es → eq k q ≡ false
-        → lookup_entry (eq q) (cache_use eq es cap k v) ≡ Some e
-        → lookup_entry (eq q) es ≡ Some e }
 {}
 
 /// Pairs that extend a cache may be given in two parts. A cache with at most n entries, for an n that is at

@@ -1,7 +1,7 @@
 //! Examples and laws of comparisons and of hashing.
-ghost use Rattle.std.specs.Prelude.{◌≡◌, ℕ, Bool, true, false, nat_eq, List, [], ◌∷◌, Option, None, Some};
-ghost use Rattle.std.specs.Cmp.{IsEquivalence, IsPartialEquivalence, IsPartialOrder, IsTotalOrder};
-ghost use Rattle.std.specs.{List.AllZip, Ordering.{eq_by_cmp, nat_cmp}, declared.cmp.Ordering.Ordering};
+ghost use Rattle.std.specs.Prelude.{◌≡◌, ℕ, Bool, true, false, List, [], ◌∷◌, Option, Some};
+ghost use Rattle.std.specs.Cmp.{IsEquivalence, IsTotalOrder};
+ghost use Rattle.std.specs.{List.AllZip, Ordering.eq_by_cmp, declared.cmp.Ordering.Ordering};
 ghost use Rattle.std.specs.declared.cmp.Ordering.TheVariants.{Less, Greater};
 ghost use Rattle.hashlink_model.specs.Compare.{entries_eq, entries_cmp, entries_partial_cmp};
 ghost use Rattle.hashlink_model.specs.Entries.{IsEntries, extended};
@@ -88,30 +88,4 @@ pub fn sets_compare_in_order<T, W>()
         → ((x y : T) → eq x y ≡ true → hash x ≡ hash y)
         → (xs ys : List T) → elements_eq eq xs ys ≡ true
         → elements_hash_input hash xs ≡ elements_hash_input hash ys }
-{}
-
-/// If the equality and the order of keys and values are only partial, then those of maps are partial too, and
-/// agree. The equality of sets then is partial too.
-pub fn partial_comparisons<K, V>()
-    ensures equality { (eqk : K → K → Bool) (eqv : V → V → Bool) → IsPartialEquivalence eqk
-        → IsPartialEquivalence eqv
-        → IsPartialEquivalence (entries_eq eqk eqv) }
-    ensures order { (eqk : K → K → Bool) (eqv : V → V → Bool) (partk : K → K → Option Ordering)
-        (partv : V → V → Option Ordering)
-        → IsPartialOrder eqk partk → IsPartialOrder eqv partv
-        → IsPartialOrder (entries_eq eqk eqv) (entries_partial_cmp partk partv) }
-    ensures elements { (eq : K → K → Bool) → IsPartialEquivalence eq → IsPartialEquivalence (elements_eq eq) }
-{}
-
-/// Values that equal nothing and do not compare: a map with one is not equal to itself, and a first key that
-/// differs decides the order.
-pub fn values_without_comparison()
-    ensures unequal { entries_eq nat_eq (λ (v w : ℕ). false) ((1, 1) ∷ []) ((1, 1) ∷ []) ≡ false }
-    ensures unordered { entries_partial_cmp (λ k j. Some (nat_cmp k j)) (λ (v w : ℕ). None) ((1, 1) ∷ [])
-        ((1, 2) ∷ [])
-        ≡ None }
-    ensures by_keys { entries_partial_cmp (λ k j. Some (nat_cmp k j)) (λ (v w : ℕ). None)
-        ((1, 1) ∷ []) ((2, 1) ∷ []) ≡ Some Less }
-    ensures beginning { entries_partial_cmp (λ k j. Some (nat_cmp k j)) (λ (v w : ℕ). None) [] ((2, 1) ∷ [])
-        ≡ Some Less }
 {}

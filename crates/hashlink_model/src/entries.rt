@@ -1,7 +1,7 @@
 //! Examples and laws of lists of entries.
-ghost use Rattle.std.specs.Prelude.{◌≡◌, ℕ, ◌+◌, Bool, true, false, List, [], ◌∷◌, ◌++◌, None, Some, length};
-ghost use Rattle.std.specs.{Cmp.IsEquivalence, Map.{keys_of, lookup, lookup_entry, set_value}};
-ghost use Rattle.hashlink_model.specs.Entries.{IsEntries, place_of, without, put, stored_key, moved};
+ghost use Rattle.std.specs.Prelude.{◌≡◌, ◌+◌, Bool, true, List, [], ◌∷◌, ◌++◌, Some, length};
+ghost use Rattle.std.specs.{Cmp.IsEquivalence, Map.lookup};
+ghost use Rattle.hashlink_model.specs.Entries.{IsEntries, put, moved};
 ghost use Rattle.hashlink_model.specs.Entries.{extended};
 ghost use Rattle.hashlink_model.specs.Labels as labels;
 ghost use Rattle.hashlink_model.specs.Numbers as numbers;
@@ -58,114 +58,6 @@ pub fn places_close_up()
 /// An insert keeps the stored key and takes the given value.
 pub fn insert_keeps_the_stored_key()
     ensures { labels.insert (((7, 1), 10) ∷ ((8, 1), 20) ∷ []) (7, 2) 11 ≡ ((8, 1), 20) ∷ ((7, 1), 11) ∷ [] }
-{}
-
-/// Inserts of many pairs in turn: the second of two with one key moves it and decides the value.
-pub fn extend_is_inserts_in_a_row()
-    ensures { numbers.extend [] ((1, 10) ∷ (2, 20) ∷ (1, 11) ∷ []) ≡ (2, 20) ∷ (1, 11) ∷ [] }
-{}
-
-/// After a key is put anywhere, removed or moved, no two keys are equal, as before.
-pub fn steps_keep_keys_unequal<K, V>()
-    ensures put { (eq : K → K → Bool) → IsEquivalence eq → (es : List (K × V)) (k : K) (v : V) (b : ℕ)
-        → IsEntries eq es
-        → IsEntries eq (put eq es k v b) }
-    ensures without { (eq : K → K → Bool) → IsEquivalence eq → (es : List (K × V)) (k : K) → IsEntries eq es
-        → IsEntries eq (without eq es k) }
-    ensures moved { (eq : K → K → Bool) → IsEquivalence eq → (es : List (K × V)) (k : K)
-        (b : ℕ) → IsEntries eq es
-        → IsEntries eq (moved eq es k b) }
-{}
-
-/// A new key makes the list longer by one, and a removed one shorter by one. Every other step keeps the
-/// length.
-pub fn lengths_after_steps<K, V>()
-    ensures put_absent { (eq : K → K → Bool) (es : List (K × V)) (k : K) (v : V) (b : ℕ)
-        → lookup (eq k) es ≡ None
-        → length (put eq es k v b) ≡ length es + 1 }
-    ensures put_there { (eq : K → K → Bool) (es : List (K × V)) (k : K) (v : V) (b : ℕ) (w : V)
-        → lookup (eq k) es ≡ Some w
-        → length (put eq es k v b) ≡ length es }
-    ensures without_absent { (eq : K → K → Bool) (es : List (K × V)) (k : K) → lookup (eq k) es ≡ None
-        → length (without eq es k) ≡ length es }
-    ensures without_there { (eq : K → K → Bool) (es : List (K × V)) (k : K) (w : V)
-        → lookup (eq k) es ≡ Some w
-        → length (without eq es k) + 1 ≡ length es }
-    ensures moved { (eq : K → K → Bool) (es : List (K × V)) (k : K) (b : ℕ) → length
-        (moved eq es k b) ≡ length es }
-{}
-
-/// After a put the key has the new value and the stored key, and every other key has its old pair.
-pub fn lookup_after_put<K, V>()
-    ensures at_key { (eq : K → K → Bool) → IsEquivalence eq → (q : K) (es : List (K × V))
-        (k : K) (v : V) (b : ℕ)
-        → IsEntries eq es → eq k q ≡ true
-        → lookup (eq q) (put eq es k v b) ≡ Some v }
-    ensures at_others { (eq : K → K → Bool) → IsEquivalence eq → (q : K) (es : List (K × V))
-        (k : K) (v : V) (b : ℕ)
-        → IsEntries eq es → eq k q ≡ false
-        → lookup_entry (eq q) (put eq es k v b) ≡ lookup_entry (eq q) es }
-    ensures stored_key { (eq : K → K → Bool) → IsEquivalence eq → (es : List (K × V)) (k : K) (v : V) (b : ℕ)
-        → IsEntries eq es
-        → stored_key eq (put eq es k v b) k ≡ stored_key eq es k }
-    ensures stored_key_is_equal { (eq : K → K → Bool) → IsEquivalence eq → (k : K) (es : List (K × V))
-        → eq k (stored_key eq es k) ≡ true }
-{}
-
-/// After a removal the key is absent, and every other key has its old pair.
-pub fn lookup_after_removal<K, V>()
-    ensures at_key { (eq : K → K → Bool) → IsEquivalence eq → (q : K) (es : List (K × V))
-        (k : K) → IsEntries eq es
-        → eq k q ≡ true
-        → lookup (eq q) (without eq es k) ≡ None }
-    ensures at_others { (eq : K → K → Bool) → IsEquivalence eq → (q : K) (es : List (K × V))
-        (k : K) → IsEntries eq es
-        → eq k q ≡ false
-        → lookup_entry (eq q) (without eq es k) ≡ lookup_entry (eq q) es }
-{}
-
-/// A move changes no value.
-pub fn lookup_after_move<K, V>()
-    ensures { (eq : K → K → Bool) → IsEquivalence eq → (q : K) (es : List (K × V)) (k : K)
-        (b : ℕ) → IsEntries eq es
-        → lookup (eq q) (moved eq es k b) ≡ lookup (eq q) es }
-{}
-
-/// A key that is put at the length is the last, and one that is put at 0 the first. The others keep their
-/// order.
-pub fn put_at_either_end<K, V>()
-    ensures back { (eq : K → K → Bool) (es : List (K × V)) (k : K) (v : V)
-        → put eq es k v (length es) ≡ without eq es k ++ (stored_key eq es k, v) ∷ [] }
-    ensures front { (eq : K → K → Bool) (es : List (K × V)) (k : K) (v : V)
-        → put eq es k v 0 ≡ (stored_key eq es k, v) ∷ without eq es k }
-    ensures others { (eq : K → K → Bool) → IsEquivalence eq → (es : List (K × V)) (k : K) (v : V) (b : ℕ)
-        → IsEntries eq es
-        → without eq (put eq es k v b) k ≡ without eq es k }
-{}
-
-/// A key that is put at its own place, or directly after itself, takes the value and changes no place.
-pub fn put_where_it_stands<K, V>()
-    ensures there { (eq : K → K → Bool) (es : List (K × V)) (k : K) (v : V) (j : ℕ)
-        → place_of (eq k) es ≡ Some j
-        → put eq es k v j ≡ set_value (eq k) es v }
-    ensures after { (eq : K → K → Bool) (es : List (K × V)) (k : K) (v : V) (j : ℕ)
-        → place_of (eq k) es ≡ Some j
-        → put eq es k v (j + 1) ≡ set_value (eq k) es v }
-    ensures same_keys { (test : K → Bool) (es : List (K × V)) (v : V) → keys_of
-        (set_value test es v) ≡ keys_of es }
-    ensures same_places { (test other : K → Bool) (es : List (K × V)) (v : V)
-        → place_of other (set_value test es v) ≡ place_of other es }
-{}
-
-/// The second of two puts at one end decides the value.
-pub fn put_twice_is_once<K, V>()
-    ensures back { (eq : K → K → Bool) → IsEquivalence eq → (es : List (K × V)) (k : K)
-        (v w : V) → IsEntries eq es
-        → put eq (put eq es k v (length es)) k w (length (put eq es k v (length es)))
-        ≡ put eq es k w (length es) }
-    ensures front { (eq : K → K → Bool) → IsEquivalence eq → (es : List (K × V)) (k : K)
-        (v w : V) → IsEntries eq es
-        → put eq (put eq es k v 0) k w 0 ≡ put eq es k w 0 }
 {}
 
 /// A second move to the same end leaves the list as it is.

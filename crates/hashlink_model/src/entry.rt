@@ -1,8 +1,8 @@
 //! Examples and laws of entries and raw entries.
-ghost use Rattle.std.specs.Prelude.{◌≡◌, ◌+◌, ◌≤◌, ◌<◌, ℕ, Bool, true, List, [], ◌∷◌, ◌++◌, None, Some};
-ghost use Rattle.std.specs.{Prelude.{length, cond, slice_get, remove, nat_eq}, Cmp.IsEquivalence};
-ghost use Rattle.std.specs.Map.{lookup, lookup_entry};
-ghost use Rattle.hashlink_model.specs.Entries.{IsEntries, place_of, put, moved, moved_at, without};
+ghost use Rattle.std.specs.Prelude.{◌≡◌, ◌+◌, ◌≤◌, ◌<◌, ℕ, Bool, true, List, [], ◌∷◌, None, Some};
+ghost use Rattle.std.specs.{Prelude.{length, slice_get, nat_eq}, Cmp.IsEquivalence};
+ghost use Rattle.std.specs.Map.{lookup};
+ghost use Rattle.hashlink_model.specs.Entries.{IsEntries, place_of, put, moved, moved_at};
 ghost use Rattle.hashlink_model.specs.Entry.{insert_value, insert_entry, or_insert, replace_entry};
 ghost use Rattle.hashlink_model.specs.Entry.{InsertsEntry, ReplacesKey, EntryState, RawEntryState, IsEntry};
 ghost use Rattle.hashlink_model.specs.{Entries.{set_value_at, set_key_at}, Entry.{IsRawEntry, raw_entry_of}};
@@ -45,100 +45,12 @@ pub fn or_insert_is_a_move_or_an_insert<K, V>()
         → or_insert eq es k v ≡ put eq es k v (length es) }
 {}
 
-/// A key that replaces an equal one keeps the keys pairwise unequal. So does every other step on an entry.
-pub fn entries_keep_keys_unequal<K, V>()
-    ensures insert_entry { (eq : K → K → Bool) → IsEquivalence eq
-        → (es : List (K × V)) (j : ℕ) (e : K × V) (h : K) (v : V) → IsEntries eq es → slice_get es j ≡ Some e
-        → eq h e.0 ≡ true
-        → IsEntries eq (insert_entry es j h v) }
-    ensures replace_entry { (eq : K → K → Bool) → IsEquivalence eq
-        → (es : List (K × V)) (j : ℕ) (e : K × V) (h : K) (v : V) → IsEntries eq es → slice_get es j ≡ Some e
-        → eq h e.0 ≡ true
-        → IsEntries eq (replace_entry es j h v) }
-    ensures insert_value { (eq : K → K → Bool) → IsEquivalence eq → (es : List (K × V))
-        (j : ℕ) (e : K × V) (v : V)
-        → IsEntries eq es → slice_get es j ≡ Some e
-        → IsEntries eq (insert_value es j v) }
-    ensures replace_key { (eq : K → K → Bool) → IsEquivalence eq → (es : List (K × V))
-        (j : ℕ) (e : K × V) (k : K)
-        → IsEntries eq es → slice_get es j ≡ Some e → eq k e.0 ≡ true
-        → IsEntries eq (set_key_at es j k) }
-    ensures replace_value { (eq : K → K → Bool) → IsEquivalence eq → (es : List (K × V))
-        (j : ℕ) (e : K × V) (v : V)
-        → IsEntries eq es → slice_get es j ≡ Some e
-        → IsEntries eq (set_value_at es j v) }
-    ensures or_insert { (eq : K → K → Bool) → IsEquivalence eq → (es : List (K × V)) (k : K)
-        (v : V) → IsEntries eq es
-        → IsEntries eq (or_insert eq es k v) }
-{}
-
-/// After `insert_entry` and `replace_entry` the key has the given key object and the new value, and every
-/// other key has its old pair.
-pub fn lookup_after_entry_steps<K, V>()
-    ensures insert_entry { (eq : K → K → Bool) → IsEquivalence eq
-        → (q : K) (es : List (K × V)) (j : ℕ) (e : K × V) (h : K) (v : V) → IsEntries eq es
-        → slice_get es j ≡ Some e
-        → eq h e.0 ≡ true
-        → lookup_entry (eq q) (insert_entry es j h v) ≡ cond (eq h q) (Some (h, v)) (lookup_entry (eq q) es) }
-    ensures replace_entry { (eq : K → K → Bool) → IsEquivalence eq
-        → (q : K) (es : List (K × V)) (j : ℕ) (e : K × V) (h : K) (v : V) → IsEntries eq es
-        → slice_get es j ≡ Some e
-        → eq h e.0 ≡ true
-        → lookup_entry (eq q) (replace_entry es j h v)
-        ≡ cond (eq h q) (Some (h, v)) (lookup_entry (eq q) es) }
-{}
-
-/// A step that replaces only the key, or only the value, of an entry keeps the other part. Every other key
-/// has its old pair.
-pub fn lookup_after_a_key_or_a_value_alone<K, V>()
-    ensures insert_value { (eq : K → K → Bool) → IsEquivalence eq
-        → (q : K) (es : List (K × V)) (j : ℕ) (e : K × V) (v : V) → IsEntries eq es → slice_get es j ≡ Some e
-        → lookup_entry (eq q) (insert_value es j v)
-        ≡ cond (eq e.0 q) (Some (e.0, v)) (lookup_entry (eq q) es) }
-    ensures replace_key { (eq : K → K → Bool) → IsEquivalence eq
-        → (q : K) (es : List (K × V)) (j : ℕ) (e : K × V) (k : K) → IsEntries eq es → slice_get es j ≡ Some e
-        → eq k e.0 ≡ true
-        → lookup_entry (eq q) (set_key_at es j k) ≡ cond (eq k q) (Some (k, e.1)) (lookup_entry (eq q) es) }
-    ensures replace_value { (eq : K → K → Bool) → IsEquivalence eq
-        → (q : K) (es : List (K × V)) (j : ℕ) (e : K × V) (v : V) → IsEntries eq es → slice_get es j ≡ Some e
-        → lookup_entry (eq q) (set_value_at es j v)
-        ≡ cond (eq e.0 q) (Some (e.0, v)) (lookup_entry (eq q) es) }
-{}
-
 /// A replaced key or value changes no place.
 pub fn replacing_leaves_every_place<K, V>()
     ensures { (eq : K → K → Bool) → IsEquivalence eq → (q : K) (es : List (K × V)) (j : ℕ)
         (e : K × V) (h : K) (v : V)
         → IsEntries eq es → slice_get es j ≡ Some e → eq h e.0 ≡ true
         → place_of (eq q) (replace_entry es j h v) ≡ place_of (eq q) es }
-{}
-
-/// An entry is vacant exactly if a lookup finds nothing.
-pub fn vacant_where_nothing_is_found<K, V>()
-    ensures vacant { (eq : K → K → Bool) → IsEquivalence eq → (k : K) (es : List (K × V))
-        → place_of (eq k) es ≡ None
-        → lookup (eq k) es ≡ None }
-    ensures absent { (eq : K → K → Bool) → IsEquivalence eq → (k : K) (es : List (K × V))
-        → lookup (eq k) es ≡ None
-        → place_of (eq k) es ≡ None }
-{}
-
-/// A step at the place of a key is the same step at the key.
-pub fn at_a_place_is_at_its_key<K, V>()
-    ensures removed { (eq : K → K → Bool) (es : List (K × V)) (k : K) (j : ℕ) → place_of (eq k) es ≡ Some j
-        → remove es j ≡ without eq es k }
-    ensures moved { (eq : K → K → Bool) (es : List (K × V)) (k : K) (j : ℕ) → place_of
-        (eq k) es ≡ Some j → (b : ℕ)
-        → moved_at es j b ≡ moved eq es k b }
-    ensures put { (eq : K → K → Bool) (es : List (K × V)) (k : K) (j : ℕ) → place_of (eq k) es ≡ Some j
-        → (v : V) (b : ℕ)
-        → moved_at (set_value_at es j v) j b ≡ put eq es k v b }
-    ensures insert { (eq : K → K → Bool) → IsEquivalence eq → (es : List (K × V)) (j : ℕ) (e : K × V) (v : V)
-        → IsEntries eq es → slice_get es j ≡ Some e
-        → insert_value es j v ≡ put eq es e.0 v (length es) }
-    ensures insert_entry { (eq : K → K → Bool) → IsEquivalence eq
-        → (es : List (K × V)) (j : ℕ) (e : K × V) (h : K) (v : V) → IsEntries eq es → slice_get es j ≡ Some e
-        → insert_entry es j h v ≡ without eq es e.0 ++ (h, v) ∷ [] }
 {}
 
 /// A step that replaces only a key, or only a value, keeps the other part of the entry. A replaced key stores

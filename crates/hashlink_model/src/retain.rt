@@ -61,21 +61,3 @@ pub fn retain_by_a_predicate_is_a_filter<K, V, F: FnMut(&K, &mut V) -> bool>()
         → (f : F) (es new : List (K × V)) (g : F) → KeepsInOrder (CalledAtPair F.FnMut) f es new g
         → new ≡ filter p es }
 {}
-
-/// After a retain no two keys are equal, as before.
-pub fn retain_keeps_keys_unequal<K, V, F: FnMut(&K, &mut V) -> bool>()
-    ensures some_order { (eq : K → K → Bool) → IsEquivalence eq → (f : F) (es new : List (K × V)) (g : F)
-        → IsEntries eq es → KeepsInSomeOrder (CalledAtPair F.FnMut) eq f es new g
-        → IsEntries eq new }
-    ensures in_order { (eq : K → K → Bool) → IsEquivalence eq → (f : F) (es new : List (K × V)) (g : F)
-        → IsEntries eq es → KeepsInOrder (CalledAtPair F.FnMut) f es new g
-        → IsEntries eq new }
-{}
-
-/// The list's own order is one of the orders that a retain may take.
-pub fn retain_in_order_is_a_retain<K, V, F: FnMut(&K, &mut V) -> bool>()
-    ensures { (eq : K → K → Bool) → IsEquivalence eq → (f : F) (es new : List (K × V))
-        (g : F) → IsEntries eq es
-        → KeepsInOrder (CalledAtPair F.FnMut) f es new g
-        → KeepsInSomeOrder (CalledAtPair F.FnMut) eq f es new g }
-{}

@@ -1,7 +1,7 @@
 //! Examples and laws of the states of a map, and of the steps between them.
-ghost use Rattle.std.specs.Prelude.{◌≡◌, ℕ, ◌+◌, ◌≤◌, ◌<◌, max, Bool, true, false, List, [], ◌∷◌, ◌++◌};
+ghost use Rattle.std.specs.Prelude.{◌≡◌, ℕ, ◌+◌, ◌≤◌, ◌<◌, max, Bool, List, [], ◌∷◌, ◌++◌};
 ghost use Rattle.std.specs.Prelude.{Option, None, Some, Result, Ok, Err, IsOk, length, nat_eq};
-ghost use Rattle.std.specs.{Cmp.IsEquivalence, Map.{keys_of, lookup, lookup_entry}};
+ghost use Rattle.std.specs.{Cmp.IsEquivalence, Map.lookup};
 ghost use Rattle.hashlink_model.specs.MapState.{MapState, empty_map, node_count, HasRoom, MayRefuse, Changes};
 ghost use Rattle.hashlink_model.specs.MapState.{Adds, Removes, Grows, AddsEntry, PutsEntry, Inserts};
 ghost use Rattle.hashlink_model.specs.Steps.{PopsFront, PopsBack, KeepsOnly, WritesEntry, Replaces, Moves};
@@ -63,54 +63,6 @@ pub fn what_a_write_and_a_move_leave<S>()
     ensures lent { (old new : MapState ℕ ℕ S) → old.entries ≡ (1, 10) ∷ (2, 20) ∷ []
         → MovesAndWrites nat_eq old new 1 2 11
         → new.entries ≡ (2, 20) ∷ (1, 11) ∷ [] }
-{}
-
-/// A replace of a present key returns the old value, leaves the key at its place and stores no link. A
-/// replace of an absent key is an insert.
-pub fn what_a_replace_leaves<K, V, S>()
-    ensures there { (old new : MapState ℕ ℕ S) (w : ℕ) → old.entries ≡ (1, 10) ∷ (2, 20) ∷ []
-        → Replaces nat_eq old new 1 11 (Ok (Some w))
-        → (w ≡ 10) × (new.entries ≡ (1, 11) ∷ (2, 20) ∷ []) }
-    ensures absent { (eq : K → K → Bool) (old new : MapState K V S) (k : K) (v : V)
-        → Replaces eq old new k v (Ok None)
-        → Inserts eq old new k v (length old.entries) (Ok None) }
-    ensures refused { (eq : K → K → Bool) (old new : MapState K V S) (k : K) (v : V) (pair : K × V)
-        → Replaces eq old new k v (Err pair)
-        → MayRefuse eq old k × (pair ≡ (k, v)) × (new.entries ≡ old.entries) }
-    ensures no_link { (eq : K → K → Bool) (old new : MapState K V S) (k : K) (v w : V)
-        → Replaces eq old new k v (Ok (Some w))
-        → new.link_writes ≡ old.link_writes }
-{}
-
-/// A write changes one value and keeps every key at its place. A move changes no value. Both keep every node.
-#[tactic(auto, using(crate::proofs::NodeCounts::writes, crate::proofs::NodeCounts::moves))]
-pub fn writes_and_moves_keep_the_keys<K, V, S>()
-    ensures written_keys { (eq : K → K → Bool) (old new : MapState K V S) (k : K) (v w : V)
-        → WritesEntry eq old new k v w
-        → keys_of new.entries ≡ keys_of old.entries }
-    ensures written_nodes { (eq : K → K → Bool) (old new : MapState K V S) (k : K) (v w : V)
-        → WritesEntry eq old new k v w
-        → node_count new ≡ node_count old }
-    ensures written_value { (eq : K → K → Bool) → IsEquivalence eq
-        → (q : K) (old new : MapState K V S) (k : K) (v w : V) → WritesEntry eq old new k v w → eq k q ≡ true
-        → lookup (eq q) new.entries ≡ Some v }
-    ensures written_others { (eq : K → K → Bool) → IsEquivalence eq
-        → (q : K) (old new : MapState K V S) (k : K) (v w : V) → WritesEntry eq old new k v w → eq k q ≡ false
-        → lookup_entry (eq q) new.entries ≡ lookup_entry (eq q) old.entries }
-    ensures moved_values { (eq : K → K → Bool) → IsEquivalence eq
-        → (q : K) (old new : MapState K V S) (k : K) (b : ℕ) (r : Option V) → Moves eq old new k b r
-        → IsEntries eq old.entries
-        → lookup (eq q) new.entries ≡ lookup (eq q) old.entries }
-    ensures moved_keys { (eq : K → K → Bool) → IsEquivalence eq
-        → (old new : MapState K V S) (k : K) (b : ℕ) (r : Option V) → Moves eq old new k b r
-        → IsEntries eq old.entries
-        → IsEntries eq new.entries }
-    ensures moved_length { (eq : K → K → Bool) (old new : MapState K V S) (k : K) (b : ℕ) (r : Option V)
-        → Moves eq old new k b r
-        → length new.entries ≡ length old.entries }
-    ensures moved_nodes { (eq : K → K → Bool) (old new : MapState K V S) (k : K) (b : ℕ) (r : Option V)
-        → Moves eq old new k b r
-        → node_count new ≡ node_count old }
 {}
 
 /// A reserve for a hundred more entries on a map of two entries leaves them and makes room for 102. If there

@@ -1,10 +1,9 @@
 //! Examples and laws of iterators.
-ghost use Rattle.std.specs.Prelude.{◌≡◌, ℕ, ◌-◌, Bool, List, [], ◌∷◌, ◌++◌, Option, None, Some, length};
-ghost use Rattle.std.specs.{Map.{keys_of, set_value}, Map.Iter.{TakesFirst, TakesLast}};
+ghost use Rattle.std.specs.Prelude.{◌≡◌, ℕ, ◌-◌, List, [], ◌∷◌, ◌++◌, Option, None, Some, length};
+ghost use Rattle.std.specs.Map.Iter.{TakesFirst, TakesLast};
 ghost use Rattle.hashlink_model.specs.Walk.{End, Front, Back, first_of, after_first_of, last_of};
 ghost use Rattle.hashlink_model.specs.Walk.{before_last_of, step_gives, step_leaves, walk_gives, walk_leaves};
-ghost use Rattle.hashlink_model.specs.{Entries.{place_of, set_value_at}, Walk.{given_front, given_back}};
-ghost use Rattle.hashlink_model.specs.Numbers as numbers;
+ghost use Rattle.hashlink_model.specs.Walk.{given_front, given_back};
 
 /// Two steps from the front, two from the back, and then `None` from both.
 pub fn a_walk_from_both_ends()
@@ -14,12 +13,6 @@ pub fn a_walk_from_both_ends()
         (1 ∷ 2 ∷ 3 ∷ 4 ∷ []) ≡ [] }
     ensures one_left { walk_leaves {X = ℕ × ℕ} (Front ∷ Back ∷ []) ((1, 10) ∷ (3, 30) ∷ (2, 20) ∷ [])
         ≡ (3, 30) ∷ [] }
-{}
-
-/// A lending iterator changes the values at the places that it lent.
-pub fn a_walk_writes_in_place()
-    ensures { numbers.set_value_at (numbers.set_value_at ((1, 10) ∷ (3, 30) ∷ (2, 20) ∷ []) 0 17) 2 23
-        ≡ (1, 17) ∷ (3, 30) ∷ (2, 23) ∷ [] }
 {}
 
 /// A step from the front takes the first of the entries left, and a step from the back the last.
@@ -42,11 +35,4 @@ pub fn a_walk_ends<X>()
         ≡ length xs - length steps }
     ensures gives_none { (end : End) → ◌≡◌ {A = Option X} (step_gives end []) None }
     ensures for_good { (end : End) → ◌≡◌ {A = List X} (step_leaves end []) [] }
-{}
-
-/// A write at the place of a key changes the key's value, and no key.
-pub fn a_write_changes_one_value<K, V>()
-    ensures value { (test : K → Bool) (es : List (K × V)) (j : ℕ) (w : V) → place_of test es ≡ Some j
-        → set_value_at es j w ≡ set_value test es w }
-    ensures keys { (es : List (K × V)) (j : ℕ) (w : V) → keys_of (set_value_at es j w) ≡ keys_of es }
 {}

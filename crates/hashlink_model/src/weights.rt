@@ -1,9 +1,9 @@
 //! Examples and laws of entries with weights.
-ghost use Rattle.std.specs.Prelude.{Bool, true, false, ◌≡◌, ℕ, ◌+◌, ◌^◌, ◌-◌, ◌≤◌, nat_eq, Option, List, []};
-ghost use Rattle.std.specs.{Prelude.{◌∷◌, ◌++◌, Some, None, length}, Cmp.IsEquivalence};
-ghost use Rattle.std.specs.Map.{lookup, lookup_entry};
+ghost use Rattle.std.specs.Prelude.{Bool, ◌≡◌, ℕ, ◌+◌, ◌^◌, ◌-◌, ◌≤◌, nat_eq, Option, List, []};
+ghost use Rattle.std.specs.Prelude.{◌∷◌, ◌++◌, None, length};
+ghost use Rattle.std.specs.Map.{lookup};
 ghost use Rattle.hashlink_model.specs.Weights.{WeightedState, WeightedInserts, WeightedRefuses, IsTooHeavy};
-ghost use Rattle.hashlink_model.specs.{Entries.IsEntries, Weights.{total_weight, fitting, weighted_put}};
+ghost use Rattle.hashlink_model.specs.Weights.{total_weight, fitting, weighted_put};
 ghost use Rattle.hashlink_model.specs.Numbers as numbers;
 
 /// Inserts into caches with the budgets 10 and 5, with the greatest budget, and with 0.
@@ -29,33 +29,6 @@ pub fn fitting_is_the_longest_end_that_fits<K, V>()
         × (es ≡ xs ++ fitting es budget) }
     ensures longest { (xs ys : List (K × (V × ℕ))) (budget : ℕ) → total_weight ys ≤ budget
         → length ys ≤ length (fitting (xs ++ ys) budget) }
-{}
-
-/// After an insert within a budget, no two keys are equal, and the weights sum to at most the budget. If the
-/// pair is not too heavy, an entry is left.
-pub fn what_an_insert_within_a_budget_leaves<K, V>()
-    ensures keys { (eq : K → K → Bool) → IsEquivalence eq
-        → (es : List (K × (V × ℕ))) (budget : ℕ) (k : K) (v : V) (weight : ℕ) → IsEntries eq es
-        → IsEntries eq (weighted_put eq es budget k v weight) }
-    ensures total { (eq : K → K → Bool) (es : List (K × (V × ℕ))) (budget : ℕ) (k : K) (v : V) (weight : ℕ)
-        → total_weight (weighted_put eq es budget k v weight) ≤ budget }
-    ensures kept { (eq : K → K → Bool) (es : List (K × (V × ℕ))) (budget : ℕ) (k : K) (v : V) (weight : ℕ)
-        → weight ≤ budget
-        → 1 ≤ length (weighted_put eq es budget k v weight) }
-{}
-
-/// After an insert within a budget of a pair that is not too heavy, the key has the new value and weight.
-/// Every other key that is still present has its old pair.
-pub fn lookup_after_an_insert_within_a_budget<K, V>()
-    ensures at_key { (eq : K → K → Bool) → IsEquivalence eq
-        → (q : K) (es : List (K × (V × ℕ))) (budget : ℕ) (k : K) (v : V) (weight : ℕ) → IsEntries eq es
-        → weight ≤ budget → eq k q ≡ true
-        → lookup (eq q) (weighted_put eq es budget k v weight) ≡ Some (v, weight) }
-    ensures at_others { (eq : K → K → Bool) → IsEquivalence eq
-        → (q : K) (es : List (K × (V × ℕ))) (budget : ℕ) (k : K) (v : V) (weight : ℕ) (e : K × (V × ℕ))
-        → IsEntries eq es → eq k q ≡ false → lookup_entry (eq q) (weighted_put eq es budget k v weight)
-        ≡ Some e
-        → lookup_entry (eq q) es ≡ Some e }
 {}
 
 /// An insert that succeeds leaves the fitting end within the budget and returns the old value. One that fails
