@@ -407,7 +407,8 @@ ssize_t write(int file, const void *bytes, size_t count) {
 #elif defined BYTES
 
 /* The program reads CLOCK_MONOTONIC before and after what it times. When it ends, this writes to the file
-   descriptor BYTES_FILE by how many bytes its blocks of memory grew in between, the last time. */
+   descriptor BYTES_FILE by how many bytes its blocks of memory grew in between, the last time, and by how many
+   from the first time on. */
 
 #define _GNU_SOURCE
 #include <dlfcn.h>
@@ -424,7 +425,7 @@ void *__libc_realloc(void *, size_t);
 void *__libc_memalign(size_t, size_t);
 void __libc_free(void *);
 
-static long held, grown;
+static long held, grown, since;
 
 /* The size of a block with the word before it. */
 static long size_of(void *block) {
@@ -468,19 +469,23 @@ void free(void *block) {
 int clock_gettime(clockid_t clock, struct timespec *time) {
     static int (*next)(clockid_t, struct timespec *);
     static bool is_timing;
-    static long before;
+    static bool has_first;
+    static long before, first;
     if (!next) next = (int (*)(clockid_t, struct timespec *))dlsym(RTLD_NEXT, "clock_gettime");
     if (clock == CLOCK_MONOTONIC) {
         is_timing = !is_timing;
         if (is_timing) before = held;
         else grown = held - before;
+        if (!has_first) first = held;
+        has_first = true;
+        since = held - first;
     }
     return next(clock, time);
 }
 
 __attribute__((destructor)) static void end(void) {
     const char *file = getenv("BYTES_FILE");
-    if (file) dprintf(atoi(file), "%ld\n", grown);
+    if (file) dprintf(atoi(file), "%ld %ld\n", grown, since);
 }
 
 #else

@@ -37,6 +37,27 @@ def all_below(name, stands_on):
     return order
 
 
+def is_program(name):
+    return (CRATES / name / "src/main.rt").exists()
+
+
+def made_of(name):
+    """The result of building the crate: a program, or the statements of a library."""
+    return CRATES / name / (f"out/{name}" if is_program(name) else f"out/statements/{name}.rlib")
+
+
+def proof_words(name, stands_on, kit):
+    """The words by which a crate is proved from the statements of the crates below it."""
+    words = ["--crate-name", name, "src/main.rt" if is_program(name) else "src/lib.rt"]
+    words += ["--extern", f"std={kit}/rlibs/std.rlib", "-L", f"dependency={kit}/rlibs"]
+    for it in below(name, lines_of(TOP / "crates.txt")):
+        words += ["--extern", f"{it}={made_of(it) if it in stands_on else f'{kit}/rlibs/{it}.rlib'}"]
+    for it in all_below(name, stands_on)[:-1]:
+        words += ["-L", f"dependency={made_of(it).parent}"]
+    words += ["--antt-project", f"{kit}/rattle/logic/antt-project.json"]
+    return [*words, "--logic-built", f"{kit}/logic_built", "--links", f"{name}="]
+
+
 def toolchain():
     """The folder of the toolchain: `rt doc` prints the path of a file in it."""
     said = subprocess.run(["rt", "doc"], check=True, capture_output=True, text=True)

@@ -8,6 +8,7 @@ lines.
 
 from plain_list.caches import CacheModel, WeightedModel
 from plain_list.commands import ENTRY_NUMBERS, NUMBERS, OFTEN, SELDOM, STEP_NUMBERS
+from plain_list.curves import CurveModel
 from plain_list.model import Model
 from plain_list.sets import SetModel
 from plain_list.texts import PAIR_WORDS
@@ -92,6 +93,7 @@ KINDS = {
     "set": (6, SetModel.LINES),
     "cache CAPACITY": (6, CacheModel.LINES),
     "weighted CAPACITY": (2, WeightedModel.LINES),
+    "curve": (0.5, CurveModel.LINES),
     "commands WHOLE?": (1, COMMANDS),
     "cache_commands CAPACITY WHOLE?": (1, CACHE_COMMANDS),
     "pair_commands CAPACITY CAPACITY": (0.4, PAIR_COMMANDS),

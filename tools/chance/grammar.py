@@ -18,6 +18,8 @@ WRITTEN = {
     **dict.fromkeys(("COUNT", "NUMBER"), DIGITS),
     "RANGE": f"{DIGITS} {DIGITS}",
 }
+#: the questions that only worked rows ask
+NOT_DRAWN = ("lost", "is_reserved")
 #: the words before a call: the numbers for which it is made, which container it calls, and whether it calls a
 #: cache's map
 BEFORE = re.compile(rf"(each {WRITTEN['RANGE']} )?(other )?(inside )?(both )?")
@@ -133,15 +135,15 @@ def forgotten(folder):
         for row in rows_of(file, file.name):
             calls = calls_of(re.sub(f"^({hashers}) ", "", row.mode))
             for number, line in enumerate(row.commands() if calls else [], row.first):
-                if not is_comment_or_count(line) and not is_line(calls, of_one(line)):
+                if not line.startswith("#") and not all(is_drawn(calls, it) for it in calls_in(line)):
                     yield f"{file.name}:{number}", line
 
 
-def is_comment_or_count(line):
-    """Whether the line is a comment, or asks for a count, which the reference model does not know."""
-    return line.startswith("#") or line.split(" ")[-1] in COUNTED
+def is_drawn(calls, call):
+    """Whether a row of these calls has the call, or it asks for a count."""
+    return call in (*COUNTED, *NOT_DRAWN) or is_line(calls, call)
 
 
-def of_one(line):
-    """A line of `each`, made for the number 1 only."""
-    return re.sub(r"\bn\b", "1", re.sub(r"^each \d+ \d+ ", "", line))
+def calls_in(line):
+    """The calls of a line, those of `each` made for the number 1 only."""
+    return re.sub(r"\bn\b", "1", re.sub(r"^each \d+ \d+ ", "", line)).split(", ")

@@ -12,6 +12,7 @@ class CacheModel(Model):
         "read": (
             *READ_LINES,
             *("2 get KEY", "peek KEY", "2 evicted_by KEY", "peek_lru", "capacity", "raw_read WAY KEY"),
+            "new",
         ),
         "put": (
             *("5 insert KEY VALUE", "5 push KEY VALUE", "3 get_or_insert_with KEY VALUE NEW?"),
@@ -26,7 +27,7 @@ class CacheModel(Model):
         "retain": ("retain CACHE_KEEP", "retain_from CACHE_KEEP"),
         "room": ("3 set_capacity CAPACITY", "clone"),
         "many": MANY_LINES,
-        "make": ("clear",),
+        "make": ("clear", "try_take"),
         # calls of the cache's map
         "inside": {name: lines for name, lines in Model.LINES.items() if name != "both"},
     }
@@ -39,6 +40,7 @@ class CacheModel(Model):
                     *("peek_lru", "back", "make_room", "remove_lru", "set_capacity 2", "clear"),
                     *("inside front", "retain even", "retain_from even", "iter next back"),
                     *("keys next back", "values next back", "iter_mut next back", "drain next"),
+                    *("into_iter next", "try_take", "new"),
                 ),
                 1: (
                     "get 2",
@@ -75,7 +77,7 @@ class CacheModel(Model):
     def answer(self, words, answers):
         rest = words.copy()
         name = rest.word()
-        if name == "capacity":
+        if name in ("capacity", "new"):
             words.read = rest.read
             answers.count(self.capacity)
         elif name == "make_room":
@@ -139,17 +141,18 @@ class WeightedModel(Model):
     kind = "weighted"
 
     LINES = {
-        "read": ("get KEY", "peek KEY", "len", "is_empty", "total", "budget"),
+        "read": ("get KEY", "peek KEY", "len", "is_empty", "total", "budget", "new"),
         "put": ("6 insert KEY WEIGHED", "6 insert_evicting KEY WEIGHED", "each RANGE insert n WEIGHED"),
         "take": ("6 remove KEY", "each RANGE remove n"),
         "walk": ("iter STEP* CLONED?",),
+        "make": ("try_take",),
     }
 
     FREE = (
         (
             "weighted 2\ninsert 1 10.1\ninsert 2 20.1\ninsert 3 30.1",
             {
-                0: ("total", "budget", "is_empty", "iter next back"),
+                0: ("total", "budget", "is_empty", "iter next back", "try_take", "new"),
                 1: ("get 3", "peek 3", "remove 9"),
                 2: ("insert 3 30.1", "insert n 10.1", "insert_evicting n 10.1", "insert 1 10.3"),
             },
@@ -172,7 +175,7 @@ class WeightedModel(Model):
         name = rest.word()
         if name == "total":
             answers.count(self.total())
-        elif name == "budget":
+        elif name in ("budget", "new"):
             answers.count(self.capacity)
         elif name == "get":
             answers.value(self.list.use_key(rest.name()))

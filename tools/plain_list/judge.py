@@ -5,6 +5,7 @@ import re
 
 from .caches import CacheModel, WeightedModel
 from .commands import command
+from .curves import CurveModel
 from .model import Model
 from .sets import SetModel, call_sets
 from .texts import cut_row, is_answer
@@ -17,6 +18,7 @@ KINDS = {
     **dict.fromkeys(("set", "copied_set"), SetModel),
     "cache": CacheModel,
     "weighted": WeightedModel,
+    "curve": CurveModel,
 }
 #: how many numbers each word for counts answers
 COUNTED = {"cost": 2, "clones": 1, "count_anew": 0}
@@ -41,6 +43,8 @@ class Section:
         self.row = row
         self.lines = iter(lines)
         self.refused = 0
+        #: the containers that lose what forgotten drains had not given
+        self.models = ()
 
     def next(self):
         line = next(self.lines, None)
@@ -83,7 +87,8 @@ class Section:
 
 
 def judge_section(row, lines):
-    """How many refusals the output for the row under one hasher has, and whether the row was left out."""
+    """How many refusals the output for the row under one hasher has, whether the row was left out, and the
+    models at its end."""
     section, words = Section(row, lines), Words(row.mode)
     try:
         kind = words.word()
@@ -107,15 +112,15 @@ def judge_section(row, lines):
             raise Unread
         section.end()
     except LeftOut:
-        return section.refused, True
+        return section.refused, True, section.models
     except Unread:
         raise WrongRow(f"{row.file}:{row.first}: {row.name}: {row.mode}\n  this is no such row") from None
-    return section.refused, False
+    return section.refused, False, section.models
 
 
 def judge_calls(section, row, make):
     """Compares each call with two models."""
-    models = (make(), make())
+    models = section.models = (make(), make())
     for number, line, words in row.calls():
         where = (number, line)
         answers = Answers(section.hear(where) or [])
@@ -136,6 +141,10 @@ def say(models, words, answers):
         models[1].answer(rest, answers)
     elif name == "both":
         call_both(models, rest, answers)
+    elif name == "lost":
+        answers.count(sum(model.lost for model in models))
+        for model in models:
+            model.lost = 0
     elif name in COUNTED:
         for _ in range(COUNTED[name]):
             answers.echo_number()
@@ -217,10 +226,13 @@ class Judge:
 
     def __init__(self):
         self.judged = {}
+        #: how many blocks of memory the rows that were judged last lost
+        self.lost = 0
 
     def judge(self, rows, said):
         """How many refusals the output has, and how many rows were left out. If the program had no memory to
         begin with, it prints nothing, or that the rows are left out."""
+        self.lost = 0
         lines = said.split("\n")
         found = next((place for place, line in enumerate(lines) if SUMMARY.fullmatch(line)), None)
         if found is None:
@@ -229,7 +241,7 @@ class Judge:
                 raise WrongRow("\n".join(["what is said has no end, or a report in it:", *reports]))
             return None
         told = tuple(map(int, SUMMARY.fullmatch(lines[found]).groups()))
-        refused, left_out = 0, 0
+        refused, left_out, counted = 0, 0, set()
         sections = sections_of(lines[:found])
         if not sections and told[0] == 0 and told[2] > 0:
             return 0, told[2]
@@ -239,14 +251,19 @@ class Judge:
                 if not sections or sections[0][0] != head:
                     place = f"{row.file}#{row.number}: {row.name}"
                     raise WrongRow(f"{place}: nothing is said under the hasher {hasher}")
-                more, is_left_out = self.judge_once(row, sections.pop(0)[1])
+                more, is_left_out, models = self.judge_once(row, sections.pop(0)[1])
                 refused += more
                 left_out += is_left_out
+                for model in models:
+                    self.lost += model.lost_nodes + model.lost_items
+                    counted |= {row.file} if model.lost_items else set()
                 if is_left_out:
                     break
         if sections or told != (len(rows), refused, left_out):
             counted = f"{refused} answers are refusals, and {left_out} rows are left out"
             raise WrongRow(f"{lines[found]}\n  but {counted}")
+        # The lost items of a file share their counts, which are a block too.
+        self.lost += len(counted)
         return refused, left_out
 
     def judge_once(self, row, lines):

@@ -24,7 +24,7 @@ ROOM_LINES = ("3 reserve SIZE", "3 try_reserve SIZE", "5 shrink", "4 clone")
 #: calls of a map and of a set that request no memory
 SHARED_FREE = (
     *("front", "len", "pop_front", "pop_back", "clear", "iter next back", "drain next"),
-    *("both eq", "both hash"),
+    *("both eq", "both hash", "into_iter next back", "try_take", "new", "with_capacity 0", "reserve 0"),
 )
 
 
@@ -32,11 +32,13 @@ class Model(Entries, Cursors):
     """The model of a map. Without a capacity it has the greatest one, and a budget is a capacity."""
 
     kind = "map"
+    #: how many items an entry has, each with a block of memory of its own
+    items = 2
 
     #: the calls by their groups, as lines of random rows (tools/chance/calls.py)
     LINES = {
         "read": (
-            *(*READ_LINES, "front", "get_key_value KEY", "index KEY", "2 raw_read WAY KEY"),
+            *(*READ_LINES, "front", "get_key_value KEY", "index KEY", "2 raw_read WAY KEY", "new"),
             *SIZE_LINES,
         ),
         "put": (
@@ -60,10 +62,15 @@ class Model(Entries, Cursors):
         "retain": ("retain KEEP", "retain_with_order KEEP", "retain_from KEEP"),
         "room": (*ROOM_LINES, "collect"),
         "many": MANY_LINES,
-        "make": ("2 from_iter PAIR*", "from_iter_kept PAIR*", "2 clear", "with_capacity SIZE"),
+        "make": (
+            *("2 from_iter PAIR*", "from_iter_kept PAIR*", "2 clear", "with_capacity SIZE"),
+            "try_take",
+        ),
         "both": ("eq", "less", "cmp", "hash"),
     }
 
+    #: how often calls that request no memory are made
+    often = 1000
     #: lines after which these calls request no memory besides a block for each item that a call names. They
     #: are listed by the number of these items
     FREE = (
@@ -169,6 +176,10 @@ class Model(Entries, Cursors):
         self.capacity = capacity
         #: at least this many pairs have room, by what was reserved
         self.room = 0
+        #: how many entries forgotten drains had not given, since that was last asked
+        self.lost = 0
+        #: how many nodes and items they lost in all
+        self.lost_nodes, self.lost_items = 0, 0
 
     def is_like(self, words):
         """Whether the words are its length, its capacity and its pairs, with room for them and for the free
@@ -259,6 +270,12 @@ class Model(Entries, Cursors):
         elif name in ("room", "capacity", "under"):
             words.size()
             answers.echo(is_word(True), is_word(False))
+        elif name == "try_take":
+            answers.count(len(self.list.pairs))
+            self.list.clear()
+            self.forget_room(0)
+        elif name == "new":
+            answers.count(0)
         elif name == "set_capacity":
             self.capacity = words.size()
             self.drop_first()
@@ -398,10 +415,17 @@ class Model(Entries, Cursors):
         if name == "drain":
             self.list.keep(lambda pair: False)
         if name == "forgotten_drain":
-            self.list.lose()
+            self.lose(ends[1] - ends[0])
         if name == "into_iter":
             self.forget_room(0)
             self.list.clear()
+
+    def lose(self, left):
+        """Loses the entries that a forgotten drain had not given, each with its node and its items."""
+        self.list.lose(left)
+        self.lost += left
+        self.lost_nodes += left
+        self.lost_items += left * self.items
 
     def walk_from(self, key, answers):
         """Answers the pairs from that of the key on, and then that no more follow."""

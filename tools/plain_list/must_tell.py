@@ -14,7 +14,7 @@ WRONG_TEXTS = (
 LINES = (
     "insert 1.2 10\nother insert 5 50\niter next left\nremove 1\ninsert 2 20\nreserve 9\ncost\n"
     "extend_kept 3 30 4 40 5 50\nextend_by_trait 6 60 7 70 8 80\niter times 2 next\n"
-    "from_iter_kept 6 60 6 61 7 70 7 71\nclones"
+    "from_iter_kept 6 60 6 61 7 70 7 71\nclones\nforgotten_drain next, lost"
 )
 ROW = Row("none", 1, "a row", "map", LINES, 3)
 SAID = """= -
@@ -53,6 +53,12 @@ SAID = """= -
 = 3
 + 3 16 2:20 3:30 6:60
 + 1 4 5:50
+= 2:20
++ 0 16
++ 1 4 5:50
+= 2
++ 0 16
++ 1 4 5:50
 """
 SUMMARY = (
     "1 rows: each answer is right, and {refused} of them refused; "
@@ -88,6 +94,7 @@ WRONG_WORDS = (
     ("an item read after the one for which a map was not made", "= memory 3\n", "= memory 2\n"),
     ("all items read though a map was not made", "= memory 3\n", "= memory 0\n"),
     ("a count of clones that is no number", "= 3\n", "= -\n"),
+    ("another number of lost entries", "= 2\n+ 0 16", "= 3\n+ 0 16"),
     ("one step is missing", "= 2:20 3:30", "= 2:20"),
     ("no answer to the last line", "= 3\n+ 3 16 2:20 3:30 6:60\n+ 1 4 5:50\n", ""),
     ("an answer too many", "= ok\n", "= ok\n= ok\n"),

@@ -9,8 +9,10 @@ class PlainList:
         self.spare = 0
 
     def place_of(self, key):
-        for place, pair in enumerate(self.pairs):
-            if pair[0][0] == key[0]:
+        if self.pairs and self.pairs[-1][0][0] == key[0]:  # as often in long rows
+            return len(self.pairs) - 1
+        for place, ((group, _), _) in enumerate(self.pairs):
+            if group == key[0]:
                 return place
         return None
 
@@ -49,9 +51,10 @@ class PlainList:
         """Drops every pair. No node becomes free."""
         self.pairs = []
 
-    def lose(self):
-        """Loses every pair and every free node."""
-        self.pairs, self.spare = [], 0
+    def lose(self, left):
+        """Loses every pair. The nodes become free, but for those of this many pairs."""
+        self.spare += len(self.pairs) - left
+        self.pairs = []
 
     def keep(self, test):
         """Keeps the pairs that pass. The nodes of the others become free."""

@@ -1,5 +1,6 @@
 """The rows of a file."""
 
+import re
 from dataclasses import dataclass
 
 from .words import Unread, Words
@@ -21,20 +22,29 @@ class Row:
         """Each call that is made, with the number of its line and the line."""
         for number, line in enumerate(self.lines.split("\n"), self.first):
             if not line.startswith("#"):
-                call = line.partition(" -> ")[0]
-                words = Words(call)
-                if words.words[:1] != ["each"]:
+                for words, _ in calls_of(line):
                     yield number, line, words
-                    continue
-                words.next()
-                for n in range(words.number(), words.number() + 1):
-                    of_n = words.copy()
-                    of_n.n = n
-                    yield number, line, of_n
 
     def commands(self):
         """The lines without the written answers."""
         return [line.partition(" -> ")[0] for line in self.lines.split("\n")]
+
+
+def calls_of(line):
+    """Each call of a line, with its answer, if one is written. Commas stand between several calls, as between
+    their answers."""
+    calls, mark, written = line.partition(" -> ")
+    words, numbers = Words(calls), (0,)
+    if words.words[:1] == ["each"]:
+        words.next()
+        numbers = range(words.number(), words.number() + 1)
+    calls = " ".join(words.words[words.read :]).split(", ")
+    answers = written.split(", ") if mark else [None] * len(calls)
+    if len(calls) != len(answers):
+        raise Unread
+    for n in numbers:
+        for call, answer in zip(calls, answers):
+            yield Words(call, n), answer and re.sub(r"\bn\b", str(n), answer)
 
 
 def rows_of(path, file):
@@ -51,3 +61,13 @@ def rows_of(path, file):
         rows.append(Row(file, len(rows) + 1, name, mode, "\n".join(body), place + 3))
         place = end
     return rows
+
+
+def files_of_rows(top):
+    """The files of rows that the program is run with, which have to be all that there are."""
+    crate = top / "crates/test_rows"
+    named = (crate / "args").read_text().split()
+    for file in sorted(it.name for it in (crate / "data").glob("*")):
+        if named.count(file) != 1:
+            raise Unread(f"crates/test_rows/args names {file} {named.count(file)} times")
+    return named

@@ -8,10 +8,11 @@ class SetModel(Model):
     """The model of a set."""
 
     kind = "set"
+    items = 1
 
     LINES = {
         "read": (
-            *("contains KEY", "get KEY", "front", "back", "len", "is_empty"),
+            *("contains KEY", "get KEY", "front", "back", "len", "is_empty", "new"),
             *SIZE_LINES,
         ),
         "put": (
@@ -22,10 +23,12 @@ class SetModel(Model):
         "lend": ("to_front KEY", "to_back KEY"),
         "walk": ("iter STEP* CLONED?",),
         "drain": Model.LINES["drain"],
-        "retain": ("retain SET_KEEP", "retain_with_order SET_KEEP"),
+        "retain": ("retain SET_KEEP", "retain_with_order SET_KEEP", "retain_from SET_KEEP"),
         "room": ROOM_LINES,
         "many": ("extend KEY*", "extend_from KEY*", "extend_kept KEY*", "extend_by_trait KEY*"),
-        "make": ("2 from_iter KEY*", "from_iter_kept KEY*", "2 clear", "with_capacity SIZE"),
+        "make": (
+            *("2 from_iter KEY*", "from_iter_kept KEY*", "2 clear", "with_capacity SIZE", "try_take"),
+        ),
         "both": (
             *("eq", "hash", "is_disjoint", "is_subset", "is_superset", "|", "&", "^", "-"),
             *("2 union COUNT?", "2 intersection COUNT?", "2 difference COUNT?"),
@@ -41,6 +44,7 @@ class SetModel(Model):
                     *SHARED_FREE,
                     "retain odd",
                     "retain_with_order odd",
+                    "retain_from odd",
                     "both is_subset",
                     "both is_superset",
                     "both is_disjoint",

@@ -100,7 +100,8 @@ class Words:
         return (key, self.name())
 
     def number(self):
-        read = number(self.word())
+        word = self.word()
+        read = self.n if word == "n" else number(word)
         if read is None:
             raise Unread
         return read

@@ -18,7 +18,7 @@ use Rattle.hashlink_core.proofs.Neighbours.{distinct-left, next-number, prev-num
 use Rattle.hashlink_core.proofs.Stepping.{pair-at, length-pairs, step-in, step-out, step-renewed, kept}
 use Rattle.hashlink_core.proofs.{Steps.none_passes_from_place, Walk.{after-number, before-number}}
 use Rattle.std.{proofs.Common.{OnOk, length-drop}, specs.Option.{option_map_or, IfSome}}
-use Rattle.std.specs.{Int.IsPowerOfTwo, Prelude.{IfNone, ◌<◌}}
+use Rattle.std.specs.Prelude.{IfNone, ◌<◌}
 use Rattle.hashlink_model.specs.MapState.{Changes, StoresAtMost}
 use Rattle.hashlink_nodes.specs.NodesLends.{with_value_at as ring_with_value_at}
 
@@ -326,7 +326,7 @@ module _ {K V S : Type 0} {eq : K → K → Bool} (laws : IsEquivalence eq) {has
               grows = omega (arith, grown.more.grows, room);
               same = λ le. room ∙ grown.more.same (omega (arith, le, long));
               bound = omega (arith, grown.more.bound, room, long);
-              power = λ le. subst IsPowerOfTwo (sym room) (grown.more.power (omega (arith, le, room)));
+              ample = λ le. rw (long, room) (grown.more.ample (omega (arith, le, room)));
             };
             fits = (sound {s = s} refl after).fits;
             link_writes = stores-exactly 4 old.link_writes r'.link_writes (stored

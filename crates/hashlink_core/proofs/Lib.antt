@@ -6,7 +6,6 @@ pub mod AtKeyNode
 pub mod Calls
 pub mod Draining
 pub mod Edits
-pub mod Ends
 pub mod Finding
 pub mod Holding
 pub mod InTurn

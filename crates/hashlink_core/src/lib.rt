@@ -2,7 +2,6 @@
 #![tactic(auto)]
 
 mod compare;
-mod drained;
 mod equivalent;
 mod extend_error;
 mod hash_builder;
@@ -13,12 +12,11 @@ mod keyed_list;
 mod texts;
 
 pub use compare::{iter_cmp, iter_eq, iter_partial_cmp};
-pub use drained::DrainedNodes;
 pub use equivalent::Equivalent;
 pub use extend_error::ExtendError;
 pub use hash_builder::DefaultHashBuilder;
 pub use hasher::DefaultHasher;
-pub use hashlink_nodes::Node;
+pub use hashlink_nodes::{Chain, Node};
 pub use hashlink_table::TryReserveError;
 pub use into_iter::IntoIter;
 pub use iter::{Iter, Keys, Values};

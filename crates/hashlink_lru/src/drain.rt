@@ -1,53 +1,59 @@
 //! The draining iterator of a cache.
 ghost use Rattle.std.specs.Prelude.{◌≡◌};
+ghost use Rattle.hashlink_lru.specs.Cached.{state_of};
 
 use crate::cache::LruCache;
-use hashlink_map::{DefaultHashBuilder, DrainOf, Drainable, DrainedNodes, drain_of, take_nodes};
+use hashlink_map::{Chain, DefaultHashBuilder, DrainOf, Drainable, drain_of};
 use std::hash::{BuildHasher, Hash};
 
 /// An iterator that removes the entries of a cache and returns them, from front to back: the least recently
 /// used first. When it is dropped, exhausted or not, the cache is empty and every node is free.
 ///
-/// If it is forgotten (`mem::forget`), the cache is empty too, with its room and without free nodes. The
-/// entries that were left are then never dropped, and no node is freed.
+/// If it is forgotten (`mem::forget`), the cache is empty too, and keeps its room. The nodes that were free
+/// before and those of the returned entries are free. The entries that were left are then never dropped, and
+/// the memory of their nodes is never returned.
 pub type Drain<'a, K, V, S = DefaultHashBuilder> = DrainOf<'a, LruCache<K, V, S>, K, V>;
 
 impl<K: Eq + Hash, V, S: BuildHasher> Drainable<K, V> for LruCache<K, V, S> {
-    ghost use Rattle.std.specs.Prelude.{[], refl};
-    ghost use Rattle.hashlink_core.specs.Drained.{FitsBack, with_drained};
-    ghost use Rattle.hashlink_lru.specs.Cached.{map_of, state_of, with_map};
+    ghost use Rattle.std.specs.Prelude.{ℕ};
 
     ghost Hasher = { S };
 
     ghost map_state = { λ c. (state_of c).map };
 
-    ghost with_nodes = { λ c d. with_map c (with_drained (map_of c) d) };
+    ghost Rest = { ℕ };
 
-    ghost has_nodes = { λ c d. refl };
+    ghost rest = { λ c. c.capacity };
 
-    fn swap_nodes(&mut self, drained: DrainedNodes<K, V>) -> DrainedNodes<K, V>
-        requires fits { FitsBack (state_of self.old).map drained }
-        requires empty { drained.nodes ≡ [] }
-        ensures { self.new ≡ with_map self.old (with_drained (map_of self.old) drained) }
-    {
-        self.map.swap_nodes(drained)
+    fn take_entries(&mut self) -> Chain<K, V> {
+        self.map.take_entries()
+    }
+
+    #[inline(always)]
+    fn pop_front_of(&mut self, chain: &mut Chain<K, V>) -> Option<(K, V)> {
+        self.map.pop_front_of(chain)
+    }
+
+    #[inline(always)]
+    fn pop_back_of(&mut self, chain: &mut Chain<K, V>) -> Option<(K, V)> {
+        self.map.pop_back_of(chain)
     }
 }
 
 impl<K: Eq + Hash + Drop, V: Drop, S: BuildHasher> LruCache<K, V, S> {
-    ghost use Rattle.hashlink_map.specs.Drain.{drained_container};
+    ghost use Rattle.hashlink_map.specs.Drain.{drained_state};
 
     /// Returns an iterator that removes the entries and returns them, from front to back. When it is dropped,
     /// exhausted or not, the cache is empty. The call takes linear time in the number of buckets, the drop in
-    /// the number of entries that are left, for each of which it stores at most three links. Neither hashes
-    /// or allocates.
+    /// the number of entries that are left. A drain stores at most three links for each entry, and neither
+    /// hashes nor allocates.
     pub fn drain<'a>(&'a mut self) -> Drain<'a, K, V, S>
     where
         S::Hasher: 'a,
-        ensures same_cache { (drained_container result).ghost_name ≡ self.entry.ghost_name }
-        ensures unchanged { (drained_container result).now ≡ self.old }
+        ensures same_cache { result.container.ghost_name ≡ self.entry.ghost_name }
+        ensures unchanged { drained_state result ≡ (state_of self.old).map }
+        ensures capacity { result.container.now.capacity ≡ self.old.capacity }
     {
-        let drained = take_nodes(&mut self.map);
-        drain_of(self, drained)
+        drain_of(self)
     }
 }

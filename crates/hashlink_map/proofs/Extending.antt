@@ -82,7 +82,7 @@ grows-none m = record {
     grows = omega arith;
     same = λ _. refl;
     bound = omega arith;
-    power = λ more. absurd (omega (arith, more));
+    ample = λ more. absurd (omega (arith, more));
   };
   link_writes = refl;
   hasher = refl;

@@ -1,5 +1,6 @@
 //! Debug texts.
-use crate::drain::{DrainOf, Drainable};
+use crate::drain::DrainOf;
+use crate::drainable::Drainable;
 use crate::entry::{Entry, OccupiedEntry, VacantEntry};
 use crate::iter_mut::IterMut;
 use crate::map::LinkedHashMap;
@@ -19,7 +20,7 @@ impl<K: Eq + Hash + fmt::Debug, V: fmt::Debug, S: BuildHasher> fmt::Debug
 
 impl<'a, C: Drainable<K, V>, K: fmt::Debug, V: fmt::Debug> fmt::Debug for DrainOf<'a, C, K, V> {
     fn fmt<W: fmt::Write>(&self, f: &mut fmt::Formatter<W>) -> fmt::Result {
-        self.drained.iter().fmt(f)
+        self.chain.fmt(f)
     }
 }
 

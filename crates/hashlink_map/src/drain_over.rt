@@ -1,37 +1,36 @@
-//! How a container over a map is drained: by `take_nodes`, then `drain_of`.
+//! The beginning and the end of a drain.
 ghost use Rattle.std.specs.Prelude.{◌≡◌};
-ghost use Rattle.hashlink_core.specs.{Keyed.state_of, Drained.{with_drained, FitsBack}};
-ghost use Rattle.hashlink_map.specs.Drain.{drained_container};
+ghost use Rattle.hashlink_core.specs.Drained.{state_with, CanDrain};
+ghost use Rattle.hashlink_model.specs.Steps.{Drains};
+ghost use Rattle.hashlink_map.specs.Drain.{drained_state};
 
-use crate::drain::{DrainOf, Drainable};
-use crate::map::LinkedHashMap;
-use hashlink_core::DrainedNodes;
-use std::hash::{BuildHasher, Hash};
+use crate::drain::DrainOf;
+use crate::drainable::Drainable;
+use hashlink_core::Chain;
 use std::marker::PhantomData;
 
-/// Takes all nodes with their entries out of a map, for a drain of the map or of a container over it. The map
-/// is then empty, and keeps its room. It takes linear time in the number of buckets, and hashes nothing.
-pub fn take_nodes<K: Eq + Hash, V, S: BuildHasher>(
-    map: &mut LinkedHashMap<K, V, S>,
-) -> DrainedNodes<K, V>
-    ensures taken { with_drained map.new result ≡ map.old }
-    ensures fits { FitsBack (state_of map.new) result }
+/// Returns the draining iterator of the container.
+pub fn drain_of<C: Drainable<K, V>, K, V>(container: &mut C) -> DrainOf<'_, C, K, V>
+    ensures name { result.container.ghost_name ≡ container.entry.ghost_name }
+    ensures unchanged { drained_state result ≡ C.map_state container.old }
+    ensures same { C.rest result.container.now ≡ C.rest container.old }
 {
-    map.list.take_nodes()
-}
-
-/// Returns the draining iterator over nodes that `take_nodes` took out of the map of the container.
-pub fn drain_of<C: Drainable<K, V>, K, V>(
-    container: &mut C,
-    drained: DrainedNodes<K, V>,
-) -> DrainOf<'_, C, K, V>
-    requires { FitsBack (C.map_state container.old) drained }
-    ensures same { (drained_container result).ghost_name ≡ container.entry.ghost_name }
-    ensures holds { (drained_container result).now ≡ C.with_nodes container.old drained }
-{
+    let chain = container.take_entries();
     DrainOf {
         container,
-        drained,
+        chain,
         mark: PhantomData,
     }
+}
+
+/// Drops the entries that were taken out of the container and are left. Their nodes are then free.
+pub fn drop_rest<C: Drainable<K, V>, K: Drop, V: Drop>(container: &mut C, mut chain: Chain<K, V>)
+    requires { CanDrain (C.map_state container.old) chain }
+    ensures drains { Drains (state_with (C.map_state container.old) chain) (C.map_state container.new) }
+    ensures same { C.rest container.new ≡ C.rest container.old }
+{
+    while chain.len() != 0 {
+        let _pair = container.pop_front_of(&mut chain);
+    }
+    chain.end();
 }

@@ -1,7 +1,7 @@
 //! `LinkedHashMap`: a hash map that keeps its entries in an order which the caller controls.
 #![tactic(auto)]
 
-mod as_drained;
+mod as_chain;
 mod as_node;
 mod at_node;
 mod at_place;
@@ -11,6 +11,7 @@ mod cursor;
 mod debug;
 mod drain;
 mod drain_over;
+mod drainable;
 mod emptied;
 mod entry;
 mod extend;
@@ -25,14 +26,15 @@ mod raw_entry;
 mod try_insert_error;
 mod values_mut;
 
-pub use as_drained::AsDrained;
+pub use as_chain::AsChain;
 pub use as_node::AsNode;
 pub use cursor::CursorMut;
-pub use drain::{Drain, DrainOf, Drainable};
-pub use drain_over::{drain_of, take_nodes};
+pub use drain::{Drain, DrainOf};
+pub use drain_over::{drain_of, drop_rest};
+pub use drainable::Drainable;
 pub use entry::{Entry, OccupiedEntry, VacantEntry};
 pub use hashlink_core::{
-    DefaultHashBuilder, DefaultHasher, DrainedNodes, Equivalent, ExtendError, IntoIter, Iter, Keys,
+    Chain, DefaultHashBuilder, DefaultHasher, Equivalent, ExtendError, IntoIter, Iter, Keys,
     TryReserveError, Values,
 };
 pub use iter_from::IterFrom;

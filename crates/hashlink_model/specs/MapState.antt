@@ -1,7 +1,7 @@
 -- A map, as contracts see it, and the steps between two such states. The contract of a call names its step.
 use Rattle.std.specs.Prelude.{◌≡◌, ℕ, ◌-◌, ◌+◌, ◌*◌, ◌≤◌, ◌<◌, max, Bool, List, [], length, Option, None}
 use Rattle.std.specs.{Prelude.{Some, Result, MatchOption, MatchResult, insert, remove}, Map.lookup}
-use Rattle.std.specs.Int.{IsPowerOfTwo}
+use Rattle.std.specs.{Int.IsPowerOfTwo, Prelude.{◌⊎◌}}
 use Rattle.hashlink_model.specs.Entries.{put, moved_at, set_value_at, set_key_at}
 
 -- the entries, the number of free nodes, the room (for how many nodes), how many links were stored so far,
@@ -18,14 +18,18 @@ pub record StoresAtMost (most old new : ℕ) : Type 0 where
   pub grows : old ≤ new
   pub bound : new ≤ old + most
 
+-- a room that is ample for n nodes: at least twice n, or seven eighths of a power of two
+abbrev pub IsAmple : ℕ → ℕ → Type 0
+IsAmple n room = (2 * n ≤ room) ⊎ ((k : ℕ) × IsPowerOfTwo k × (8 * room ≡ 7 * k))
+
 -- the room of a step that needs room for n nodes. If there was enough, it is unchanged; else it is at most
--- twice n, and at most 8 if n is below 4. It grows only to powers of two, so between two shrinks it grows at
--- most as often as the greatest n has binary digits
+-- twice n, and at most 8 if n is below 4. If it grows, it is ample, so between two shrinks it grows at most
+-- twice as often as the greatest n has binary digits
 pub record RoomFor (n old new : ℕ) : Type 0 where
   pub grows : old ≤ new
   pub same : n ≤ old → new ≡ old
   pub bound : new ≤ max old (2 * max 4 n)
-  pub power : old < new → IsPowerOfTwo new
+  pub ample : old < new → IsAmple n new
 
 module _ {K V S : Type 0} where
   abbrev pub map_state : List (K × V) → ℕ → ℕ → ℕ → S → MapState K V S

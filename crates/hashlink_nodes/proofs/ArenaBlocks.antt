@@ -6,6 +6,7 @@ use Names.{subst, lookup, remove_entry, IfSome, nothing, Ura, ent, sep, via, fst
 use Names.{Lft, fat, froom, Logic, sem, Item, Goal, Seq, ‵, raw, prop, mean, some, ◌⊛◌, ◌$◌, ◌∵◌, !, qed, by}
 use Names.{move, keep, use1, use2, pick, drop, flt_l, flt_i, Step, step, split, fsplit, fsplit3, fjoin, done}
 use Names.{Model, Ty, Val, full_share, fact, fact_i, fact_use, lone, part_out, RattleType, Ptr, block_ptr}
+use Rattle.hashlink_nodes.specs.Blocks.{AreFound, with_block, blocks_of, without}
 use Names.{null_ptr, block_lent, block_owns, blocks_lent, blocks_own, links_offset, is_small, Links, Kept}
 use Names.{alter, entry_in, same_node, Node, ap, option_map, ty_int, w64, vint, number_word, number_offset}
 use Names.{number_of, pair_owns, lies_at, links_of, deed_owns, fsep, in_a_block, rewrite, usize, uint_out}
@@ -81,6 +82,23 @@ module _ (R : RattleType) {M : Type 1} {𝓤 : Ura M} (𝓛 : Logic 𝓤) (n : N
       let c = cut_at bs n x e in
       subst (λ (t : Entries × Kept R.Denot). ent 𝓤 (sem 𝓛 (blocks_lent R t.0 κ))
       (sem 𝓛 (block_lent R n.at t.1 κ))) (λ i. (sym c.0.is i, c.1 i)) (shown c.0.value c.0.after κ c.0.before)
+
+module _ (R : RattleType) {M : Type 1} {𝓤 : Ura M} (𝓛 : Logic 𝓤) where
+  -- the blocks of some nodes are taken out
+  pub blocks_parted : (ns : List Node) (bs : List (Node × Kept R.Denot)) → AreFound ns bs
+      → ent 𝓤 (sem 𝓛 (blocks_own R bs))
+      (sep 𝓤 (sem 𝓛 (blocks_own R (blocks_of ns bs))) (sem 𝓛 (blocks_own R (without ns bs))))
+  blocks_parted [] bs f = qed 𝓛 (‵ (blocks_own R bs) ∷ []) ∵ nothing ! $ done !
+  blocks_parted (n ∷ ns) bs f =
+      let k = found (lookup (same_node n) bs) f.0 in let left = remove_entry (same_node n) bs in
+      subst (λ o. ent 𝓤 (sem 𝓛 (blocks_own R bs))
+      (sep 𝓤 (sem 𝓛 (blocks_own R (with_block n o (blocks_of ns left))))
+      (sem 𝓛 (blocks_own R (without ns left)))))
+      (sym k.1) (qed 𝓛 (‵ (blocks_own R bs) ∷ []) ∵
+      use1 𝓛 (‵ (block_owns R n.at k.0) ⊛ ‵ (blocks_own R left)) (blocks_cut R 𝓛 n bs k.0 k.1) $ split ! $
+      move ! (1 ∷ []) $
+      use1 𝓛 (‵ (blocks_own R (blocks_of ns left)) ⊛ ‵ (blocks_own R (without ns left)))
+      (blocks_parted ns left f.1) $ split ! $ move ! (2 ∷ 0 ∷ []) $ fjoin ! $ done !)
 
 module _ (R : RattleType) {M : Type 1} {𝓤 : Ura M} (𝓛 : Logic 𝓤) (𝓜 : Model 𝓤 𝓛.H) where
   abbrev τ : Ty

@@ -13,6 +13,7 @@ use Rattle.hashlink_nodes.proofs.Opening.{length-gap, Leaves, NodeAt, leaves, le
 use Rattle.hashlink_nodes.{specs.declared.pool.Pool.Pool, proofs.Paths.{head_or, last_or, flip, off_last}}
 use Rattle.hashlink_nodes.proofs.{Cuts.{Gap, before_place, after_place, same_some}, Neighbours.neighbours}
 use Rattle.hashlink_nodes.proofs.{Rings.held_anew, Opening.{known, shrinks, node_in, spare_guard, ring_facts}}
+use Rattle.hashlink_nodes.proofs.Opening.{written_guard}
 
 module _ {K V : Type 0} where
   -- ---- an entry is inserted
@@ -237,6 +238,16 @@ module _ {K V : Type 0} where
         is_len = omega (arith, k.is_len);
         is_spare = k.is_spare;
       }
+
+  -- a new free node
+  pub free_added : {n : Inside K V} {s₁ s₂ : State K V} {m : Node} {v : Ring K V} → IsSound n → ring_of n ≡ v
+      → 0 < v.link_writes → length v.entries + length v.free + 1 < 2 ^ 63 → Adds m (state_of n.pool) s₁
+      → s₂ ≡ store_next m n.first_spare s₁
+      → Leaves s₂ n.guard m n.len (n.spare + 1) (ring v.entries (m ∷ v.free) (v.link_writes + 1))
+  free_added sound view some few a is =
+      let k = known sound view in let g = written_guard sound view some in
+      leaves g.1 (spared (added (opened sound view g.1) a few) a.bare is) k.is_len
+      (omega (arith, k.is_spare))
 
   -- ---- the ends of the ring
   -- the node has an entry, and `join` puts this entry back among the others

@@ -5,6 +5,7 @@ pub mod ArenaLends
 pub mod ArenaSharing
 pub mod ArenaSteps
 pub mod Calls
+pub mod Chains
 pub mod Crosses
 pub mod Cuts
 pub mod Rings

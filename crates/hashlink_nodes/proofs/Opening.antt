@@ -45,7 +45,7 @@ module _ {K V : Type 0} where
   pub seal : {n : Inside K V} → SoundAt (state_of n.pool) n.guard n.first_spare n.len n.spare → IsSound n
   seal h = record { at = h }
 
-  entries-held : (f : Node → Option (Entry K V)) (es : List (Node × Entry K V))
+  pub entries-held : (f : Node → Option (Entry K V)) (es : List (Node × Entry K V))
       → AllByRecursion (λ e. f e.0 ≡ Some e.1) es → entries_of f (keys_of es) ≡ es
   unfolding entries_of
   entries-held f [] h = refl
@@ -108,7 +108,7 @@ module _ {K V : Type 0} where
     with_guard : {g : Node} → n.guard ≡ Some g → SoundAt s (Some g) n.first_spare n.len n.spare
     with_guard is = subst (λ o. SoundAt s o n.first_spare n.len n.spare) is sound.at
 
-    view_is : {g : Node} → n.guard ≡ Some g → ring_at s (Some g) n.first_spare n.len n.spare ≡ v
+    pub view_is : {g : Node} → n.guard ≡ Some g → ring_at s (Some g) n.first_spare n.len n.spare ≡ v
     view_is is = ap (λ o. ring_at s o n.first_spare n.len n.spare) (sym is) ∙ view
 
     pub opened : {g : Node} → n.guard ≡ Some g → IsRing s [] g n.first_spare v
@@ -165,6 +165,13 @@ module _ {K V : Type 0} where
     pub node_in : (m : Node) (there : Holds v.entries m)
         → NodeAt s n.guard (guard_of m there).0 n.first_spare n.len n.spare v m
     node_in m there = node_at (guard_of m there).1 m there
+
+    -- likewise if a link was stored
+    pub written_guard : 0 < v.link_writes → (g : Node) × (n.guard ≡ Some g)
+    written_guard some = guarded (λ is.
+        let h = subst (λ o. SoundAt s o n.first_spare n.len n.spare) is sound.at in
+        let none = h.3 in
+        omega (arith, some, none, ap (λ (r : Ring K V). r.link_writes) view))
 
     -- ---- what a call of a ring may need
     -- a node of the ring and its neighbours have blocks, the ring is not empty, and there is a guard

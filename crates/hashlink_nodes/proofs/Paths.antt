@@ -222,7 +222,7 @@ walk-chain f a [] c = refl
 walk-chain f a (n ∷ ns) c = λ i. c.0 i ∷
     (ap (λ m. walk f (f m) (length ns)) c.0 ∙ walk-chain f (f n) ns c.1) i
 
-chain_of_linked : (f b : Node → Node) (a : Node) (ns : List Node) (z : Node) → IsLinked f b a ns z
+pub chain_of_linked : (f b : Node → Node) (a : Node) (ns : List Node) (z : Node) → IsLinked f b a ns z
     → IsChain f (f a) ns
 chain_of_linked f b a [] z l = tt
 chain_of_linked f b a (n ∷ ns) z l = (l.0.0, chain_of_linked f b n ns z l.1)

@@ -13,7 +13,7 @@ use Rattle.hashlink_nodes.proofs.Paths.{linked_at, linked_same, linked_detach, l
 use Rattle.hashlink_nodes.proofs.Paths.{agrees_off, agrees_off_two, off_rest, off_last, off_head}
 use Rattle.hashlink_nodes.proofs.Cuts.{last-pushed}
 
-distinct_left : (xs ys : List Node) → IsDistinct same_node (xs ++ ys) → IsDistinct same_node xs
+pub distinct_left : (xs ys : List Node) → IsDistinct same_node (xs ++ ys) → IsDistinct same_node xs
 unfolding IsDistinct
 distinct_left [] ys d = tt
 distinct_left (x ∷ xs) ys d = (all_left (Off x) xs ys d.0, distinct_left xs ys d.1)
@@ -188,7 +188,7 @@ module _ {K V : Type 0} where
   unfolding detached store_next store_prev
   held_out {n = n} at is = ap (λ (t : State K V). t.held n) is ∙ at.holds
 
-  differs_hold : (n : Node) (o : Option (Entry K V)) (s : State K V) → Differs n s (hold n o s)
+  pub differs_hold : (n : Node) (o : Option (Entry K V)) (s : State K V) → Differs n s (hold n o s)
   unfolding hold
   differs_hold n o s = record {
     next = λ m k. refl;

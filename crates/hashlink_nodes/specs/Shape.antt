@@ -60,9 +60,9 @@ module _ {K V : Type 0} where
         link_writes = s.link_writes;
       }
 
-  -- as long as there is no guard, there is no block
+  -- as long as there is no guard, there is no block, and no link was stored
   abbrev pub SoundAt : State K V → Option Node → Node → ℕ → ℕ → Type 0
-  SoundAt s None first len spare = (len ≡ 0) × (spare ≡ 0) × (s.size ≡ 0)
+  SoundAt s None first len spare = (len ≡ 0) × (spare ≡ 0) × (s.size ≡ 0) × (s.link_writes ≡ 0)
   SoundAt s (Some guard) first len spare =
       (length (ring_at s (Some guard) first len spare).entries ≡ len)
       × IsRing s [] guard first (ring_at s (Some guard) first len spare)

@@ -6,6 +6,7 @@ ghost use Rattle.std.specs.Prelude.{◌≡◌, ◌^◌, ◌<◌, List, [], ◌�
 ghost use Rattle.std.specs.{Option.option_map, Map.{lookup, remove_entry}, Borrow.sem};
 ghost use Rattle.hashlink_nodes.specs.{Node.same_node, declared.node.Node.Node};
 ghost use Rattle.hashlink_nodes.specs.Kept.{Kept, kept, alter, entry_in, number_word, with_entry};
+ghost use Rattle.hashlink_nodes.specs.Blocks.{AreFound, blocks_of, without};
 ghost use Rattle.hashlink_nodes.specs.Ownership.{blocks_own, blocks_lent};
 
 use crate::node::Node;
@@ -163,6 +164,17 @@ impl<T> Arena<T> {
             (&raw mut (*block).number).write(NO_ENTRY);
             (&raw const (*block).pair).read()
         }
+    }
+
+    /// Takes the blocks of these nodes out, into an arena of their own.
+    #[inline(always)]
+    pub(crate) fn part(&mut self) -> Arena<T>
+        ghost nodes: { List Node }
+        requires { AreFound nodes self.old.blocks }
+        ensures parted { result.blocks ≡ blocks_of nodes self.old.blocks }
+        ensures left { self.new.blocks ≡ without nodes self.old.blocks }
+    {
+        Arena { mark: PhantomData }
     }
 
     /// Ends an arena that has no block left.

@@ -2,12 +2,14 @@
 #![tactic(auto)]
 
 mod arena;
+mod chain;
 mod entry;
 mod link_writes;
 mod node;
 mod nodes;
 mod pool;
 
+pub use chain::Chain;
 pub use entry::Entry;
 pub use node::Node;
 pub use nodes::Nodes;

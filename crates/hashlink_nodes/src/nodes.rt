@@ -2,7 +2,7 @@
 #![tactic(auto, using(crate::proofs::Calls::ring_calls))]
 
 ghost use Rattle.std.specs.Prelude.{◌≡◌, ◌+◌, ◌^◌, ◌<◌, [], ◌∷◌, ◌++◌, length, drop, Some, IsOk, IfOk, IfErr};
-ghost use Rattle.std.specs.{Prelude.{OnOk, OnErr}, Option.option_map, List.IsDistinct};
+ghost use Rattle.std.specs.{Prelude.{map, OnOk, OnErr}, Option.option_map, List.IsDistinct};
 ghost use Rattle.std.specs.Map.{keys_of, lookup, remove_entry};
 ghost use Rattle.hashlink_nodes.specs.Node.{same_node};
 ghost use Rattle.hashlink_nodes.specs.Ring.{ring, held, pair_of, put_before, Holds, IsPlace};
@@ -12,10 +12,13 @@ mod moves;
 mod reads;
 mod values;
 
+use crate::arena::Block;
+use crate::chain::Chain;
 use crate::node::Node;
 use crate::pool::Pool;
 use std::alloc::Global;
 use std::marker::Model;
+use std_alloc::room::Vacant;
 
 /// Entries in a ring of nodes, and free nodes, which later inserts use. Each node is a block of its own.
 pub struct Nodes<K, V> {
@@ -158,7 +161,47 @@ impl<K, V> Nodes<K, V> {
     }
 }
 
-/// Drops the entries, from the last to the first, and then frees the block of every node.
+impl<K, V> Nodes<K, V> {
+    ghost use Rattle.hashlink_nodes.specs.ChainSteps.{Spares};
+
+    /// Takes all entries out of the ring, with their nodes. It takes constant time, and stores two links,
+    /// none if there is no entry.
+    pub fn take_entries(&mut self) -> Chain<K, V>
+        ensures pairs { result ≡ map (λ e. pair_of e.1) self.old.entries }
+        ensures entries { self.new.entries ≡ [] }
+        ensures free { self.new.free ≡ self.old.free }
+        ensures unchanged { length self.old.entries ≡ 0 → self.new ≡ self.old }
+        ensures link_writes { 0 < length self.old.entries → self.new.link_writes ≡ self.old.link_writes + 2 }
+        ensures few { length self.old.entries + length self.old.free < 2 ^ 63 }
+    {
+        if self.len == 0 {
+            return Chain::new();
+        }
+        let guard = self.guard.unwrap();
+        let first = self.pool.next(guard);
+        let last = self.pool.prev(guard);
+        let chain = self.pool.part(first, last, self.len);
+        self.pool.store_next(guard, guard);
+        self.pool.store_prev(guard, guard);
+        self.len = 0;
+        chain
+    }
+
+    /// Takes a block over, as the first free node. It stores one link.
+    #[inline(always)]
+    pub(crate) fn keep_free(&mut self, vacant: Vacant<Block<(K, V)>, Global>)
+        requires guarded { 0 < self.old.link_writes }
+        requires few { length self.old.entries + length self.old.free + 1 < 2 ^ 63 }
+        ensures { Spares self.old self.new }
+    {
+        let node = self.pool.keep(vacant);
+        self.pool.store_next(node, self.first_spare);
+        self.first_spare = node;
+        self.spare += 1;
+    }
+}
+
+/// Drops the entries, and frees the block of every node.
 impl<K: Drop, V: Drop> Drop for Nodes<K, V> {
     fn drop(mut self) {
         self.release_all();

@@ -1,18 +1,22 @@
 //! The blocks of a ring, by their nodes: safe code over the arena.
 ghost use Rattle.std.specs.Prelude.{◌≡◌, ◌^◌, ◌<◌, true, false, [], IfOk, OnErr, None, Some, IsSome, is_some};
-ghost use Rattle.std.specs.{Option.option_map, Borrow.sem};
+ghost use Rattle.std.specs.Prelude.{List, length, map};
+ghost use Rattle.std.specs.{Option.option_map, Borrow.sem, Map.keys_of};
 ghost use Rattle.hashlink_nodes.specs.State.{state, hold, detached, attached, AreThere, Drops, GuardIs};
-ghost use Rattle.hashlink_nodes.specs.{Ring.{held, pair_of, with_key}, Pool.state_of};
+ghost use Rattle.hashlink_nodes.specs.{Ring.{Entry, held, pair_of, with_key}, Pool.state_of};
+ghost use Rattle.hashlink_nodes.specs.{Parting.{IsPath, Parts}, declared.node.Node.Node};
 
 mod link;
 mod links;
 
 pub(crate) use self::links::Links;
-use crate::arena::{Arena, NO_ENTRY};
+use crate::arena::{Arena, Block, NO_ENTRY};
+use crate::chain::Chain;
 use crate::link_writes::LinkWrites;
 use crate::node::Node;
 use std::alloc::{AllocError, Global};
 use std::mem;
+use std_alloc::room::Vacant;
 
 /// The blocks of the nodes, and the number of links stored in them.
 pub(crate) struct Pool<K, V> {
@@ -119,7 +123,37 @@ impl<K, V> Pool<K, V> {
         requires bare { (state_of self.old).held node ≡ None }
         ensures { Drops node (state_of self.old) (state_of self.new) }
     {
-        self.arena.release(node, alloc).free();
+        self.vacate(node, alloc).free();
+    }
+
+    /// Takes the block of a node that holds nothing, and returns it.
+    #[inline(always)]
+    pub(crate) fn vacate(&mut self, node: Node, alloc: Global) -> Vacant<Block<(K, V)>, Global>
+        requires has { (state_of self.old).has node ≡ true }
+        requires bare { (state_of self.old).held node ≡ None }
+        ensures { Drops node (state_of self.old) (state_of self.new) }
+    {
+        self.arena.release(node, alloc)
+    }
+
+    /// Takes the nodes of a path out, with their entries and blocks.
+    pub(crate) fn part(&mut self, first: Node, last: Node, len: usize) -> Chain<K, V>
+        ghost entries: { List (Node × Entry K V) }
+        requires path { IsPath (state_of self.old) first last entries }
+        requires len { length entries ≡ len }
+        ensures pairs { result ≡ map (λ e. pair_of e.1) entries }
+        ensures left { Parts (keys_of entries) (state_of self.old) (state_of self.new) }
+    {
+        let pool = Pool {
+            arena: self.arena.part(),
+            writes: LinkWrites::new(),
+        };
+        Chain {
+            pool,
+            first,
+            last,
+            len,
+        }
     }
 
     /// Links the neighbours of the node past it.

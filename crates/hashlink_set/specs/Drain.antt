@@ -3,14 +3,14 @@ use Rattle.std.specs.{Prelude.{◌≡◌, List, Option}, Borrow.MutBor, Map.Iter
 use Rattle.hashlink_model.specs.{Sets.{SetState, elements_of}, Steps.{PopsFront, PopsBack}}
 use Rattle.hashlink_core.specs.Drained.{state_with}
 use Rattle.hashlink_map.specs.Bounds.{EqGhosts, HashGhosts, HasherGhosts, BuilderGhosts}
-use Rattle.hashlink_map.specs.declared.as_drained.AsDrained.{Ghosts as DrainedGhosts}
+use Rattle.hashlink_map.specs.declared.as_chain.AsChain.{Ghosts as ChainGhosts}
 use Rattle.hashlink_set.specs.{Answers.as_entry, declared.drain.Drain.Drain}
 
 module _ {T S H : Type 0} {g : EqGhosts T} {h : HashGhosts T} {b : BuilderGhosts S H} {w : HasherGhosts H}
-    {D : Type 0} {d : DrainedGhosts D T (Unit {0})} where
-  -- the set that it borrows, whose nodes are the ones taken out
+    {D : Type 0} {d : ChainGhosts D T (Unit {0})} where
+  -- the set that it borrows, as if the elements left still belonged to it
   abbrev pub drained_set : Drain T S D H g h b w d → MutBor (SetState T S)
-  drained_set i = record i.set { now = state_with i.set.now (d.drained i.drained) }
+  drained_set i = record i.set { now = state_with i.set.now (d.pairs i.chain) }
 
   -- the elements left
   abbrev pub drain_rest : Drain T S D H g h b w d → List T

@@ -1,40 +1,65 @@
 //! The draining iterator of a set.
 ghost use Rattle.std.specs.{Prelude.{◌≡◌, Some, IfSome, length}, Iterator.{at_most, UpTo}};
 ghost use Rattle.std.specs.Iterator.SizeHint.{IsWithinCount};
-ghost use Rattle.hashlink_core.specs.Drained.{FitsBack, FitsBack-prop};
+ghost use Rattle.hashlink_core.specs.Drained.{CanDrain, CanDrain-prop};
 ghost use Rattle.hashlink_model.specs.Steps.{Drains};
 
 use crate::set::LinkedHashSet;
-use hashlink_map::{AsDrained, DefaultHashBuilder, Drainable, DrainedNodes, take_nodes};
+use hashlink_map::{AsChain, Chain, DefaultHashBuilder, Drainable, drop_rest};
 use std::hash::{BuildHasher, Hash};
 use std::iter::FusedIterator;
 
 /// An iterator that removes the elements of a set and returns them, from front to back. When it is dropped,
 /// exhausted or not, the set is empty and every node is free.
 ///
-/// If it is forgotten (`mem::forget`), the set is empty too, with its room and without free nodes. The
-/// elements not yet returned are then never dropped, and no node is freed.
+/// If it is forgotten (`mem::forget`), the set is empty too, and keeps its room. The nodes that were free
+/// before and those of the returned elements are free. The elements that were left are then never dropped,
+/// and the memory of their nodes is never returned.
 pub struct Drain<
     'a,
     T: Eq + Hash,
     S: BuildHasher = DefaultHashBuilder,
-    D: AsDrained<T, ()> = DrainedNodes<T, ()>,
+    D: AsChain<T, ()> = Chain<T, ()>,
 > {
     pub(crate) set: &'a mut LinkedHashSet<T, S>,
-    pub(crate) drained: D,
-    ghost fits: { FitsBack set.now (D.drained drained) } by { FitsBack-prop _ _ },
+    pub(crate) chain: D,
+    ghost fits: { CanDrain set.now (D.pairs chain) } by { CanDrain-prop _ _ },
 }
 
-impl<'a, T: Eq + Hash + Drop, S: BuildHasher, D: AsDrained<T, ()>> Drop for Drain<'a, T, S, D> {
+impl<T: Eq + Hash, S: BuildHasher> Drainable<T, ()> for LinkedHashSet<T, S> {
+    ghost Hasher = { S };
+
+    ghost map_state = { λ s. s };
+
+    ghost Rest = { Unit {0} };
+
+    ghost rest = { λ s. tt };
+
+    fn take_entries(&mut self) -> Chain<T, ()> {
+        self.map.take_entries()
+    }
+
+    #[inline(always)]
+    fn pop_front_of(&mut self, chain: &mut Chain<T, ()>) -> Option<(T, ())> {
+        self.map.pop_front_of(chain)
+    }
+
+    #[inline(always)]
+    fn pop_back_of(&mut self, chain: &mut Chain<T, ()>) -> Option<(T, ())> {
+        self.map.pop_back_of(chain)
+    }
+}
+
+impl<'a, T: Eq + Hash + Drop, S: BuildHasher, D: AsChain<T, ()>> Drop for Drain<'a, T, S, D> {
     ghost use Rattle.hashlink_set.specs.Drain.{drained_set};
 
-    fn drop(self)
+    fn drop(mut self)
         ensures { Drains (drained_set self.entry).now self.exit.0.now }
     {
-        let Drain { set, drained } = self;
-        let mut nodes = drained.into_drained();
-        nodes.clear();
-        let _own = set.map.swap_nodes(nodes);
+        let rest = self.chain.take();
+        drop_rest(self.set, rest);
+        let Drain { set: _, chain } = self;
+        chain.end();
     }
 }
 
@@ -43,14 +68,14 @@ impl<T: Eq + Hash + Drop, S: BuildHasher> LinkedHashSet<T, S> {
 
     /// Returns an iterator that removes the elements and returns them, from front to back. When it is
     /// dropped, exhausted or not, the set is empty. The call takes linear time in the number of buckets. The
-    /// drop takes linear time in the number of elements left, and stores at most three links for each.
-    /// Neither hashes or allocates.
+    /// drop takes linear time in the number of elements left. A drain stores at most three links for each
+    /// element, and neither hashes nor allocates.
     pub fn drain(&mut self) -> Drain<'_, T, S>
         ensures same_set { (drained_set result).ghost_name ≡ self.entry.ghost_name }
         ensures unchanged { (drained_set result).now ≡ self.old }
     {
-        let drained = take_nodes(&mut self.map);
-        Drain { set: self, drained }
+        let chain = self.take_entries();
+        Drain { set: self, chain }
     }
 }
 
@@ -65,7 +90,7 @@ impl<'a, T: Eq + Hash + Drop, S: BuildHasher> Iterator for Drain<'a, T, S> {
 
     #[inline(always)]
     fn next(&mut self) -> Option<T> {
-        let (element, ()) = self.drained.pop_front()?;
+        let (element, ()) = self.set.pop_front_of(&mut self.chain)?;
         Some(element)
     }
 
@@ -74,7 +99,7 @@ impl<'a, T: Eq + Hash + Drop, S: BuildHasher> Iterator for Drain<'a, T, S> {
         ensures upper { IfSome result.1 (UpTo (at_most (length (drain_rest self.now)))) }
         ensures exact { result ≡ (length (drain_rest self.now), Some (length (drain_rest self.now))) }
     {
-        (self.drained.len(), Some(self.drained.len()))
+        (self.chain.len(), Some(self.chain.len()))
     }
 }
 
@@ -85,14 +110,14 @@ impl<'a, T: Eq + Hash + Drop, S: BuildHasher> DoubleEndedIterator for Drain<'a, 
 
     #[inline(always)]
     fn next_back(&mut self) -> Option<T> {
-        let (element, ()) = self.drained.pop_back()?;
+        let (element, ()) = self.set.pop_back_of(&mut self.chain)?;
         Some(element)
     }
 }
 
 impl<'a, T: Eq + Hash + Drop, S: BuildHasher> ExactSizeIterator for Drain<'a, T, S> {
     fn len(&self) -> usize {
-        self.drained.len()
+        self.chain.len()
     }
 }
 

@@ -1,88 +1,116 @@
 -- The doubling of the buckets: of one cell, of all cells in turn, and the place of each node afterwards.
 use Rattle.hashlink_table.proofs.Names
-use Names.{◌≡◌, ◌≢◌, ℕ, suc, ◌+◌, ◌-◌, ◌*◌, ◌%◌, ◌<◌, ◌≤◌, inl, inr, Bool, true, false, cond, ltb, List, ◌++◌}
-use Names.{length, map, get_or, set, Some, Option, None, refl, sym, ap, ◌∙◌, arith, cases_eq, cases_lt}
+use Names.{◌≡◌, ◌≢◌, ℕ, suc, ◌+◌, ◌-◌, ◌*◌, ◌%◌, ◌<◌, ◌≤◌, inl, inr, Bool, true, false, cond, eqb, ltb, List}
+use Names.{◌++◌}
+use Names.{length, map, get_or, set, replicate, Some, Option, None, refl, sym, ap, ◌∙◌, arith, cases_eq}
+use Names.{cases_lt}
 use Names.{IsPowerOfTwo, pow-succ', get_or_append_left, get_or-append_right, get_or_default, get_or-set_same}
-use Names.{get_or-set_other, length-append, length-map, length-set, Hashed, Cell, END, Rest, bare_cell, slot}
-use Names.{cells_in, low_kept, high_kept, low_half, high_half, doubled, parted, IsStored, IsTagged, Row, ◌/◌}
-use Names.{◌⊎◌, [], ◌∷◌, subst, IsPermutation, mod-mul, ltb-true, ltb-false, IsPermutation-refl}
-use Names.{IsPermutation-sym, IsPermutation-trans, IsPermutation-cons, IsPermutation-middle, mod_below}
-use Names.{same_Some, next_at, nodes_in, with_node, AreGrouped}
-use Rattle.hashlink_table.proofs.Storing.{AreCells, cell_at, node_at, node_stays, rest_at, row, stored}
-use Rattle.hashlink_table.proofs.{Names.{IsArranged, IsInPlace}, Storing.{tag_at, written}}
-use Rattle.hashlink_table.proofs.{Moving.within_kept, Nodes.nodes_in-append, Sound.{filled-none, linked-none}}
+use Names.{get_or-set_other, length-append, length-map, length-set, length-replicate, Hashed, Cell, END, Rest}
+use Names.{bare_cell, slot, cells_in, low_kept, high_kept, low_half, high_half, doubled, parted, IsStored}
+use Names.{IsTagged, Row, ◌/◌, ◌⊎◌, [], ◌∷◌, subst, IsPermutation, mod-mul, ltb-true, ltb-false}
+use Names.{IsPermutation-refl, IsPermutation-sym, IsPermutation-trans, IsPermutation-cons, append_assoc}
+use Names.{IsPermutation-append_left, IsPermutation-middle, mod_below, same_Some, own_at, own_of, guest_at}
+use Names.{guest_of, guests_in, no_guests, nodes_in, with_node, AreGrouped, IsInPlace, not, false≢true, Mark}
+use Names.{free_mark, is_guest, is_taken, tag_of}
+use Rattle.hashlink_table.proofs.Storing.{AreCells, cell_at, mark_at, node_at, node_of, node_stays, rest_at}
+use Rattle.hashlink_table.proofs.Storing.{row}
+use Rattle.hashlink_table.proofs.{Names.{IsArranged}, Storing.{stored, written}}
+use Rattle.hashlink_table.proofs.{Linking.{own_kept, within_kept}, Nodes.nodes_in-append, Sound.linked-none}
+use Rattle.std.specs.Prelude.{◌&&◌}
 use Rattle.std.proofs.{Math.ListN.get_or-map, lemmas.List.same_lists}
 
 -- twice a power of two is a power of two
 pub twice_power : (n : ℕ) → IsPowerOfTwo n → IsPowerOfTwo (2 * n)
 twice_power n power = (suc power.0, ap (λ (m : ℕ). 2 * m) power.1 ∙ sym (pow-succ' 2 power.0))
 
--- the tags of both halves: the node stays, or moves to the upper one
-abbrev pub IsApart : (count hash tag : ℕ) → ℕ × ℕ → Type 0
-IsApart count hash tag tags =
-    (low : Bool) × (ltb (hash % (2 * count)) count ≡ low) × (tags ≡ cond low (tag, 0) (0, tag))
+-- the marks of both halves: the node stays, or moves to the upper one
+abbrev pub low_mark : Mark → Bool → Mark
+low_mark m low = record { tag = m.tag; own = m.own && low; guest = false }
+
+abbrev pub high_mark : Mark → Bool → Mark
+high_mark m low = record { tag = m.tag; own = m.own && not low; guest = false }
+
+neither : (b : Bool) → cond {A = Bool} b false false ≡ false
+neither true = refl
+neither false = refl
+
+taken_if : (own guest low : Bool) → cond (own && low) true false ≡ true → cond own true guest ≡ true
+taken_if true guest low e = refl
+taken_if false guest low e = absurd (false≢true e)
+
+-- the node of a half, from the marks of the cell
+module _ {N : Type 0} (count : ℕ) (k : Hashed N) where
+  abbrev own_in : Bool → Bool → Option (Hashed N)
+  own_in own guest = cond (cond own false guest) None (cond (cond own true guest) (Some k) None)
+
+  low_if : (own guest low : Bool) → ltb (k.hash % (2 * count)) count ≡ low
+      → low_kept count (own_in own guest) ≡ cond (cond (own && low) true false) (Some k) None
+  low_if true guest true is = rw is refl
+  low_if true guest false is = rw is refl
+  low_if false true low is = refl
+  low_if false false low is = refl
+
+  high_if : (own guest low : Bool) → ltb (k.hash % (2 * count)) count ≡ low
+      → high_kept count (own_in own guest) ≡ cond (cond (own && not low) true false) (Some k) None
+  high_if true guest true is = rw is refl
+  high_if true guest false is = rw is refl
+  high_if false true low is = refl
+  high_if false false low is = refl
 
 -- one cell is doubled
-module _ {N : Type 0} {ts : List ℕ} {ns : List N} {rs : List Rest} (tagged : IsTagged ts ns rs)
-    (at count : ℕ) (within : at < length (cells_in ts ns rs)) (d : Rest) (tags : ℕ × ℕ)
-    (parts : IsApart count (get_or rs at d).hash (get_or ts at 0) tags) where
+module _ {N : Type 0} {ms : List Mark} {ns : List N} {rs : List Rest} (tagged : IsTagged ms ns rs)
+    (at count : ℕ) (within : at < length (cells_in ms ns rs)) where
   was : Row N
   was = row tagged refl at within
 
-  -- what is stored for a half with this tag
-  abbrev half : ℕ → Row N
-  half tag = record { tag = tag; node = was.node; rest = record was.rest { link = END } }
+  -- what is stored for a half with this mark
+  abbrev half : Mark → Row N
+  half mark = record { mark = mark; node = was.node; rest = record was.rest { link = END } }
 
-  -- the node of a cell, if it has a tag
-  abbrev kept_if : Bool → Option (Hashed N)
-  kept_if none = cond none None (Some (record { hash = was.rest.hash; node = was.node }))
+  abbrev low : Bool
+  low = ltb (was.rest.hash % (2 * count)) count
 
-  low_if : (b none : Bool) → ltb (was.rest.hash % (2 * count)) count ≡ b
-      → low_kept count (kept_if none) ≡ cond b (kept_if none) None
-  low_if true true is = refl
-  low_if false true is = refl
-  low_if b false is = rw is refl
+  cell : Option (Hashed N) → Bool → Cell N
+  cell kept guest = record { kept = kept; guest = guest; next = END }
 
-  high_if : (b none : Bool) → ltb (was.rest.hash % (2 * count)) count ≡ b
-      → high_kept count (kept_if none) ≡ cond b None (kept_if none)
-  high_if true true is = refl
-  high_if false true is = refl
-  high_if b false is = rw is refl
-
-  halves : IsStored (half tags.0) × IsStored (half tags.1) × (low_half count (slot was) ≡ slot (half tags.0))
-      × (high_half count (slot was) ≡ slot (half tags.1))
+  half_stored : (b : Bool)
+      → IsStored (half (record { tag = was.mark.tag; own = was.mark.own && b; guest = false }))
   unfolding was
-  halves = by (rw (tag_at tagged refl at within 0, rest_at tagged refl at within d) at parts)
-    where
-      empty : IsStored (half 0)
-      empty = record { tagged = inl refl; small = omega arith }
+  half_stored b = record {
+    tagged = λ e. (stored tagged refl at within).tagged (taken_if was.mark.own was.mark.guest b e);
+    small = omega arith;
+  }
 
-      full : IsStored (half was.tag)
-      full = record { tagged = (stored tagged refl at within).tagged; small = omega arith }
+  low_cell : low_half count (slot was) ≡ slot (half (low_mark was.mark low))
+  unfolding cell
+  low_cell = λ i. cell (low_if count (node_of was) was.mark.own was.mark.guest low refl i)
+      (sym (neither (was.mark.own && low)) i)
 
-      cell : Option (Hashed N) → Cell N
-      cell kept = record { kept = kept; hash = was.rest.hash; next = END }
+  high_cell : high_half count (slot was) ≡ slot (half (high_mark was.mark low))
+  unfolding cell
+  high_cell = λ i. cell (high_if count (node_of was) was.mark.own was.mark.guest low refl i)
+      (sym (neither (was.mark.own && not low)) i)
 
-      by : IsApart count was.rest.hash was.tag tags
-          → IsStored (half tags.0) × IsStored (half tags.1) × (low_half count (slot was) ≡ slot (half tags.0))
-          × (high_half count (slot was) ≡ slot (half tags.1))
-      by (true, test, e) = rw e (full, empty, ap cell (low_if true _ test), ap cell (high_if true _ test))
-      by (false, test, e) = rw e (empty, full, ap cell (low_if false _ test), ap cell (high_if false _ test))
-
-  pub parted_in : (n : N) → n ≡ get_or ns at n → (r : Rest) → r ≡ record (get_or rs at d) { link = END }
-      → AreCells (set (set ts at tags.0) (at + count) tags.1) (set ns (at + count) n)
-      (set (set rs at r) (at + count) r) (parted (cells_in ts ns rs) at count)
+  pub parted_in : (d : Rest) (m : Mark) → get_or ms at free_mark ≡ m → (n : N) → n ≡ get_or ns at n → (r :
+      Rest)
+      → r ≡ record (get_or rs at d) { link = END }
+      → let low = ltb ((get_or rs at d).hash % (2 * count)) count in
+      AreCells (set (set ms at (low_mark m low)) (at + count) (high_mark m low)) (set ns (at + count) n)
+      (set (set rs at r) (at + count) r) (parted (cells_in ms ns rs) at count)
   unfolding was
-  parted_in n at_n r is =
+  parted_in d m read n at_n r is =
       let node : n ≡ was.node = at_n ∙ node_at tagged refl at within n in
       let rest : r ≡ record was.rest { link = END }
       = is ∙ ap (λ (s : Rest). record s { link = END }) (rest_at tagged refl at within d) in
-      let cell : get_or (cells_in ts ns rs) at bare_cell ≡ slot was = cell_at tagged refl at within in
-      let first = written tagged refl at (half tags.0) (set ts at tags.0) ns (set rs at r)
-      (low_half count (get_or (cells_in ts ns rs) at bare_cell)) halves.0 refl
-      (node_stays tagged refl at within) (ap (set rs at) rest) (ap (low_half count) cell ∙ halves.2) in
-      written first.0 first.1 (at + count) (half tags.1) _ _ _ _ halves.1 refl (ap (set ns (at + count)) node)
-      (ap (set (set rs at r) (at + count)) rest) (ap (high_half count) cell ∙ halves.3)
+      let cell : get_or (cells_in ms ns rs) at bare_cell ≡ slot was = cell_at tagged refl at within in
+      let first = written tagged refl at (half (low_mark was.mark low)) (set ms at (low_mark was.mark low)) ns
+      (set rs at r) (low_half count (get_or (cells_in ms ns rs) at bare_cell)) (half_stored low) refl
+      (node_stays tagged refl at within) (ap (set rs at) rest) (ap (low_half count) cell ∙ low_cell) in
+      rw (sym read ∙ mark_at tagged refl at within free_mark, rest_at tagged refl at within d)
+      (written first.0 first.1 (at + count) (half (high_mark was.mark low)) _ _ _ _ (half_stored (not low))
+      refl
+      (ap (set ns (at + count)) node) (ap (set (set rs at r) (at + count)) rest)
+      (ap (high_half count) cell ∙ high_cell))
 
 -- all cells are doubled in turn
 module _ {N : Type 0} (cells : List (Cell N)) where
@@ -225,12 +253,12 @@ module _ {N : Type 0} where
       by true is e = absurd (cc e)
       by false is e = (e, subst (λ (i : Hashed N). m ≤ i.hash % (2 * m)) (same_Some j k e) (ltb-false _ m is))
 
-  -- the nodes of both halves
+  -- the nodes of both halves, and the guests
   parted-nodes : (m : ℕ) (cells : List (Cell N))
-      → IsPermutation (nodes_in cells) (nodes_in (map (low_half m) cells) ++ nodes_in
-      (map (high_half m) cells))
+      → IsPermutation (nodes_in cells)
+      ((nodes_in (map (low_half m) cells) ++ nodes_in (map (high_half m) cells)) ++ guests_in cells)
   parted-nodes m [] = IsPermutation-refl []
-  parted-nodes m (c ∷ cs) = by c.kept (parted-nodes m cs)
+  parted-nodes m (c ∷ cs) = by c.guest c.kept (parted-nodes m cs)
     where
       low : List (Hashed N)
       low = nodes_in (map (low_half m) cs)
@@ -238,49 +266,64 @@ module _ {N : Type 0} where
       high : List (Hashed N)
       high = nodes_in (map (high_half m) cs)
 
-      by : (o : Option (Hashed N)) → IsPermutation (nodes_in cs) (low ++ high)
+      guests : List (Hashed N)
+      guests = guests_in cs
+
+      by : (b : Bool) (o : Option (Hashed N)) → IsPermutation (nodes_in cs) ((low ++ high) ++ guests)
           → IsPermutation (with_node o (nodes_in cs))
-          (with_node (low_kept m o) low ++ with_node (high_kept m o) high)
-      by None rest = rest
-      by (Some k) rest =
+          ((with_node (low_kept m (cond b None o)) low ++ with_node (high_kept m (cond b None o)) high)
+          ++ with_node (cond b o None) guests)
+      by true None rest = rest
+      by true (Some k) rest =
+          IsPermutation-trans _ _ _ (IsPermutation-cons k _ _ rest)
+          (IsPermutation-sym _ _ (IsPermutation-middle (low ++ high) k guests))
+      by false None rest = rest
+      by false (Some k) rest =
           elim (ltb (k.hash % (2 * m)) m) as (λ b. IsPermutation (k ∷ nodes_in cs)
-          (with_node (cond b (Some k) None) low ++ with_node (cond b None (Some k)) high)) [
+          ((with_node (cond b (Some k) None) low ++ with_node (cond b None (Some k)) high) ++ guests)) [
             | true ↦ IsPermutation-cons k _ _ rest
             | false ↦ IsPermutation-trans _ _ _ (IsPermutation-cons k _ _ rest)
-                (IsPermutation-sym _ _ (IsPermutation-middle low k high))
+                (IsPermutation-append_left guests _ _ (IsPermutation-sym _ _ (IsPermutation-middle low k
+                high)))
           ]
 
   module _ (cells : List (Cell N)) where
-    -- no bucket has a chain then
-    none-doubled : (b : ℕ) → next_at (doubled cells) b ≡ END
-    none-doubled b = elim (cases_lt b (length cells)) as (λ _. next_at (doubled cells) b ≡ END) [
-      | inl low ↦ ap (λ (c : Cell N). c.next) (read_low cells b low)
-      | inr high ↦ ap (λ (c : Cell N). c.next) (read_high cells b high)
+    -- no cell has a guest then
+    none-doubled : (i : ℕ) → guest_at (doubled cells) i ≡ None
+    none-doubled i = elim (cases_lt i (length cells)) as (λ _. guest_at (doubled cells) i ≡ None) [
+      | inl low ↦ ap (λ (c : Cell N). guest_of c) (read_low cells i low)
+      | inr high ↦ ap (λ (c : Cell N). guest_of c) (read_high cells i high)
     ]
 
     -- each node is still in the group of its bucket
-    pub arranged-doubled : length cells % 16 ≡ 0 → IsInPlace cells → IsArranged (doubled cells) [] END
-    arranged-doubled whole p = record {
-      linked = linked-none (doubled cells) none-doubled;
-      filled = filled-none (doubled cells) none-doubled;
+    pub arranged-doubled : (n : ℕ) → length cells % 16 ≡ 0 → n ≡ 2 * (length cells / 16) → IsInPlace cells
+        → IsArranged (doubled cells) (replicate n no_guests)
+    arranged-doubled n whole groups p = record {
+      linked =
+          linked-none (doubled cells) n (omega (arith, length-doubled cells, groups)) none-doubled;
+      covered = λ at k is. absurd (cc (sym (none-doubled at) ∙ is));
+      paired = omega (arith, length-replicate n no_guests, length-doubled cells, groups, whole);
       in_place = λ at k is. rw (length-doubled cells)
           (elim (cases_lt at (length cells)) as (λ _. AreGrouped (k.hash % (2 * length cells)) at) [
             | inl low ↦
                 let s = stays (length cells) _ k
-                (sym (ap (λ (c : Cell N). c.kept) (read_low cells at low)) ∙ is) in
+                (sym (ap (λ (c : Cell N). own_of c) (read_low cells at low)) ∙ is) in
                 let bucket = bucket_low k.hash (length cells) (omega (arith, low)) s.1 in
                 ap (λ b. b / 16) bucket ∙ p at k s.0
             | inr high ↦
                 let s = moves (length cells) _ k
-                (sym (ap (λ (c : Cell N). c.kept) (read_high cells at high)) ∙ is) in
-                let within = within_kept cells (at - length cells) k s.0 in
+                (sym (ap (λ (c : Cell N). own_of c) (read_high cells at high)) ∙ is) in
+                let within = within_kept cells (at - length cells) k (own_kept cells (at - length cells) k
+                s.0)
+                in
                 let bucket = bucket_high k.hash (length cells) (omega (arith, within)) s.1 in
                 omega (arith, whole, high, bucket, p (at - length cells) k s.0)
           ]);
     }
 
-    -- the nodes are the same as before
-    pub nodes_in-doubled : IsPermutation (nodes_in cells) (nodes_in (doubled cells))
+    -- the nodes are the same as before, besides the guests
+    pub nodes_in-doubled : IsPermutation (nodes_in cells) (nodes_in (doubled cells) ++ guests_in cells)
     nodes_in-doubled =
-        subst (IsPermutation (nodes_in cells)) (sym (nodes_in-append (lower cells) (upper cells)))
+        subst (λ ks. IsPermutation (nodes_in cells) (ks ++ guests_in cells))
+        (sym (nodes_in-append (lower cells) (upper cells)))
         (parted-nodes (length cells) cells)

@@ -1,6 +1,7 @@
 pub mod Names
-pub mod Begins
+pub mod Blocks
 pub mod Doubling
+pub mod Grids
 pub mod Groups
 pub mod Linking
 pub mod Masks

@@ -4,8 +4,8 @@ use Names.{◌≡◌, ◌≢◌, ℕ, zero, suc, ◌+◌, ◌-◌, ◌*◌, ◌/
 use Names.{◌∷◌, map, length, drop, get_or, count_by, None, Some, IsSome, Option, refl, sym, ap, ◌∙◌, subst}
 use Names.{arith, is_none, prefix_len, eq-eqb, eqb-true, not-false, true≢false, drop-drop, get_or-drop}
 use Names.{length-drop, take_all, sum_by-cons, length-chunk, get_or-chunk, trailing_mask_l}
-use Names.{none_from_empty_mask, one-add, count_trailing_zeros, mask_l, shr-shr, Cell, END, kept_at, next_at}
-use Names.{AreTaken, bare_cell, begins, lanes_of}
+use Names.{none_from_empty_mask, one-add, count_trailing_zeros, mask_l, shr-shr, Cell, kept_at}
+use Names.{bare_cell, lanes_of}
 
 module _ {X : Type 0} (p : X → Bool) where
   -- the first element that passes is the one at r, and the elements after it have the rest of the mask
@@ -162,7 +162,7 @@ module _ {N : Type 0} where
   -- if the mask of a group's free cells is empty, each cell of the group has a node
   pub all_taken : (cells : List (Cell N)) (base : ℕ) → base + 16 ≤ length cells
       → mask_l (map (λ c. is_none c.kept) (lanes_of cells base)) ≡ 0
-      → AreTaken cells base
+      → (at : ℕ) → base ≤ at → at < base + 16 → IsSome (kept_at cells at)
   all_taken cells base room empty at from to =
       some_by (kept_at cells at)
       (none_from_empty_mask (λ (c : Cell N). is_none c.kept) cells base 16 bare_cell room empty at from to)
@@ -199,20 +199,3 @@ module _ {N : Type 0} where
       none_by : {A : Type 0} (o : Option A) → is_none o ≡ true → o ≡ None
       none_by None e = refl
       none_by (Some x) e = absurd (true≢false (sym e))
-
-  -- the lowest bit of the mask of the buckets at which chains begin is that of such a bucket
-  pub first_begin : (cells : List (Cell N)) (base : ℕ) → base + 16 ≤ length cells
-      → (mask_l (map begins (lanes_of cells base)) ≡ 0 → ⊥)
-      → let at = base + count_trailing_zeros 64 (mask_l (map begins (lanes_of cells base))) in
-      (base ≤ at) × (at < base + 16) × (next_at cells at ≢ END)
-  first_begin cells base room some =
-      let h = hit room (all cells base begins) some in
-      (omega arith, h.to, λ e. true≢false (sym h.here ∙ ap not (eq-eqb _ END e)))
-
-  -- if it is empty, no bucket of the group has a chain
-  pub none_begin : (cells : List (Cell N)) (base : ℕ) → base + 16 ≤ length cells
-      → mask_l (map begins (lanes_of cells base)) ≡ 0
-      → (b : ℕ) → base ≤ b → b < base + 16 → next_at cells b ≡ END
-  none_begin cells base room empty b from to =
-      eqb-true (next_at cells b) END
-      (not-false _ (none_from_empty_mask begins cells base 16 bare_cell room empty b from to))

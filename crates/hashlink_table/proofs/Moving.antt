@@ -1,120 +1,167 @@
--- The slots: a node is put into one or taken out of one, and the first node of a chain moves there.
+-- The nodes stay where a search looks for them: a node is put into a slot or taken out of one, as a guest or
+-- not.
 use Rattle.hashlink_table.proofs.Names
-use Names.{◌≡◌, ◌≢◌, ℕ, ◌+◌, ◌-◌, ◌%◌, ◌<◌, ◌≤◌, ◌⊎◌, inl, inr, List, ◌∷◌, ◌++◌, length, get_or, is_some, set}
-use Names.{IsSome, Option, None, Some, refl, sym, ap, ◌∙◌, subst, arith, IsPermutation, cases_eq, length-map}
-use Names.{length-set, IsPermutation-sym, IsPermutation-trans, IsPermutation-middle}
-use Names.{IsPermutation-append_left, IsPermutation-append_right, map-set_same, Hashed, Cell, END, kept_at}
-use Names.{next_at, chain_at, links_of, nodes_in, with_node, stored_in, AreGrouped, AreTaken, IsArranged}
-use Names.{IsLinked, SameNodes, bare_cell}
-use Rattle.hashlink_table.proofs.Linking.{kept_at-set, kept_at-set_other, next_at-set_other, within_by_kept}
-use Rattle.hashlink_table.proofs.{Names.with_next, Linking.kept-same, Nodes.{nodes_in-set, nodes_in-same}}
-use Rattle.hashlink_table.proofs.Walks.{walk_of}
-use Rattle.std.proofs.Math.ListN.{get_or-map}
+use Names.{◌≡◌, ◌≢◌, ℕ, ◌+◌, ◌*◌, ◌%◌, ◌/◌, ◌^◌, ◌<◌, ◌≤◌, inl, inr, List, ◌∷◌, length, get_or, set, IsSome}
+use Names.{Option}
+use Names.{None, Some, false, refl, sym, ap, ◌∙◌, subst, arith, max, IsPermutation, cases_eq, length-map}
+use Names.{length-set, get_or-set_same, get_or-set_other, same_Some, bit_at, Hashed, Cell, Head, END, kept_at}
+use Names.{next_at, own_at, own_of, guest_at, guest_of, chain_at, chain_of, first_at, links_of, mask_at}
+use Names.{nodes_in}
+use Names.{with_node, AreGrouped, IsArranged, IsLinkedBut, IsCovered, SameNodes, SameMasks, bare_cell}
+use Names.{no_guests}
+use Names.{mask_bit_of, with_guest_in, true}
+use Rattle.hashlink_table.proofs.Linking.{at-set, at-set_other, linked-same, linked-put, linked-freed}
+use Rattle.hashlink_table.proofs.Linking.{none_guest}
+use Rattle.hashlink_table.proofs.Linking.{guest_kept, within_kept, stored-same, guest-same, own-same}
+use Rattle.hashlink_table.proofs.Linking.{same_length}
+use Rattle.hashlink_table.proofs.{Nodes.{nodes_in-set, nodes_in-full}, Threads.begun}
+use Rattle.std.specs.Prelude.{bit_or}
+use Rattle.std.proofs.lemmas.Nat.Bits.{bit_at_or, bit_at-pow_same, bit_at-lt}
+
+-- the group of a guest is among the groups
+pub group_low : (hash m : ℕ) → 0 < m → m % 16 ≡ 0 → hash % m / 16 < m / 16
+group_low hash m some whole = omega (arith, some, whole)
+
+-- a mask with one more bit has that bit, and those that it had
+mask_has : (mask bit : ℕ) → bit_at (bit_or mask (2 ^ bit)) bit ≡ 1
+mask_has mask bit =
+    omega (arith, bit_at_or mask (2 ^ bit) bit, bit_at-pow_same bit, bit_at-lt mask bit)
+
+mask_keeps : (mask more bit : ℕ) → bit_at mask bit ≡ 1 → bit_at (bit_or mask more) bit ≡ 1
+mask_keeps mask more bit has = omega (arith, bit_at_or mask more bit, has, bit_at-lt more bit)
+
+-- the mask of a chain after a write
+mask_at-set_same : (heads : List Head) (b : ℕ) (h : Head) → b < length heads
+    → mask_at (set heads b h) b ≡ h.mask
+mask_at-set_same heads b h low = ap (λ (g : Head). g.mask) (get_or-set_same heads b h no_guests low)
+
+mask_at-set_other : (heads : List Head) (b c : ℕ) (h : Head) → c ≢ b
+    → mask_at (set heads b h) c ≡ mask_at heads c
+mask_at-set_other heads b c h ne = ap (λ (g : Head). g.mask) (get_or-set_other heads b c h no_guests ne)
 
 module _ {N : Type 0} where
-  -- a cell with a node is in the list
-  pub within_kept : (cells : List (Cell N)) (i : ℕ) (k : Hashed N) → kept_at cells i ≡ Some k
-      → i < length cells
-  within_kept cells i k is = within_by_kept cells i (ap is_some is)
+  -- the nodes after a write: the new one is added, and the old one is gone
+  pub nodes-written : (f : List (Cell N)) (i : ℕ) (d : Cell N) (o p : Option (Hashed N)) → i < length f
+      → d.kept ≡ o → kept_at f i ≡ p
+      → IsPermutation (with_node o (nodes_in f)) (with_node p (nodes_in (set f i d)))
+  nodes-written f i d o p low new old =
+      subst (λ q. IsPermutation (with_node q (nodes_in f)) (with_node p (nodes_in (set f i d)))) new
+      (subst (λ q. IsPermutation (with_node d.kept (nodes_in f)) (with_node q (nodes_in (set f i d)))) old
+      (nodes_in-set f i d low))
 
-  pub same_length : (f g : List (Cell N)) → SameNodes f g → length g ≡ length f
-  same_length f g same = sym (length-map g stored_in) ∙ ap length same ∙ length-map f stored_in
+  -- if there are fewer nodes than slots, not each slot has a node
+  pub not_full : (f : List (Cell N)) → length (nodes_in f) < length f
+      → ((i : ℕ) → i < length f → IsSome (kept_at f i)) → ⊥
+  not_full f fewer all = omega (arith, fewer, nodes_in-full f all)
 
-  -- the slots keep their nodes, and only buckets of full groups have chains
-  pub arranged-same : (f g : List (Cell N)) {cells : List (Cell N)} {free : ℕ} (later : List (Cell N))
-      (now : ℕ) → SameNodes f g → IsArranged f cells free → IsLinked g later now
-      → ((b : ℕ) → b < length f → next_at g b ≢ END → AreTaken f (b - b % 16))
-      → IsArranged g later now
-  arranged-same f g later now same a linked full =
-      let n = same_length f g same in
-      record {
-        linked = linked;
-        in_place = λ at k is. rw n (a.in_place at k (sym (kept-same f g same at) ∙ is));
-        filled = λ b low ne at from to. subst IsSome (sym (kept-same f g same at))
-            (full b (omega (arith, low, n)) ne at from to);
-      }
-
-  -- a write to a slot keeps its link: the slot has a node of its group then, or no bucket of the group has a
-  -- chain
-  pub arranged-set : {f cells : List (Cell N)} {free : ℕ} (i : ℕ) (d : Cell N) → i < length f
-      → d.next ≡ next_at f i → IsArranged f cells free
-      → ((k : Hashed N) → d.kept ≡ Some k → AreGrouped (k.hash % length f) i)
-      → IsSome d.kept ⊎ ((b : ℕ) → i - i % 16 ≤ b → b < i - i % 16 + 16 → next_at f b ≡ END)
-      → IsArranged (set f i d) cells free
-  arranged-set {f} {cells} {free} i d low next a grouped some =
-      let n = length-set f i d in
-      let links : links_of (set f i d) ≡ links_of f
-      = map-set_same (λ (c : Cell N). c.next) f i d bare_cell next in
-      record {
-        linked = rw (links, n) a.linked;
-        in_place = λ at k is. rw n (elim (cases_eq at i) as (λ _. AreGrouped (k.hash % length f) at) [
+  module _ {f : List (Cell N)} {heads : List Head} (a : IsArranged f heads) (i : ℕ) (d : Cell N)
+      (low : i < length f) where
+    -- a node that is no guest after the write is in its group if it was before
+    place-set : ((k : Hashed N) → own_of d ≡ Some k → AreGrouped (k.hash % length f) i)
+        → (at : ℕ) (k : Hashed N) → own_at (set f i d) at ≡ Some k
+        → AreGrouped (k.hash % length (set f i d)) at
+    place-set grouped at k is =
+        rw (length-set f i d) (elim (cases_eq at i) as (λ _. AreGrouped (k.hash % length f) at) [
           | inl e ↦ subst (AreGrouped (k.hash % length f)) (sym e)
-              (grouped k (sym (kept_at-set f i d low) ∙ ap (kept_at (set f i d)) (sym e) ∙ is))
-          | inr ne ↦ a.in_place at k (sym (kept_at-set_other f i d at ne) ∙ is)
-        ]);
-        filled = λ b h ne at from to.
-            let begun : next_at (set f i d) b ≡ next_at f b
-            = sym (get_or-map (λ (c : Cell N). c.next) (set f i d) b bare_cell)
-            ∙ ap (λ ls. get_or ls b END) links ∙ get_or-map (λ (c : Cell N). c.next) f b bare_cell in
-            elim (cases_eq at i) as (λ _. IsSome (kept_at (set f i d) at)) [
-              | inl e ↦ rw (e, kept_at-set f i d low) (elim some as (λ _. IsSome d.kept) [
-                | inl is ↦ is
-                | inr none ↦ absurd (ne (begun ∙ none b (omega (arith, e, from, to))
-                    (omega (arith, e, from, to))))
-              ])
-              | inr apart ↦ subst IsSome (sym (kept_at-set_other f i d at apart))
-                  (a.filled b (omega (arith, h, n)) (λ e. ne (begun ∙ e)) at from to)
-            ];
-      }
+              (grouped k (sym (at-set f i d (λ (c : Cell N). own_of c) low)
+              ∙ ap (own_at (set f i d)) (sym e) ∙ is))
+          | inr ne ↦ a.in_place at k (sym (at-set_other f i d (λ (c : Cell N). own_of c) at ne) ∙ is)
+        ])
 
-  -- the nodes after a write to a slot: the new one is added, and the old one is gone
-  pub set-nodes : (f : List (Cell N)) (i : ℕ) (d : Cell N) (over : List (Hashed N)) (o p : Option (Hashed N))
-      → i < length f → d.kept ≡ o → kept_at f i ≡ p
-      → IsPermutation (with_node o (nodes_in f ++ over)) (with_node p (nodes_in (set f i d) ++ over))
-  set-nodes f i d over o p low new old =
-      rw (with_more o (nodes_in f), with_more p (nodes_in (set f i d)), ← new, ← old)
-      (IsPermutation-append_left over _ _ (nodes_in-set f i d low))
-    where
-      with_more : (o : Option (Hashed N)) (ks : List (Hashed N))
-          → with_node o (ks ++ over) ≡ with_node o ks ++ over
-      with_more None ks = refl
-      with_more (Some k) ks = refl
+    -- a write to a cell that has no guest before and after
+    pub arranged-set : d.next ≡ next_at f i → guest_of d ≡ None → guest_at f i ≡ None
+        → ((k : Hashed N) → own_of d ≡ Some k → AreGrouped (k.hash % length f) i)
+        → IsArranged (set f i d) heads
+    arranged-set next none was grouped = record {
+      linked = linked-same f heads i d low (none ∙ sym was) next a.linked;
+      in_place = place-set grouped;
+      covered = λ at k is. rw (length-set f i d) (elim (cases_eq at i)
+          as (λ _. bit_at (mask_at heads (k.hash % length f / 16)) (mask_bit_of k.hash) ≡ 1) [
+            | inl e ↦ absurd (cc (sym none ∙ sym (at-set f i d (λ (c : Cell N). guest_of c) low)
+                ∙ ap (guest_at (set f i d)) (sym e) ∙ is))
+            | inr ne ↦ a.covered at k (sym (at-set_other f i d (λ (c : Cell N). guest_of c) at ne) ∙ is)
+          ]);
+      paired = a.paired ∙ ap (λ n. n / 16) (sym (length-set f i d));
+    }
 
-  -- the link of a slot leads to a cell of the bucket's chain, or to the end
-  pub follower_on : (slots cells : List (Cell N)) (free b at : ℕ) → IsLinked slots cells free
-      → b < length slots → next_at slots b ≡ at → at ≢ END
-      → chain_at (length slots) cells at ≡ b
-  follower_on slots cells free b at t low is ne =
-      ap (chain_at (length slots) cells) (sym is)
-      ∙ (walk_of slots cells free b t low).link.on (λ e. ne (sym is ∙ e))
+  -- a guest is put into a free slot
+  module _ {f : List (Cell N)} {heads : List Head} (a : IsArranged f heads) (i b : ℕ) (d : Cell N) (h : Head)
+      (k : Hashed N) (low : i < length f) (small : length f ≤ END) (free : kept_at f i ≡ None)
+      (group : b < length heads) (home : b ≡ k.hash % length f / 16)
+      (is : d ≡ record { kept = Some k; guest = true; next = first_at heads b })
+      (head : h ≡ with_guest_in (get_or heads b no_guests) k.hash i) where
+    -- the mask of a chain still has a bit that it had
+    mask-set : (c bit : ℕ) → bit_at (mask_at heads c) bit ≡ 1 → bit_at (mask_at (set heads b h) c) bit ≡ 1
+    mask-set c bit has = elim (cases_eq c b) as (λ _. bit_at (mask_at (set heads b h) c) bit ≡ 1) [
+      | inl e ↦ rw (e, mask_at-set_same heads b h group, head)
+          (mask_keeps (mask_at heads b) (2 ^ mask_bit_of k.hash) bit (rw e at has))
+      | inr ne ↦ rw (mask_at-set_other heads b c h ne) has
+    ]
 
-  -- all nodes, after one was taken out of an overflow cell or put into one
-  pub overflow-taken : (slots later : List (Cell N)) (ks js : List (Hashed N)) (k : Hashed N)
-      → SameNodes slots later → IsPermutation ks (k ∷ js)
-      → IsPermutation (nodes_in slots ++ ks) (k ∷ nodes_in later ++ js)
-  overflow-taken slots later ks js k same p =
-      rw (nodes_in-same slots later same)
-      (IsPermutation-trans _ _ _ (IsPermutation-append_right (nodes_in slots) _ _ p)
-      (IsPermutation-middle (nodes_in slots) k js))
+    pub arranged-lodged : IsArranged (set f i d) (set heads b h)
+    arranged-lodged =
+        let guest : guest_of d ≡ Some k = ap (λ (c : Cell N). guest_of c) is in
+        record {
+          linked =
+              linked-put f heads b i d h group (omega (arith, a.paired)) low small (none_guest f i free)
+              (ap (λ (c : Cell N). c.next) is)
+              (ap (chain_of (length f)) guest ∙ sym home) (ap (λ (g : Head). g.first) head) a.linked;
+          in_place = place-set a i d low (λ j own. absurd (cc (sym (ap (λ (c : Cell N). own_of c) is) ∙
+              own)));
+          covered = λ at j there. rw (length-set f i d) (elim (cases_eq at i)
+              as (λ _. bit_at (mask_at (set heads b h) (j.hash % length f / 16)) (mask_bit_of j.hash) ≡ 1) [
+                | inl e ↦
+                    let same : k ≡ j
+                    = same_Some k j (sym guest ∙ sym (at-set f i d (λ (c : Cell N). guest_of c) low)
+                    ∙ ap (guest_at (set f i d)) (sym e) ∙ there) in
+                    rw (← same, ← home, mask_at-set_same heads b h group, head)
+                    (mask_has (mask_at heads b) (mask_bit_of k.hash))
+                | inr ne ↦ mask-set _ _
+                    (a.covered at j (sym (at-set_other f i d (λ (c : Cell N). guest_of c) at ne) ∙ there))
+              ]);
+          paired = length-set heads b h ∙ a.paired ∙ ap (λ n. n / 16) (sym (length-set f i d));
+        }
 
-  pub overflow-put : (slots later : List (Cell N)) (ks js : List (Hashed N)) (k : Hashed N)
-      → SameNodes slots later → IsPermutation (k ∷ ks) js
-      → IsPermutation (k ∷ nodes_in slots ++ ks) (nodes_in later ++ js)
-  overflow-put slots later ks js k same p =
-      rw (nodes_in-same slots later same)
-      (IsPermutation-trans _ _ _ (IsPermutation-sym _ _ (IsPermutation-middle (nodes_in slots) k ks))
-      (IsPermutation-append_right (nodes_in slots) _ _ p))
+  -- a guest that was taken out of its chain is taken out of its slot
+  module _ {f : List (Cell N)} {heads : List Head} (a : IsArranged f heads) (g : List (Cell N))
+      (more : List Head) (i : ℕ) (d : Cell N) (whole : length f % 16 ≡ 0) (low : i < length f)
+      (same : SameNodes f g) (masks : SameMasks heads more) (cut : IsLinkedBut g more i)
+      (next : d.next ≡ next_at g i) (none : d.kept ≡ None) (own : d.guest ≡ false) where
+    long : length g ≡ length f
+    long = same_length f g same
 
-  -- the chain of a bucket has another first link
-  pub next-same : (f : List (Cell N)) (b to : ℕ) → SameNodes f (with_next f b to)
-  next-same f b to = map-set_same stored_in f b _ bare_cell refl
-
-  pub next-others : (f : List (Cell N)) (b to a : ℕ) → a ≢ b → next_at (with_next f b to) a ≡ next_at f a
-  next-others f b to a ne = next_at-set_other f b _ a ne
-
-  pub next-begun : (f : List (Cell N)) (b to a : ℕ) → next_at f b ≢ END → next_at (with_next f b to) a ≢ END
-      → next_at f a ≢ END
-  next-begun f b to a was ne = elim (cases_eq a b) as (λ _. next_at f a ≢ END) [
-    | inl e ↦ λ q. was (ap (next_at f) (sym e) ∙ q)
-    | inr apart ↦ λ q. ne (next-others f b to a apart ∙ q)
-  ]
+    pub arranged-freed : IsArranged (set g i d) more
+    arranged-freed =
+        let here : i < length g = omega (arith, low, long) in
+        let no_guest : guest_of d ≡ None = rw own refl in
+        let no_own : own_of d ≡ None = rw (own, none) refl in
+        let linked = linked-freed g more i d here next no_guest cut in
+        record {
+          linked = linked;
+          in_place = λ at k is. rw (length-set g i d, long)
+              (elim (cases_eq at i) as (λ _. AreGrouped (k.hash % length f) at) [
+                | inl e ↦ absurd (cc (sym no_own ∙ sym (at-set g i d (λ (c : Cell N). own_of c) here)
+                    ∙ ap (own_at (set g i d)) (sym e) ∙ is))
+                | inr ne ↦ a.in_place at k (sym (own-same f g same at)
+                    ∙ sym (at-set_other g i d (λ (c : Cell N). own_of c) at ne) ∙ is)
+              ]);
+          covered = λ at k is.
+              let n = length-set g i d in
+              let was : at ≢ i → guest_at f at ≡ Some k
+              = λ ne. sym (guest-same f g same at)
+              ∙ sym (at-set_other g i d (λ (c : Cell N). guest_of c) at ne) ∙ is in
+              let b = k.hash % length f / 16 in
+              rw (n, long) (elim (cases_eq at i) as (λ _. bit_at (mask_at more b) (mask_bit_of k.hash) ≡ 1) [
+                | inl e ↦ absurd (cc (sym no_guest ∙ sym (at-set g i d (λ (c : Cell N). guest_of c) here)
+                    ∙ ap (guest_at (set g i d)) (sym e) ∙ is))
+                | inr ne ↦
+                    let group : b < length more
+                    = omega (arith, masks.0, a.paired, group_low k.hash (length f) (omega (arith, low)) whole)
+                    in
+                    let chain = linked b (omega (arith, group, length-map more (λ (h : Head). h.first))) in
+                    let on : chain_at (length (set g i d)) (set g i d) at ≡ b
+                    = ap (chain_of (length (set g i d))) is ∙ ap (λ m. k.hash % m / 16) (n ∙ long) in
+                    rw (masks.1 b (begun chain at on)) (a.covered at k (was ne))
+              ]);
+          paired = masks.0 ∙ a.paired ∙ ap (λ m. m / 16) (sym (length-set g i d ∙ long));
+        }

@@ -1,16 +1,21 @@
 -- The names that many proofs of this crate import.
-pub use Rattle.hashlink_table.specs.Chains.{AreGrouped, AreSizes, AreTaken, IsArranged, IsChain, IsLink}
-pub use Rattle.hashlink_table.specs.Chains.{Ranks, IsFilled, IsInPlace, IsLinked, IsLinkedBut, IsPlaced}
-pub use Rattle.hashlink_table.specs.Chains.{IsSound, IsThreaded, SameNodes, chain_at, chain_of, contents}
-pub use Rattle.hashlink_table.specs.Chains.{kept_at, kept_by, links_of, next_at, nodes_in, stored_in}
-pub use Rattle.hashlink_table.specs.Slots.{AreSlots, IsStored, IsTagged, Row, begins, cells_in, doubled}
-pub use Rattle.hashlink_table.specs.Slots.{flag_of, high_half, high_kept, kept_may_be, lanes_of, low_half}
-pub use Rattle.hashlink_table.specs.{Chains.with_node, Stored.{bare_cell, tag_of}}
+pub use Rattle.hashlink_table.specs.Chains.{AreGrouped, AreSizes, IsArranged, IsChain, IsCovered, IsInPlace}
+pub use Rattle.hashlink_table.specs.Chains.{IsLink, IsLinked, IsLinkedBut, IsSound, IsThreaded, Ranks}
+pub use Rattle.hashlink_table.specs.Chains.{SameMasks, SameNodes, bucket_in, cell_at, chain_at, chain_of}
+pub use Rattle.hashlink_table.specs.Chains.{contents}
+pub use Rattle.hashlink_table.specs.Chains.{first_at, guest_at, guest_of, guests_in, kept_at, links_of}
+pub use Rattle.hashlink_table.specs.Chains.{mask_at, next_at, nodes_in, own_at, own_of, stored_in, with_node}
+pub use Rattle.hashlink_table.specs.Slots.{AreSlots, Grid, IsStored, IsTagged, Row, bare_grid, cells_in}
+pub use Rattle.hashlink_table.specs.Slots.{doubled, empty_block, grid_in, high_half, high_kept, kept_may_be}
+pub use Rattle.hashlink_table.specs.Slots.{lanes_of, low_half, low_kept, may_be, parted, slot, widened}
+pub use Rattle.hashlink_table.specs.Slots.{with_guest, with_kept, with_next, without_kept}
+pub use Rattle.hashlink_table.specs.Blocks.{Block, block_of, free_mark, has_guest, has_own, heads_in, is_free}
+pub use Rattle.hashlink_table.specs.Blocks.{is_guest, is_taken, mark_of, marks_in}
+pub use Rattle.hashlink_table.specs.Stored.{bare_cell, mask_bit_of, no_guests, tag_of, with_guest_in}
 pub use Rattle.hashlink_table.specs.Contents.{AreBuckets, CanAsk, Contents, agreeing, len_of}
-pub use Rattle.hashlink_table.specs.Slots.{low_kept, may_be, parted, slot, with_kept, with_next, without_kept}
 pub use Rattle.hashlink_table.specs.declared.{hashed.Hashed.Hashed, store.cell.Cell.Cell}
-pub use Rattle.hashlink_table.specs.declared.store.{cell.TheConstants.END, slots.Rest.Rest, spot.Spot.Spot}
-pub use Rattle.hashlink_table.specs.declared.store.spot.Spot.TheVariants.{Overflow, Slot}
+pub use Rattle.hashlink_table.specs.declared.store.{cell.TheConstants.END, head.Head.Head}
+pub use Rattle.hashlink_table.specs.declared.store.{mark.Mark.Mark, slots.Rest.Rest}
 pub use Rattle.std.proofs.Common.{Bool, Global, IsSome, List, None, Option, Some, Vec, [], ap, append_assoc}
 pub use Rattle.std.proofs.Common.{arith, bit_and, cond, count_by, drop, eqb, false, get_or, inl, inr, is_some}
 pub use Rattle.std.proofs.Common.{length, ltb, map, max, not, refl, replicate, rules, set, slice_index_or}
@@ -36,7 +41,10 @@ pub use Rattle.std.proofs.lemmas.List.{Elements.Contains-append_right, Sorted.le
 pub use Rattle.std.proofs.lemmas.List.Sums.{count_by-le-length, sum_by-append, sum_by-cons, sum_by-set}
 pub use Rattle.std.proofs.lemmas.{Nat.{and_mask, mod_below, pow-add, pow_pos}, Nat.Gcd.dvd_of_mod-eq-zero}
 pub use Rattle.std.proofs.lemmas.Simd.{none_from_empty_mask, splat_is_map, trailing_mask_l}
-pub use Rattle.std.specs.{Int.IsPowerOfTwo, List.{All, prefix_len}, Simd.Lanes.chunk, Vec.with_items}
+pub use Rattle.std.specs.Int.{IsPowerOfTwo, bit_at}
+pub use Rattle.std.specs.List.{All, prefix_len}
+pub use Rattle.std.specs.Simd.Lanes.{chunk}
+pub use Rattle.std.specs.Vec.{with_items}
 pub use Rattle.std.specs.Prelude.{Contains, IfSome, IsPermutation, is_none}
 pub use lib.{Bits.and_high, Count.count_trailing_zeros, Lanes.mask_l, Pow.{mod-pow-add, shr-shr}}
 pub use native.Mathlib.Numerals.{one-add}

@@ -1,7 +1,8 @@
 -- The nodes of a list of cells: after a write, one by one, and in a loop that inserts them.
 use Rattle.hashlink_table.proofs.Names
 use Names.{◌≡◌, ℕ, zero, suc, ◌+◌, ◌<◌, ◌≤◌, List, [], ◌∷◌, ◌++◌, length, get_or, set, replicate, take, drop}
-use Names.{true, Option, Some, None, is_some, refl, sym, ap, ◌∙◌, subst, arith, append_assoc, Contains}
+use Names.{true, Bool, guest_at, guest_of, guests_in, Option, Some, None, is_some, refl, sym, ap, ◌∙◌, subst}
+use Names.{arith, append_assoc, Contains}
 use Names.{IsPermutation, take_more, take-append-drop, length-append, IsPermutation-refl, IsPermutation-trans}
 use Names.{IsPermutation-cons, IsPermutation-middle, IsPermutation-to_front, Hashed, Cell, kept_at, stored_in}
 use Names.{with_node, nodes_in, SameNodes, bare_cell, append-nil, length_push, length_permutation, Contents}
@@ -36,14 +37,6 @@ module _ {N : Type 0} where
       (IsPermutation-trans _ _ _ (with_permuted x.kept _ _ rest)
       (with_exchanged x.kept (kept_at xs i) (nodes_in (set xs i c))))
 
-  -- one more cell
-  pub nodes_in-push : (cells : List (Cell N)) (c : Cell N)
-      → IsPermutation (with_node c.kept (nodes_in cells)) (nodes_in (cells ++ c ∷ []))
-  nodes_in-push [] c = IsPermutation-refl _
-  nodes_in-push (x ∷ xs) c =
-      IsPermutation-trans _ _ _ (with_exchanged c.kept x.kept (nodes_in xs))
-      (with_permuted x.kept _ _ (nodes_in-push xs c))
-
   -- if each cell keeps its node, the nodes are the same
   pub nodes_in-same : (cells later : List (Cell N)) → SameNodes cells later → nodes_in later ≡ nodes_in cells
   nodes_in-same [] [] e = refl
@@ -52,7 +45,7 @@ module _ {N : Type 0} where
   nodes_in-same (x ∷ xs) (y ∷ ys) e =
       let here : stored_in y ≡ stored_in x = cc e in
       let there : SameNodes xs ys = cc e in
-      ap (λ (s : Option (Hashed N) × ℕ). with_node s.0 (nodes_in ys)) here
+      ap (λ (s : Option (Hashed N) × Bool). with_node s.0 (nodes_in ys)) here
       ∙ ap (with_node x.kept) (nodes_in-same xs ys there)
 
   pub nodes_in-append : (cells more : List (Cell N)) → nodes_in (cells ++ more)
@@ -76,6 +69,22 @@ module _ {N : Type 0} where
       let all = ap nodes_in (sym (take-append-drop i cells)) ∙ nodes_in-append (take i cells)
       (drop i cells) in
       omega (arith, ap length all, length-append (nodes_in (take i cells)) (nodes_in (drop i cells)))
+
+  -- the guests of the first cells and of one more
+  guests_in-append : (cells more : List (Cell N)) → guests_in (cells ++ more)
+      ≡ guests_in cells ++ guests_in more
+  guests_in-append [] more = refl
+  guests_in-append (x ∷ xs) more =
+      let rest = guests_in-append xs more in
+      elim (guest_of x) as
+      (λ k. with_node k (guests_in (xs ++ more)) ≡ with_node k (guests_in xs) ++ guests_in more)
+      [ None ↦ rest | Some k ↦ ap (λ ks. k ∷ ks) rest ]
+
+  pub guests_in-more_at : (cells : List (Cell N)) (i : ℕ) → i < length cells
+      → guests_in (take (i + 1) cells) ≡ guests_in (take i cells) ++ with_node (guest_at cells i) []
+  guests_in-more_at cells i h =
+      ap guests_in (take_more cells i bare_cell h)
+      ∙ guests_in-append (take i cells) (get_or cells i bare_cell ∷ [])
 
   -- a node was inserted after others
   pub inserted-more : (old done now later : List (Hashed N)) (k : Hashed N) → IsPermutation (old ++ done) now
@@ -172,3 +181,11 @@ module _ {N : Type 0} (cells : List (Cell N)) (count : ℕ) (low : count < lengt
 
   pub next_none : o ≡ None → nodes_in (take (count + 1) cells) ≡ nodes_in (take count cells)
   next_none e = next_in None e ∙ append-nil (nodes_in (take count cells))
+
+-- the guests of the first cells and of one more, whose guest, if any, is the last
+pub next_guest : {N : Type 0} (cells : List (Cell N)) (count : ℕ) (o p : Option (Hashed N)) → count < length
+    cells
+    → o ≡ guest_at cells count → o ≡ p
+    → guests_in (take (count + 1) cells) ≡ guests_in (take count cells) ++ with_node p []
+next_guest cells count o p low at e =
+    guests_in-more_at cells count low ∙ ap (λ q. guests_in (take count cells) ++ with_node q []) (sym at ∙ e)

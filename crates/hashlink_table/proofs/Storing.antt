@@ -1,11 +1,16 @@
 -- The slots, from what is stored to what contracts see.
 use Rattle.hashlink_table.proofs.Names
-use Names.{◌≡◌, ℕ, zero, suc, ◌<◌, ◌≤◌, inl, inr, Bool, true, false, cond, ◌++◌, eqb, List, [], ◌∷◌, length}
+use Names.{◌≡◌, ℕ, zero, suc, ◌<◌, ◌≤◌, inl, inr, Bool, true, false, cond, ◌++◌, ◌∷◌, eqb, List, [], length}
 use Names.{map, take, drop, get_or, set, replicate, Some, None, refl, sym, ap, ◌∙◌, subst, arith, is_none}
-use Names.{IfSome, All, chunk, ne_eqb, false≢true, get_or-map, length-map, map-append, map-id, map-set}
+use Names.{is_some, IfSome, All, chunk, false≢true, true≢false, get_or-map, length-map, map-append, map-id}
+use Names.{map-set}
 use Names.{set-get_or, take-map, drop-map, All-append, All-get_or, All-head, All-map, All-set, All-tail}
-use Names.{map-map, splat_is_map, Hashed, Cell, END, Rest, kept_at, next_at, bare_cell, tag_of, slot}
-use Names.{cells_in, may_be, with_kept, with_next, without_kept, IsStored, IsTagged, Row}
+use Names.{map-map, splat_is_map, Hashed, Cell, END, Rest, kept_at, next_at, own_at, own_of, guest_at}
+use Names.{guest_of}
+use Names.{bare_cell, tag_of, slot, cells_in, may_be, kept_may_be, with_guest, with_kept, with_next}
+use Names.{without_kept, IsStored, IsTagged, Row, Option, Mark, free_mark, has_guest, has_own, is_free}
+use Names.{is_guest}
+use Names.{is_taken}
 use Rattle.std.specs.{Prelude.IsSome, Simd.Lanes.mask_l}
 
 -- what a bare slot stores besides its node
@@ -23,79 +28,117 @@ pub map-chunk : {X : Type 0} (f : X → Bool) (base : ℕ) (xs : List X)
     → chunk base 16 (map f xs) ≡ map f (chunk base 16 xs)
 map-chunk f base xs = ap (take 16) (drop-map f base xs) ∙ take-map f 16 (drop base xs)
 
--- a tag is not 0
-tag_some : (hash : ℕ) → eqb (tag_of hash) 0 ≡ false
-tag_some hash = ne_eqb (tag_of hash) 0 (λ e. omega (arith, e))
-
 module _ {N : Type 0} where
   -- the lists store these cells
-  abbrev pub AreCells : List ℕ → List N → List Rest → List (Cell N) → Type 0
+  abbrev pub AreCells : List Mark → List N → List Rest → List (Cell N) → Type 0
   AreCells ts ns rs v = IsTagged ts ns rs × (cells_in ts ns rs ≡ v)
 
   zipped : (rows : List (Row N))
-      → cells_in (map (λ row. row.tag) rows) (map (λ row. row.node) rows) (map (λ row. row.rest) rows)
+      → cells_in (map (λ row. row.mark) rows) (map (λ row. row.node) rows) (map (λ row. row.rest) rows)
       ≡ map slot rows
   zipped [] = refl
   zipped (row ∷ rows) = ap (λ rest. slot row ∷ rest) (zipped rows)
 
   -- lists that are the parts of a list of rows store the cells of the rows
-  by_rows : (rows : List (Row N)) (ts : List ℕ) (ns : List N) (rs : List Rest) (v : List (Cell N))
-      → All IsStored rows → ts ≡ map (λ row. row.tag) rows → ns ≡ map (λ row. row.node) rows
+  by_rows : (rows : List (Row N)) (ts : List Mark) (ns : List N) (rs : List Rest) (v : List (Cell N))
+      → All IsStored rows → ts ≡ map (λ row. row.mark) rows → ns ≡ map (λ row. row.node) rows
       → rs ≡ map (λ row. row.rest) rows → v ≡ map slot rows
       → AreCells ts ns rs v
   by_rows rows ts ns rs v stored tags nodes rests cells = (
-    record { rows = rows; tags = tags; nodes = nodes; rests = rests; stored = stored },
+    record { rows = rows; marks = tags; nodes = nodes; rests = rests; stored = stored },
     rw (tags, nodes, rests, cells) (zipped rows),
   )
 
   -- n bare cells
   pub bare_cells : (ns : List N) (a b n : ℕ) → length ns ≡ n → a ≡ n → b ≡ n
-      → AreCells (replicate a 0) ns (replicate b bare) (replicate n bare_cell)
+      → AreCells (replicate a free_mark) ns (replicate b bare) (replicate n bare_cell)
   bare_cells ns a b n long tags rests =
-      let row : N → Row N = λ m. record { tag = 0; node = m; rest = bare } in
+      let row : N → Row N = λ m. record { mark = free_mark; node = m; rest = bare } in
       by_rows (map row ns) _ _ _ _
-      (All-map IsStored row ns (λ k d low. record { tagged = inl refl; small = omega arith }))
-      (splat_is_map ns a 0 (long ∙ sym tags) ∙ sym (map-map (λ (r : Row N). r.tag) row ns))
+      (All-map IsStored row ns (λ k d low. record {
+        tagged = λ e. absurd (false≢true e);
+        small = omega arith;
+      }))
+      (splat_is_map ns a free_mark (long ∙ sym tags) ∙ sym (map-map (λ (r : Row N). r.mark) row ns))
       (sym (map-map (λ (r : Row N). r.node) row ns ∙ map-id ns))
       (splat_is_map ns b bare (long ∙ sym rests) ∙ sym (map-map (λ (r : Row N). r.rest) row ns))
       (splat_is_map ns n bare_cell long ∙ sym (map-map slot row ns))
 
   -- the results of a test of tags are those of a test of cells
-  tests-cells : (p : ℕ → Bool) (q : Cell N → Bool)
-      → ((row : Row N) → IsStored row → p row.tag ≡ q (slot row))
+  tests-cells : (p : Mark → Bool) (q : Cell N → Bool)
+      → ((row : Row N) → IsStored row → p row.mark ≡ q (slot row))
       → (rows : List (Row N)) → All IsStored rows
-      → map p (map (λ row. row.tag) rows) ≡ map q (map slot rows)
+      → map p (map (λ row. row.mark) rows) ≡ map q (map slot rows)
   tests-cells p q agree [] h = refl
   tests-cells p q agree (row ∷ rows) h =
       let here = agree row (All-head IsStored row rows h) in
       let rest = tests-cells p q agree rows (All-tail IsStored row rows h) in
       cc
 
--- tests of tags that agree with tests of cells
-pub agrees_free : {N : Type 0} (row : Row N) → IsStored row
-    → eqb row.tag 0 ≡ is_none (let c : Cell N = slot row in c.kept)
-agrees_free {N} row is =
-    elim (eqb row.tag 0) as (λ b. b ≡ is_none (cond b None
-    (Some (let k : Hashed N = record { hash = row.rest.hash; node = row.node } in k))))
-    [ true ↦ refl | false ↦ refl ]
+-- a slot with a guest has a node
+pub taken_guest : {A : Type 0} (m : Mark) (o : Option A) → is_guest m ≡ true → is_taken m ≡ is_some o → IsSome
+    o
+taken_guest m o guest there =
+    let taken : is_taken m ≡ true = elim m.own
+    as (λ own. cond own false m.guest ≡ true → cond own true m.guest ≡ true)
+    [ true ↦ λ _. refl | false ↦ λ e. e ] guest in
+    sym there ∙ taken
 
-pub agrees_may_have : {N : Type 0} (hash : ℕ) (row : Row N) → IsStored row
-    → eqb row.tag (tag_of hash) ≡ may_be hash (slot row)
-agrees_may_have hash row is = elim is.tagged as (λ _. eqb row.tag (tag_of hash) ≡ may_be hash (slot row)) [
-  | inl e ↦ rw e (ne_eqb 0 (tag_of hash) (λ e. omega (arith, e)))
-  | inr e ↦ rw (e, tag_some row.rest.hash) refl
-]
+-- the node for which this is stored, if there is one
+abbrev pub node_of : {N : Type 0} → Row N → Hashed N
+node_of row = record { hash = row.rest.hash; node = row.node }
+
+-- tests of marks that agree with tests of cells
+module _ {N : Type 0} (row : Row N) (is : IsStored row) where
+  pub agrees_free : is_free row.mark ≡ is_none (let c : Cell N = slot row in c.kept)
+  agrees_free =
+      elim row.mark.own as (λ own. cond own false (cond row.mark.guest false true)
+      ≡ is_none (cond (cond own true row.mark.guest) (Some (node_of row)) None)) [
+        | true ↦ refl
+        | false ↦ elim row.mark.guest as (λ guest. cond guest false true
+            ≡ is_none (cond guest (Some (node_of row)) None)) [ true ↦ refl | false ↦ refl ]
+      ]
+
+  agrees_taken : is_taken row.mark ≡ is_some (let c : Cell N = slot row in c.kept)
+  agrees_taken =
+      elim (is_taken row.mark) as (λ b. b ≡ is_some (cond b (Some (node_of row)) None)) [
+        | true ↦ refl
+        | false
+            ↦ refl
+      ]
+
+  pub agrees_may_have : (hash : ℕ) → has_own (tag_of hash) row.mark ≡ may_be hash (slot row)
+  agrees_may_have hash = by row.mark.own row.mark.guest is.tagged
+    where
+      by : (own guest : Bool) → (cond own true guest ≡ true → row.mark.tag ≡ tag_of row.rest.hash)
+          → cond own (eqb row.mark.tag (tag_of hash)) false
+          ≡ kept_may_be hash (cond (cond own false guest) None (cond (cond own true guest) (Some (node_of
+          row)) None))
+      by true guest tagged = ap (λ t. eqb t (tag_of hash)) (tagged refl)
+      by false true tagged = refl
+      by false false tagged = refl
+
+  agrees_guest : (hash : ℕ) → has_guest (tag_of hash) row.mark ≡ kept_may_be hash (guest_of (slot row))
+  agrees_guest hash = by row.mark.own row.mark.guest is.tagged
+    where
+      by : (own guest : Bool) → (cond own true guest ≡ true → row.mark.tag ≡ tag_of row.rest.hash)
+          → cond (cond own false guest) (eqb row.mark.tag (tag_of hash)) false
+          ≡ kept_may_be hash (cond (cond own false guest) (cond (cond own true guest) (Some (node_of row))
+          None) None)
+      by true guest tagged = refl
+      by false true tagged = ap (λ t. eqb t (tag_of hash)) (tagged refl)
+      by false false tagged = refl
 
 -- the stored lists, seen as v
-module _ {N : Type 0} {ts : List ℕ} {ns : List N} {rs : List Rest} {v : List (Cell N)}
+module _ {N : Type 0} {ts : List Mark} {ns : List N} {rs : List Rest} {v : List (Cell N)}
     (h : IsTagged ts ns rs) (view : cells_in ts ns rs ≡ v) where
   cells : v ≡ map slot h.rows
-  cells = sym view ∙ (by_rows h.rows ts ns rs _ h.stored h.tags h.nodes h.rests refl).1
+  cells = sym view ∙ (by_rows h.rows ts ns rs _ h.stored h.marks h.nodes h.rests refl).1
 
   -- each list has as many elements as there are cells
   pub sizes : (length ts ≡ length v) × (length ns ≡ length v) × (length rs ≡ length v)
   sizes = (
-    long (λ row. row.tag) ts h.tags,
+    long (λ row. row.mark) ts h.marks,
     long (λ row. row.node) ns h.nodes,
     long (λ row. row.rest) rs h.rests,
   )
@@ -104,14 +147,14 @@ module _ {N : Type 0} {ts : List ℕ} {ns : List N} {rs : List Rest} {v : List (
       long f xs is = ap length is ∙ length-map h.rows f ∙ sym (ap length cells ∙ length-map h.rows slot)
 
   -- more cells after them
-  pub more_cells : (us xs : List ℕ) (ms ys : List N) (ds zs : List Rest) (w : List (Cell N))
+  pub more_cells : (us xs : List Mark) (ms ys : List N) (ds zs : List Rest) (w : List (Cell N))
       → AreCells us ms ds w → xs ≡ ts ++ us → ys ≡ ns ++ ms → zs ≡ rs ++ ds
       → AreCells xs ys zs (v ++ w)
   more_cells us xs ms ys ds zs w (k, seen) tags nodes rests =
       let later : w ≡ map slot k.rows
-      = sym seen ∙ (by_rows k.rows us ms ds _ k.stored k.tags k.nodes k.rests refl).1 in
+      = sym seen ∙ (by_rows k.rows us ms ds _ k.stored k.marks k.nodes k.rests refl).1 in
       by_rows (h.rows ++ k.rows) xs ys zs _ (All-append IsStored h.rows k.rows h.stored k.stored)
-      (both (λ row. row.tag) ts us xs h.tags k.tags tags)
+      (both (λ row. row.mark) ts us xs h.marks k.marks tags)
       (both (λ row. row.node) ns ms ys h.nodes k.nodes nodes)
       (both (λ row. row.rest) rs ds zs h.rests k.rests rests) (both slot v w _ cells later refl)
     where
@@ -120,23 +163,24 @@ module _ {N : Type 0} {ts : List ℕ} {ns : List N} {rs : List Rest} {v : List (
           → zs ≡ map f (h.rows ++ k.rows)
       both f xs ys zs is are all = cc (map-append f h.rows k.rows)
 
-  -- the results of a test of the sixteen bytes from `base` on are those of a test of the cells
-  pub group_tests : (p : ℕ → Bool) (q : Cell N → Bool)
-      → ((row : Row N) → IsStored row → p row.tag ≡ q (slot row)) → (base bits : ℕ) (bytes : List ℕ)
-      → bits ≡ mask_l (map p (chunk base 16 bytes)) → bytes ≡ ts
+  -- the results of a test of the sixteen marks from `base` on are those of a test of the cells
+  pub group_tests : (p : Mark → Bool) (q : Cell N → Bool)
+      → ((row : Row N) → IsStored row → p row.mark ≡ q (slot row)) → (base bits : ℕ) (marks : List Mark)
+      → bits ≡ mask_l (map p marks) → marks ≡ chunk base 16 ts
       → bits ≡ mask_l (map q (chunk base 16 v))
-  group_tests p q agree base bits bytes is at =
-      let same : map p bytes ≡ map q v
-      = ap (map p) (at ∙ h.tags) ∙ tests-cells p q agree h.rows h.stored ∙ ap (map q) (sym cells) in
-      is ∙ ap mask_l (sym (map-chunk p base bytes) ∙ ap (chunk base 16) same ∙ map-chunk q base v)
+  group_tests p q agree base bits marks is at =
+      let same : map p ts ≡ map q v
+      = ap (map p) h.marks ∙ tests-cells p q agree h.rows h.stored ∙ ap (map q) (sym cells) in
+      is ∙ ap mask_l (ap (map p) at ∙ sym (map-chunk p base ts) ∙ ap (chunk base 16) same ∙ map-chunk q base
+      v)
 
   -- a cell is written
-  pub written : (i : ℕ) (row : Row N) (us : List ℕ) (ms : List N) (ds : List Rest) (d : Cell N)
-      → IsStored row → us ≡ set ts i row.tag → ms ≡ set ns i row.node → ds ≡ set rs i row.rest → d ≡ slot row
+  pub written : (i : ℕ) (row : Row N) (us : List Mark) (ms : List N) (ds : List Rest) (d : Cell N)
+      → IsStored row → us ≡ set ts i row.mark → ms ≡ set ns i row.node → ds ≡ set rs i row.rest → d ≡ slot row
       → AreCells us ms ds (set v i d)
   written i row us ms ds d stored tags nodes rests is =
       by_rows (set h.rows i row) us ms ds _ (All-set IsStored h.rows i row stored h.stored)
-      (part (λ row. row.tag) ts us h.tags tags) (part (λ row. row.node) ns ms h.nodes nodes)
+      (part (λ row. row.mark) ts us h.marks tags) (part (λ row. row.node) ns ms h.nodes nodes)
       (part (λ row. row.rest) rs ds h.rests rests) (part slot v _ cells (ap (set v i) is))
     where
       part : {X : Type 0} (f : Row N → X) (xs ys : List X) → xs ≡ map f h.rows → ys ≡ set xs i (f row)
@@ -161,8 +205,8 @@ module _ {N : Type 0} {ts : List ℕ} {ns : List N} {rs : List Rest} {v : List (
     part_at f xs is d =
         ap (λ ys. get_or ys i d) is ∙ get_or-map f h.rows i here.0 d within ∙ ap f (here.1 here.0)
 
-    pub tag_at : (d : ℕ) → get_or ts i d ≡ row.tag
-    tag_at d = part_at (λ row. row.tag) ts h.tags d
+    pub mark_at : (d : Mark) → get_or ts i d ≡ row.mark
+    mark_at d = part_at (λ row. row.mark) ts h.marks d
 
     pub node_at : (d : N) → get_or ns i d ≡ row.node
     node_at d = part_at (λ row. row.node) ns h.nodes d
@@ -181,61 +225,97 @@ module _ {N : Type 0} {ts : List ℕ} {ns : List N} {rs : List Rest} {v : List (
     pub node_stays : ns ≡ set ns i row.node
     node_stays = sym (ap (set ns i) (sym (node_at row.node)) ∙ set-get_or ns i row.node)
 
-    tag_stays : ts ≡ set ts i row.tag
-    tag_stays = sym (ap (set ts i) (sym (tag_at row.tag)) ∙ set-get_or ts i row.tag)
+    mark_stays : ts ≡ set ts i row.mark
+    mark_stays = sym (ap (set ts i) (sym (mark_at row.mark)) ∙ set-get_or ts i row.mark)
 
     rest_stays : rs ≡ set rs i row.rest
     rest_stays = sym (ap (set rs i) (sym (rest_at row.rest)) ∙ set-get_or rs i row.rest)
 
-    -- a cell without a node, and one with a node
-    pub none_read : (t : ℕ) → t ≡ get_or ts i t → t ≡ 0 → None ≡ kept_at v i
-    none_read t at_t is =
-        let none : row.tag ≡ 0 = sym (at_t ∙ tag_at t) ∙ is in
-        sym (ap (λ (d : Cell N). d.kept) cell_at ∙ rw none refl)
+    -- the cell by its mark
+    pub guest_read : (t : Mark) → get_or ts i free_mark ≡ t → is_guest t ≡ (get_or v i bare_cell).guest
+    guest_read t at_t = ap is_guest (sym at_t ∙ mark_at free_mark) ∙ sym (ap (λ (d : Cell N). d.guest)
+        cell_at)
+
+    pub taken_read : (t : Mark) → get_or ts i free_mark ≡ t → is_taken t ≡ is_some (kept_at v i)
+    taken_read t at_t =
+        ap is_taken (sym at_t ∙ mark_at free_mark) ∙ agrees_taken row stored
+        ∙ sym (ap (λ (d : Cell N). is_some d.kept) cell_at)
+
+    pub may_have_guest_read : (t : Mark) → get_or ts i free_mark ≡ t → (hash : ℕ)
+        → has_guest (tag_of hash) t ≡ kept_may_be hash (guest_at v i)
+    may_have_guest_read t at_t hash =
+        ap (has_guest (tag_of hash)) (sym at_t ∙ mark_at free_mark) ∙ agrees_guest row stored hash
+        ∙ sym (ap (λ (d : Cell N). kept_may_be hash (guest_of d)) cell_at)
 
     pub kept_read : (n : N) (r : Rest) → n ≡ get_or ns i n → r ≡ get_or rs i r → IsSome (kept_at v i)
         → kept_at v i ≡ Some (record { hash = r.hash; node = n })
     kept_read n r at_n at_r some =
         let k : Hashed N = record { hash = row.rest.hash; node = row.node } in
         rw (at_r ∙ rest_at r, at_n ∙ node_at n) (ap (λ (d : Cell N). d.kept) cell_at
-        ∙ (elim (eqb row.tag 0) as (λ b. IsSome (cond b None (Some k)) → cond b None (Some k) ≡ Some k) [
-          | true ↦ λ no. absurd (false≢true no)
-          | false ↦ λ _. refl
+        ∙ (elim (is_taken row.mark) as (λ b. IsSome (cond b (Some k) None) → cond b (Some k) None ≡ Some k) [
+          | true ↦ λ _. refl
+          | false ↦ λ no. absurd (false≢true no)
         ]) (subst (λ (d : Cell N). IsSome d.kept) cell_at some))
 
-    pub some_read : (t : ℕ) (n : N) (r : Rest) → t ≡ get_or ts i t → n ≡ get_or ns i n → r ≡ get_or rs i r
-        → (t ≡ 0 → ⊥)
-        → Some (record { hash = r.hash; node = n }) ≡ kept_at v i
-    some_read t n r at_t at_n at_r some =
-        let is = ne_eqb row.tag 0 (λ e. some (at_t ∙ tag_at t ∙ e)) in
-        sym (kept_read n r at_n at_r (subst (λ (d : Cell N). IsSome d.kept) (sym cell_at) (rw is refl)))
+    -- a node of the group
+    pub own_read : (n : N) → n ≡ get_or ns i n → IsSome (own_at v i)
+        → IfSome (own_at v i) (λ k. k.node ≡ n)
+    own_read n at_n some =
+        let K : Type 0 = Hashed N in
+        let k : K = record { hash = row.rest.hash; node = row.node } in
+        let if_own : (b c : Bool) → IsSome (cond b None (cond c (Some k) None))
+        → IfSome (cond b None (cond c (Some k) None)) (λ (j : K). j.node ≡ n)
+        = λ b c. elim b as (λ b. IsSome (cond b None (cond c (Some k) None))
+        → IfSome (cond b None (cond c (Some k) None)) (λ (j : K). j.node ≡ n)) [
+          | true ↦ λ no. absurd (false≢true no)
+          | false ↦ elim c as (λ c. IsSome (cond c (Some k) None)
+              → IfSome (cond c (Some k) None) (λ (j : K). j.node ≡ n)) [
+                | true ↦ λ _. sym (at_n ∙ node_at n)
+                | false ↦ λ no. absurd (false≢true no)
+              ]
+        ] in
+        subst (λ (d : Cell N). IfSome (own_of d) (λ (j : K). j.node ≡ n)) (sym cell_at)
+        (if_own (is_guest row.mark) (is_taken row.mark) (subst (λ (d : Cell N). IsSome (own_of d)) cell_at
+        some))
 
-    pub node_read : (n : N) → n ≡ get_or ns i n → IsSome (kept_at v i)
-        → IfSome (kept_at v i) (λ k. k.node ≡ n)
-    node_read n at_n some = rw (kept_read n row.rest at_n (sym (rest_at row.rest)) some) refl
-
-    -- the first link of its bucket's chain
+    -- its link
     pub next_read : (r : Rest) → r ≡ get_or rs i r → (next_at v i ≡ r.link) × (r.link ≤ END)
     next_read r at_r = rw (at_r ∙ rest_at r) (ap (λ (d : Cell N). d.next) cell_at, stored.small)
 
-    -- a node was put into it or taken out of it, or its bucket's chain has another first link
+    -- a node was put into it or taken out of it, or it has another link
+    abbrev own_mark : ℕ → Mark
+    own_mark hash = record { tag = tag_of hash; own = true; guest = false }
+
+    abbrev guest_mark : ℕ → Mark
+    guest_mark hash = record { tag = tag_of hash; own = false; guest = true }
+
     pub put_in : (k : Hashed N) (r : Rest) → r ≡ get_or rs i r
-        → AreCells (set ts i (tag_of k.hash)) (set ns i k.node) (set rs i (record r { hash = k.hash }))
+        → AreCells (set ts i (own_mark k.hash)) (set ns i k.node) (set rs i (record r { hash = k.hash }))
         (with_kept v i k)
     put_in k r at_r =
         let next = next_read r at_r in
-        written i (record { tag = tag_of k.hash; node = k.node; rest = record r { hash = k.hash } }) _ _ _ _
-        (record { tagged = inr refl; small = next.1 }) refl refl refl (rw (next.0, tag_some k.hash) refl)
+        written i (record { mark = own_mark k.hash; node = k.node; rest = record r { hash = k.hash } }) _ _ _
+        _
+        (record { tagged = λ _. refl; small = next.1 }) refl refl refl (rw next.0 refl)
 
-    pub freed : AreCells (set ts i 0) ns rs (without_kept v i)
+    pub guest_put_in : (k : Hashed N) (next : ℕ) → next ≤ END
+        → AreCells (set ts i (guest_mark k.hash)) (set ns i k.node)
+        (set rs i (record { hash = k.hash; link = next })) (with_guest v i k next)
+    guest_put_in k next small =
+        written i
+        (record { mark = guest_mark k.hash; node = k.node; rest = record { hash = k.hash; link = next } })
+        _ _ _ _ (record { tagged = λ _. refl; small = small }) refl refl refl refl
+
+    pub freed : AreCells (set ts i free_mark) ns rs (without_kept v i)
     freed =
-        written i (record row { tag = 0 }) _ _ _ _ (record { tagged = inl refl; small = stored.small }) refl
-        node_stays rest_stays (ap (λ (d : Cell N). record d { kept = None }) cell_at)
+        written i (record row { mark = free_mark }) _ _ _ _
+        (record { tagged = λ e. absurd (false≢true e); small = stored.small }) refl
+        node_stays rest_stays (ap (λ (d : Cell N). record d { kept = None; guest = false }) cell_at)
 
     pub linked_on : (to : ℕ) (r : Rest) → r ≡ get_or rs i r → to ≤ END
         → AreCells ts ns (set rs i (record r { link = to })) (with_next v i to)
     linked_on to r at_r small =
         written i (record row { rest = record row.rest { link = to } }) _ _ _ _
-        (record { tagged = stored.tagged; small = small }) tag_stays node_stays
+        (record { tagged = stored.tagged; small = small }) mark_stays node_stays
         (ap (λ (s : Rest). set rs i (record s { link = to })) (at_r ∙ rest_at r))
         (ap (λ (d : Cell N). record d { next = to }) cell_at)

@@ -3,12 +3,13 @@ use Rattle.hashlink_table.proofs.Names
 use Names.{◌≡◌, ℕ, zero, suc, ◌+◌, ◌-◌, ◌%◌, ◌<◌, ◌≤◌, inl, inr, Bool, true, false, cond, eqb, List, [], ◌∷◌}
 use Names.{◌++◌, length, get_or, take, drop, Option, Some, None, count_by, refl, sym, ap, ◌∙◌, arith}
 use Names.{Contains, IsPowerOfTwo, mod-mod_of_dvd, dvd_of_mod-eq-zero, cases_lt, eq-eqb, eqb-true, ne_eqb}
-use Names.{true≢false, take-append-drop, Contains-append_left, Contains-append_right, Contains-append_cases}
-use Names.{sum_by-cons, sum_by-append, chunk-drop, get_or-chunk, length-chunk, Hashed, Cell, Spot, Slot}
-use Names.{Overflow, Contents, agreeing, AreBuckets, CanAsk, kept_at, kept_by, chain_of, with_node, nodes_in}
-use Names.{contents, AreGrouped, IsInPlace, IsSound, kept_may_be, lanes_of, may_be, bare_cell, tag_of}
+use Names.{true≢false, take-append-drop, sum_by-cons, sum_by-append, chunk-drop, get_or-chunk, length-chunk}
+use Names.{Hashed, Cell, Head, Contents, agreeing, AreBuckets, CanAsk, kept_at, own_at, own_of, guest_at}
+use Names.{guest_of}
+use Names.{bucket_in, with_node, nodes_in, contents, AreGrouped, IsInPlace, IsSound, kept_may_be, lanes_of}
+use Names.{chain_of, may_be, bare_cell, tag_of, ◌/◌}
 use Rattle.hashlink_table.proofs.{Groups.{group_within, grouped_in}, Linking.positive_by_power}
-use Rattle.hashlink_table.proofs.Nodes.{contains-at, at-contains}
+use Rattle.hashlink_table.proofs.Nodes.{at-contains}
 
 -- the number of elements that pass, with one more element
 count_by-cons : {X : Type 0} (p : X → Bool) (x : X) (xs : List X)
@@ -45,18 +46,31 @@ module _ {N : Type 0} where
         | Some k ↦ rw (some k) (count_by-cons p k (nodes_in cs) ∙ ap (λ n. cond (p k) 1 0 + n) rest)
       ] ∙ sym (count_by-cons (λ d. q d.kept) c cs)
 
-  in_bucket-nodes : (cells : List (Cell N)) (hash m : ℕ) → 0 < m
-      → count_by (λ k. eqb (k.hash % m) (hash % m)) (nodes_in cells)
-      ≡ count_by (λ c. eqb (chain_of m c.kept) (hash % m)) cells
-  in_bucket-nodes cells hash m some =
-      count_by-nodes_in (λ k. eqb (k.hash % m) (hash % m)) (λ k. eqb (chain_of m k) (hash % m)) cells
-      (ne_eqb m (hash % m) (λ e. omega arith)) (λ k. refl)
+  -- the cells whose node passes are those whose node of their group does, and those whose guest does
+  count_by-parts : (q : Option (Hashed N) → Bool) (cells : List (Cell N)) → q None ≡ false
+      → count_by (λ c. q (own_of c)) cells + count_by (λ c. q (guest_of c)) cells
+      ≡ count_by (λ c. q c.kept) cells
+  count_by-parts q [] none = refl
+  count_by-parts q (c ∷ cs) none =
+      let rest = count_by-parts q cs none in
+      let here : cond {A = ℕ} (q (own_of c)) 1 0 + cond {A = ℕ} (q (guest_of c)) 1 0
+      ≡ cond {A = ℕ} (q c.kept) 1 0 = elim c.guest
+      as (λ b. cond {A = ℕ} (q (cond b None c.kept)) 1 0 + cond {A = ℕ} (q (cond b c.kept None)) 1 0
+      ≡ cond {A = ℕ} (q c.kept) 1 0) [ true ↦ rw none (omega arith) | false ↦ rw none (omega arith) ] in
+      omega (
+        arith,
+        rest,
+        here,
+        count_by-cons (λ d. q (own_of d)) c cs,
+        count_by-cons (λ d. q (guest_of d)) c cs,
+        count_by-cons (λ d. q d.kept) c cs,
+      )
 
   -- a node of the group whose tag is the hash's agrees with the hash
   pub tag_agrees : (m b hash at : ℕ) (o : Option (Hashed N)) → 0 < m → m % 16 ≡ 0 → b ≡ hash % m
       → ((k : Hashed N) → o ≡ Some k → AreGrouped (k.hash % m) at) → AreGrouped b at
       → kept_may_be hash o ≡ true
-      → eqb (chain_of m o) b ≡ true
+      → eqb (bucket_in m o) b ≡ true
   tag_agrees m b hash at None some whole is own here e = absurd (true≢false (sym e))
   tag_agrees m b hash at (Some k) some whole is own here e =
       let divides = dvd_of_mod-eq-zero 16 whole in
@@ -65,6 +79,18 @@ module _ {N : Type 0} where
       let tags : tag_of k.hash ≡ tag_of hash = eqb-true (tag_of k.hash) (tag_of hash) e in
       let grouped = own k refl in
       eq-eqb (k.hash % m) b (omega (arith, low, sought, tags, grouped, here, is))
+
+  -- a guest of the group of a bucket, with the guest's tag of the bucket, is of the bucket
+  pub guest_agrees : (m hash : ℕ) (o : Option (Hashed N)) → m % 16 ≡ 0 → chain_of m o ≡ hash % m / 16
+      → kept_may_be hash o ≡ true
+      → eqb (bucket_in m o) (hash % m) ≡ true
+  guest_agrees m hash None whole on e = absurd (true≢false (sym e))
+  guest_agrees m hash (Some k) whole on e =
+      let divides = dvd_of_mod-eq-zero 16 whole in
+      let low : k.hash % m % 16 ≡ k.hash % 16 = mod-mod_of_dvd 16 k.hash divides in
+      let sought : hash % m % 16 ≡ hash % 16 = mod-mod_of_dvd 16 hash divides in
+      let tags : tag_of k.hash ≡ tag_of hash = eqb-true (tag_of k.hash) (tag_of hash) e in
+      eq-eqb (k.hash % m) (hash % m) (omega (arith, low, sought, tags, on))
 
   -- the count in a group is at most the count in all cells
   count_by-lanes : (p q : Cell N → Bool) (cells : List (Cell N)) (base : ℕ) → base + 16 ≤ length cells
@@ -87,55 +113,50 @@ module _ {N : Type 0} where
       ∙ ap (λ n. count_by q (take base cells) + n) (sum_by-append (λ c. cond (q c) 1 0) lanes rest) in
       omega (arith, fewer, all)
 
-  -- a search looks only at nodes of the hash's bucket: at those of its group with the tag, and at its chain
-  pub looked_at : (slots overflow : List (Cell N)) (hash base : ℕ) → IsPowerOfTwo (length slots)
+  -- a search looks only at nodes of the hash's bucket: at those of its group with the tag, and at guests
+  pub looked_at : (slots : List (Cell N)) (hash base : ℕ) → IsPowerOfTwo (length slots)
       → length slots % 16 ≡ 0 → IsInPlace slots → base ≡ hash % length slots - hash % length slots % 16
       → count_by (may_be hash) (lanes_of slots base)
-      + count_by (λ c. eqb (chain_of (length slots) c.kept) (hash % length slots)) overflow
-      ≤ count_by (λ k. eqb (k.hash % length slots) (hash % length slots))
-      (nodes_in slots ++ nodes_in overflow)
-  looked_at slots overflow hash base power whole in_place first =
+      + count_by (λ c. eqb (bucket_in (length slots) (guest_of c)) (hash % length slots)) slots
+      ≤ count_by (λ k. eqb (k.hash % length slots) (hash % length slots)) (nodes_in slots)
+  looked_at slots hash base power whole in_place first =
       let m = length slots in let b = hash % m in
       let some = positive_by_power m power in
+      let none = ne_eqb m b (λ e. omega (arith, some, e)) in
       let room : base + 16 ≤ m = omega (arith, first, group_within b m (omega arith) whole) in
-      let own = count_by-lanes (may_be hash) (λ c. eqb (chain_of m c.kept) b) slots base room
-      (λ k lane e. tag_agrees m b hash (base + k) (kept_at slots (base + k)) some whole refl
+      let own = count_by-lanes (may_be hash) (λ c. eqb (bucket_in m (own_of c)) b) slots base room
+      (λ k lane e. tag_agrees m b hash (base + k) (own_at slots (base + k)) some whole refl
       (in_place (base + k)) (grouped_in b (base + k) (omega (arith, first)) (omega (arith, first, lane)))
       e) in
       omega (
         arith,
         own,
-        sum_by-append (λ (k : Hashed N). cond (eqb (k.hash % m) b) 1 0) (nodes_in slots) (nodes_in overflow),
-        in_bucket-nodes slots hash m some,
-        in_bucket-nodes overflow hash m some,
+        count_by-parts (λ k. eqb (bucket_in m k) b) slots none,
+        count_by-nodes_in (λ k. eqb (k.hash % m) b) (λ k. eqb (bucket_in m k) b) slots none (λ k. refl),
       )
 
-  -- the node that a search found is among the nodes
-  pub contains_found : (slots overflow : List (Cell N)) (spot : Spot) (k : Hashed N)
-      → kept_by slots overflow spot ≡ Some k
-      → Contains (nodes_in slots ++ nodes_in overflow) k
-  contains_found slots overflow (Slot at) k is =
-      Contains-append_left (nodes_in slots) (nodes_in overflow) k (contains-at slots at k is)
-  contains_found slots overflow (Overflow at) k is =
-      Contains-append_right (nodes_in slots) (nodes_in overflow) k (contains-at overflow at k is)
-
-  -- what holds for the nodes of all cells holds for each node
-  pub none_left : (slots overflow : List (Cell N)) (hash : ℕ) (refused : N → Type 0)
-      → ((at : ℕ) (node : N) → kept_at slots at ≡ Some (record { hash = hash; node = node }) → refused node)
-      → ((at : ℕ) (node : N) → kept_at overflow at ≡ Some (record { hash = hash; node = node })
+  -- what holds for the nodes that are no guests, and for the guests, holds for each node
+  pub none_left : (slots : List (Cell N)) (hash : ℕ) (refused : N → Type 0)
+      → ((at : ℕ) (node : N) → own_at slots at ≡ Some (record { hash = hash; node = node }) → refused node)
+      → ((at : ℕ) (node : N) → guest_at slots at ≡ Some (record { hash = hash; node = node })
       → refused node)
-      → (node : N) → Contains (nodes_in slots ++ nodes_in overflow) (record { hash = hash; node = node })
+      → (node : N) → Contains (nodes_in slots) (record { hash = hash; node = node })
       → refused node
-  none_left slots overflow hash refused own over node there =
-      elim (Contains-append_cases (nodes_in slots) (nodes_in overflow) _ there) as (λ _. refused node) [
-        | inl first ↦ let at = at-contains slots _ first in own at.0 node at.1
-        | inr later ↦ let at = at-contains overflow _ later in over at.0 node at.1
-      ]
+  none_left slots hash refused own guest node there =
+      let at = at-contains slots _ there in
+      let kept = kept_at slots at.0 in
+      let sought : Option (Hashed N) = Some (record { hash = hash; node = node }) in
+      elim (get_or slots at.0 bare_cell).guest
+      as (λ b. (cond b None kept ≡ sought → refused node) → (cond b kept None ≡ sought → refused node)
+      → refused node) [
+        | true ↦ λ _ is. is at.1
+        | false ↦ λ is _. is at.1
+      ] (own at.0 node) (guest at.0 node)
 
 -- the stored cells of a table, seen as v
-module _ {N : Type 0} {slots overflow : List (Cell N)} {capacity free len room : ℕ} {v : Contents N}
-    (s : IsSound slots overflow capacity free len room) (view : contents slots overflow room ≡ v) where
-  -- the number of its buckets; a table with nodes has buckets
+module _ {N : Type 0} {slots : List (Cell N)} {heads : List Head} {len room : ℕ} {v : Contents N}
+    (s : IsSound slots heads len room) (view : contents slots room ≡ v) where
+  -- the number of its slots; a table with nodes has slots
   buckets_are : 0 < length slots → AreBuckets v (length slots)
   buckets_are some =
       record {
@@ -148,7 +169,7 @@ module _ {N : Type 0} {slots overflow : List (Cell N)} {capacity free len room :
 
   -- so a search may ask about a node whose hash agrees
   pub can_ask : (hash : ℕ) (asked : N → Type 0) → CanAsk v hash asked → (len ≡ 0 → ⊥) → (h : ℕ) (node : N)
-      → Contains (nodes_in slots ++ nodes_in overflow) (record { hash = h; node = node })
+      → Contains (nodes_in slots) (record { hash = h; node = node })
       → h % length slots ≡ hash % length slots
       → asked node
   can_ask hash asked can some h node there agree =
@@ -156,8 +177,7 @@ module _ {N : Type 0} {slots overflow : List (Cell N)} {capacity free len room :
 
   -- the cost of a search, and of one that looks at no node
   pub search_cost : (hash before after : ℕ) → (len ≡ 0 → ⊥)
-      → after ≤ before + count_by (λ k. eqb (k.hash % length slots) (hash % length slots))
-      (nodes_in slots ++ nodes_in overflow)
+      → after ≤ before + count_by (λ k. eqb (k.hash % length slots) (hash % length slots)) (nodes_in slots)
       → (m : ℕ) × AreBuckets v m × (after ≤ before + agreeing v hash m)
   search_cost hash before after some cost = (length slots, buckets_are (some_buckets some), rw (← view) cost)
 

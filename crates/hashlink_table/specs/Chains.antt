@@ -1,48 +1,78 @@
--- How a `Table` chains its cells. No public clause uses this module.
-use Rattle.std.specs.Prelude.{◌≡◌, ◌≢◌, ℕ, suc, ◌+◌, ◌-◌, ◌*◌, ◌/◌, ◌%◌, ◌^◌, ◌<◌, ◌≤◌, ◌⊎◌, List, [], ◌∷◌}
-use Rattle.std.specs.Prelude.{◌++◌, map, length, max, Option, Some, None, IsSome, slice_index_or, slice_set}
-use Rattle.std.specs.Int.{IsPowerOfTwo}
-use Rattle.hashlink_table.specs.{Contents.Contents, Stored.bare_cell, declared.hashed.Hashed.Hashed}
-use Rattle.hashlink_table.specs.declared.store.{cell.Cell.Cell, cell.TheConstants.END, spot.Spot.Spot}
-use Rattle.hashlink_table.specs.declared.store.spot.Spot.TheVariants.{Slot, Overflow}
+-- How a `Table` keeps nodes in its slots, and chains guests. No public clause uses this module.
+use Rattle.std.specs.Prelude.{◌≡◌, ◌≢◌, ℕ, ◌+◌, ◌*◌, ◌/◌, ◌%◌, ◌^◌, ◌<◌, ◌≤◌, Bool, cond, List, [], ◌∷◌, map}
+use Rattle.std.specs.Prelude.{length, max, Option, Some, None, slice_index_or}
+use Rattle.std.specs.Int.{IsPowerOfTwo, bit_at}
+use Rattle.hashlink_table.specs.{Contents.Contents, declared.hashed.Hashed.Hashed}
+use Rattle.hashlink_table.specs.Stored.{bare_cell, no_guests, mask_bit_of}
+use Rattle.hashlink_table.specs.declared.store.{cell.Cell.Cell, cell.TheConstants.END, head.Head.Head}
 
 module _ {N : Type 0} where
+  -- the node of a cell, if it is in its group, and if it is a guest
+  abbrev pub own_of : Cell N → Option (Hashed N)
+  own_of c = cond c.guest None c.kept
+
+  abbrev pub guest_of : Cell N → Option (Hashed N)
+  guest_of c = cond c.guest c.kept None
+
   abbrev pub kept_at : List (Cell N) → ℕ → Option (Hashed N)
   kept_at cells i = (slice_index_or cells i bare_cell).kept
+
+  abbrev pub own_at : List (Cell N) → ℕ → Option (Hashed N)
+  own_at cells i = own_of (slice_index_or cells i bare_cell)
+
+  abbrev pub guest_at : List (Cell N) → ℕ → Option (Hashed N)
+  guest_at cells i = guest_of (slice_index_or cells i bare_cell)
 
   abbrev pub next_at : List (Cell N) → ℕ → ℕ
   next_at cells i = (slice_index_or cells i bare_cell).next
 
-  -- the chain of a cell: that of its bucket; the chain after the buckets' is that of the free cells
-  abbrev pub chain_of : ℕ → Option (Hashed N) → ℕ
-  chain_of buckets None = buckets
-  chain_of buckets (Some k) = k.hash % buckets
+  -- the bucket of a node among m, and the group of a guest, whose chain it is on; m if there is none
+  abbrev pub bucket_in : ℕ → Option (Hashed N) → ℕ
+  bucket_in m None = m
+  bucket_in m (Some k) = k.hash % m
 
-  -- the chain of the cell at this index; past the last cell there is none
+  abbrev pub chain_of : ℕ → Option (Hashed N) → ℕ
+  chain_of m None = m
+  chain_of m (Some k) = k.hash % m / 16
+
+  -- the chain of the cell at this index
   abbrev pub chain_at : ℕ → List (Cell N) → ℕ → ℕ
-  chain_at buckets cells i = slice_index_or (map (λ c. chain_of buckets c.kept) cells) i (suc buckets)
+  chain_at m cells i = chain_of m (guest_at cells i)
 
   -- the node of a cell, if it has one, before the nodes of later cells
   abbrev pub with_node : Option (Hashed N) → List (Hashed N) → List (Hashed N)
   with_node None ks = ks
   with_node (Some k) ks = k ∷ ks
 
-  -- the nodes of these cells
+  -- the nodes of these cells, and those of their guests
   abbrev pub nodes_in : List (Cell N) → List (Hashed N)
   nodes_in [] = []
   nodes_in (c ∷ cs) = with_node c.kept (nodes_in cs)
 
-  -- a table with these slots and overflow cells, as a contract sees it
-  abbrev pub contents : List (Cell N) → List (Cell N) → ℕ → Contents N
-  contents slots overflow room = record { nodes = nodes_in slots ++ nodes_in overflow; room = room }
+  abbrev pub guests_in : List (Cell N) → List (Hashed N)
+  guests_in [] = []
+  guests_in (c ∷ cs) = with_node (guest_of c) (guests_in cs)
 
-  -- the links of the slots
-  abbrev pub links_of : List (Cell N) → List ℕ
-  links_of slots = map (λ c. c.next) slots
+  -- a table with these slots, as a contract sees it
+  abbrev pub contents : List (Cell N) → ℕ → Contents N
+  contents slots room = record { nodes = nodes_in slots; room = room }
 
   -- the parts of a cell besides its link
-  abbrev pub stored_in : Cell N → Option (Hashed N) × ℕ
-  stored_in c = (c.kept, c.hash)
+  abbrev pub stored_in : Cell N → Option (Hashed N) × Bool
+  stored_in c = (c.kept, c.guest)
+
+  abbrev pub cell_at : List (Cell N) → ℕ → Option (Hashed N) × Bool
+  cell_at cells i = stored_in (slice_index_or cells i bare_cell)
+
+-- the first links of the chains
+abbrev pub links_of : List Head → List ℕ
+links_of heads = map (λ h. h.first) heads
+
+abbrev pub first_at : List Head → ℕ → ℕ
+first_at heads b = slice_index_or (links_of heads) b END
+
+abbrev pub mask_at : List Head → ℕ → ℕ
+mask_at heads b = (slice_index_or heads b no_guests).mask
 
 -- a rank for each cell, and the lowest for the end
 pub record Ranks : Type 0 where
@@ -71,74 +101,58 @@ abbrev pub IsThreaded : List ℕ → (ℕ → ℕ) → (ℕ → ℕ) → Type 0
 IsThreaded starts next chain =
     (b : ℕ) → b < length starts → IsChain next chain (slice_index_or starts b END) b
 
--- the links of the slots are the first links of the buckets' chains, and `free` is that of the free cells'
--- chain
-abbrev pub IsLinked : {N : Type 0} → List (Cell N) → List (Cell N) → ℕ → Type 0
-IsLinked slots cells free =
-    IsThreaded (links_of slots ++ free ∷ []) (next_at cells) (chain_at (length slots) cells)
+-- the guests of each group are exactly the cells of its chain
+abbrev pub IsLinked : {N : Type 0} → List (Cell N) → List Head → Type 0
+IsLinked slots heads = IsThreaded (links_of heads) (next_at slots) (chain_at (length slots) slots)
 
 -- the same, except that the cell i is on no chain
-abbrev pub IsLinkedBut : {N : Type 0} → List (Cell N) → List (Cell N) → ℕ → ℕ → Type 0
-IsLinkedBut slots cells free i =
-    (now : ℕ → ℕ) → length slots < now i → ((j : ℕ) → j ≢ i → now j ≡ chain_at (length slots) cells j)
-    → IsThreaded (links_of slots ++ free ∷ []) (next_at cells) now
+abbrev pub IsLinkedBut : {N : Type 0} → List (Cell N) → List Head → ℕ → Type 0
+IsLinkedBut slots heads i =
+    (now : ℕ → ℕ) → length slots ≤ now i → ((j : ℕ) → j ≢ i → now j ≡ chain_at (length slots) slots j)
+    → IsThreaded (links_of heads) (next_at slots) now
 
--- each cell keeps its node and the hash that it stores
+-- each cell keeps its node
 abbrev pub SameNodes : {N : Type 0} → List (Cell N) → List (Cell N) → Type 0
 SameNodes old new = map stored_in new ≡ map stored_in old
 
--- the cell was put at the first free one's place, or after the last cell if none was free
-abbrev pub IsPlaced : {N : Type 0} → List (Cell N) → List (Cell N) → ℕ → ℕ → Cell N → ℕ → Type 0
-IsPlaced old new free now cell at =
-    ((free ≡ END) × (at ≡ length old) × (new ≡ old ++ cell ∷ []) × (now ≡ END))
-    ⊎ ((free ≢ END) × (at ≡ free) × (new ≡ slice_set old at cell) × (now ≡ next_at old at))
+-- each chain that is not empty keeps its mask
+abbrev pub SameMasks : List Head → List Head → Type 0
+SameMasks old new =
+    (length new ≡ length old) × ((b : ℕ) → first_at new b ≢ END → mask_at new b ≡ mask_at old b)
 
 -- two buckets of one group
 abbrev pub AreGrouped : ℕ → ℕ → Type 0
 AreGrouped a b = a / 16 ≡ b / 16
 
--- the node in a slot is of a bucket of its group
+-- a node that is no guest is in its group
 abbrev pub IsInPlace : {N : Type 0} → List (Cell N) → Type 0
-IsInPlace slots =
-    (at : ℕ) (k : Hashed _) → kept_at slots at ≡ Some k → AreGrouped (k.hash % length slots) at
+IsInPlace slots = (at : ℕ) (k : Hashed _) → own_at slots at ≡ Some k → AreGrouped (k.hash % length slots) at
 
--- each of the sixteen cells from `base` on has a node
-abbrev pub AreTaken : {N : Type 0} → List (Cell N) → ℕ → Type 0
-AreTaken slots base = (at : ℕ) → base ≤ at → at < base + 16 → IsSome (kept_at slots at)
-
--- if a bucket has a chain, no cell of its group is free
-abbrev pub IsFilled : {N : Type 0} → List (Cell N) → Type 0
-IsFilled slots =
-    (b : ℕ) → b < length slots → next_at slots b ≢ END → AreTaken slots (b - b % 16)
+-- the bit of each guest is in its chain's mask
+abbrev pub IsCovered : {N : Type 0} → List (Cell N) → List Head → Type 0
+IsCovered slots heads =
+    (at : ℕ) (k : Hashed _) → guest_at slots at ≡ Some k
+    → bit_at (mask_at heads (k.hash % length slots / 16)) (mask_bit_of k.hash) ≡ 1
 
 -- the nodes are where a search looks for them
-pub record IsArranged {N : Type 0} (slots overflow : List (Cell N)) (free : ℕ) : Type 0 where
-  pub linked : IsLinked slots overflow free
+pub record IsArranged {N : Type 0} (slots : List (Cell N)) (heads : List Head) : Type 0 where
+  pub linked : IsLinked slots heads
   pub in_place : IsInPlace slots
-  pub filled : IsFilled slots
+  pub covered : IsCovered slots heads
+  pub paired : length heads ≡ length slots / 16
 
--- the number of buckets, and the memory for overflow cells, of a table with this room
-pub record AreSizes (buckets capacity room : ℕ) : Type 0 where
-  pub headed : room ≤ buckets
-  pub bounded : buckets ≤ 4 * max 8 room
-  pub reserved : room ≤ capacity
-  pub spare : capacity ≤ 8 * max 8 room
-  pub none : room ≡ 0 → (buckets ≡ 0) × (capacity ≡ 0)
-  pub small : buckets ≤ 2 ^ 31
-  pub masked : 0 < buckets → IsPowerOfTwo buckets
-  pub whole : buckets % 16 ≡ 0
+-- the number of slots of a table with this room
+pub record AreSizes (count room : ℕ) : Type 0 where
+  pub headed : 8 * room ≤ 7 * count
+  pub bounded : count ≤ 4 * max 8 room
+  pub none : room ≡ 0 → count ≡ 0
+  pub small : count ≤ 2 ^ 31
+  pub masked : 0 < count → IsPowerOfTwo count
+  pub whole : count % 16 ≡ 0
 
 -- the fields of a table agree
-pub record IsSound {N : Type 0} (slots overflow : List (Cell N))
-    (capacity free len room : ℕ) : Type 0 where
-  pub arranged : IsArranged slots overflow free
-  pub sizes : AreSizes (length slots) capacity room
-  pub counted : len ≡ length (nodes_in slots ++ nodes_in overflow)
+pub record IsSound {N : Type 0} (slots : List (Cell N)) (heads : List Head) (len room : ℕ) : Type 0 where
+  pub arranged : IsArranged slots heads
+  pub sizes : AreSizes (length slots) room
+  pub counted : len ≡ length (nodes_in slots)
   pub held : len ≤ room
-  pub overflow_few : length overflow ≤ room
-  pub overflow_small : length overflow < END
-
--- the node that a search found
-abbrev pub kept_by : {N : Type 0} → List (Cell N) → List (Cell N) → Spot → Option (Hashed N)
-kept_by slots overflow (Slot at) = kept_at slots at
-kept_by slots overflow (Overflow at) = kept_at overflow at

@@ -1,5 +1,5 @@
 -- A `Table`, as contracts see it.
-use Rattle.std.specs.Prelude.{◌≡◌, ℕ, ◌%◌, ◌≤◌, ◌==◌, List, length, count_by, Contains, refl}
+use Rattle.std.specs.Prelude.{◌≡◌, ◌⊎◌, ℕ, ◌*◌, ◌%◌, ◌≤◌, ◌==◌, List, length, count_by, Contains, refl}
 use Rattle.std.specs.{Int.IsPowerOfTwo, Coded.{Coded, code_by, coded×, coded_ℕ, coded_list}}
 use Rattle.hashlink_table.specs.declared.hashed.Hashed.{Hashed}
 
@@ -27,6 +27,11 @@ contents_code {N} node =
     (λ t. (t.nodes, t.room))
     (λ p. record { nodes = p.0; room = p.1 })
     (λ _. refl)
+
+-- a room to which a table grows that needs room for n nodes: at least twice n, or seven eighths of a power
+-- of two
+abbrev pub IsAmple : ℕ → ℕ → Type 0
+IsAmple n room = (2 * n ≤ room) ⊎ ((k : ℕ) × IsPowerOfTwo k × (8 * room ≡ 7 * k))
 
 module _ {N : Type 0} where
   -- the table has this node under this hash

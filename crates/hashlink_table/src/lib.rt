@@ -17,7 +17,7 @@ pub use hashed::Hashed;
 pub use steps::Steps;
 pub use table::{MAX_ROOM, Table};
 
-// An overflow cell takes 8 bytes besides its node, and a slot 10.
-const _: () = prove!(std::mem::size_of::<store::cell::StoredCell<u64>>() == 16);
-
+// A slot takes 8 bytes and a node, and a group 32 bytes.
 const _: () = prove!(std::mem::size_of::<store::slots::Rest>() == 8);
+
+const _: () = prove!(std::mem::size_of::<store::group::Group>() == 32);

@@ -1,22 +1,30 @@
-//! Searches. They read a node only by `look`, which counts it.
-ghost use Rattle.std.specs.Prelude.{◌≡◌, ℕ, ◌+◌, ◌%◌, ◌<◌, ◌≤◌, ◌==◌, ◌++◌, Contains, IfNone, IfSome, Some};
+//! Searches. They read a node only by `look` and `look_at_guest`, which count it.
+ghost use Rattle.std.specs.Prelude.{◌≡◌, ℕ, ◌+◌, ◌%◌, ◌/◌, ◌<◌, ◌≤◌, ◌==◌, Contains, IfNone, IfSome, Some};
 ghost use Rattle.std.specs.{Prelude.{count_by, false, length, true}, Int.IsPowerOfTwo};
 ghost use Rattle.hashlink_table.specs.{declared.hashed.Hashed.Hashed, Stored.tag_of};
 ghost use Rattle.hashlink_table.specs.Slots.{lanes_of, may_be};
-ghost use Rattle.hashlink_table.specs.Chains.{chain_of, kept_at, kept_by, nodes_in, IsArranged, IsLinked};
+ghost use Rattle.hashlink_table.specs.Chains.{bucket_in, first_at, guest_at, guest_of, kept_at, nodes_in};
+ghost use Rattle.hashlink_table.specs.Chains.{own_at};
+ghost use Rattle.hashlink_table.specs.Chains.{IsArranged, IsLinked};
 
 use super::steps::Steps;
-use super::store::bucket::{base_of, bucket_of};
-use super::store::cell::{END, StoredCell};
+use super::store::bucket::base_of;
+use super::store::cell::END;
 use super::store::lanes::LANES;
 use super::store::slots::Slots;
-use super::store::spot::{FoundNode, Spot};
 use std::sync::ledger::Ledger;
+
+/// The result of a search: a node, and its slot.
+#[derive(Clone, Copy)]
+pub struct FoundNode<N> {
+    pub at: usize,
+    pub node: N,
+}
 
 // Searches are inlined into the lookups of the layers above, which are inlined into their callers.
 
-// Returns the first cell of a group whose node has this hash and matches, and the node. It looks only at
-// nodes whose tag is the hash's, and takes a step for each.
+// Returns the first slot of a group whose node has this hash, is no guest and matches, and the node. It looks
+// only at nodes whose tag is the hash's, and takes a step for each.
 #[inline(always)]
 fn seek_slots<N: Copy, F: Fn(N) -> bool, L: Ledger>(
     slots: &Slots<N>,
@@ -24,22 +32,23 @@ fn seek_slots<N: Copy, F: Fn(N) -> bool, L: Ledger>(
     hash: u32,
     is_match: &F,
     steps: &mut Steps<L>,
-) -> Option<(usize, N)>
-    requires within { base + LANES ≤ length slots.now }
+) -> Option<FoundNode<N>>
+    requires within { base + LANES ≤ length slots.now.cells }
+    requires whole { base % LANES ≡ 0 }
     requires callable { (at : ℕ) (kept : Hashed N) → base ≤ at → at < base + LANES
-        → kept_at slots.now at ≡ Some kept → tag_of kept.hash ≡ tag_of hash
+        → own_at slots.now.cells at ≡ Some kept → tag_of kept.hash ≡ tag_of hash
         → F.pre is_match.now kept.node }
-    requires telling { (at : ℕ) (kept : Hashed N) → kept_at slots.now at ≡ Some kept
+    requires telling { (at : ℕ) (kept : Hashed N) → own_at slots.now.cells at ≡ Some kept
         → F.post is_match.now kept.node true → kept.hash ≡ hash }
     ensures found { IfSome result
-        (λ f. (kept_at slots.now f.0 ≡ Some (record { hash = hash; node = f.1 }))
-        × F.post is_match.now f.1 true) }
+        (λ f. (own_at slots.now.cells f.at ≡ Some (record { hash = hash; node = f.node }))
+        × F.post is_match.now f.node true) }
     ensures none { IfNone result
         ((at : ℕ) (node : N) → base ≤ at → at < base + LANES
-        → kept_at slots.now at ≡ Some (record { hash = hash; node = node })
+        → own_at slots.now.cells at ≡ Some (record { hash = hash; node = node })
         → F.post is_match.now node false) }
     ensures goes_on { steps.old ≤ steps.new }
-    ensures cost { steps.new ≤ steps.old + count_by (may_be hash) (lanes_of slots.now base) }
+    ensures cost { steps.new ≤ steps.old + count_by (may_be hash) (lanes_of slots.now.cells base) }
 {
     let mut at = base;
     let mut hits = slots.may_have(base, hash);
@@ -48,7 +57,7 @@ fn seek_slots<N: Copy, F: Fn(N) -> bool, L: Ledger>(
         at += skipped as usize;
         let node = slots.look(at, steps);
         if is_match(node) {
-            return Some((at, node));
+            return Some(FoundNode { at, node });
         }
         at += 1;
         hits = (hits >> skipped) / 2;
@@ -56,90 +65,88 @@ fn seek_slots<N: Copy, F: Fn(N) -> bool, L: Ledger>(
     None
 }
 
-// Returns the first cell of the bucket's chain whose node has this hash and matches, and the node. It takes a
-// step for each cell at which it looks.
-#[inline(always)]
-fn seek_overflow<N: Copy, F: Fn(N) -> bool, L: Ledger>(
+// Returns the first guest of the hash's group that has this hash and matches, by its slot and its node. It
+// takes a step for each guest at which it looks: those of the hash's bucket.
+#[cold]
+#[inline(never)]
+fn seek_guests<N: Copy, F: Fn(N) -> bool, L: Ledger>(
     slots: &Slots<N>,
-    cells: &[StoredCell<N>],
-    bucket: usize,
-    hash: u32,
-    is_match: &F,
-    steps: &mut Steps<L>,
-) -> Option<(usize, N)>
-    requires masked { IsPowerOfTwo (length slots.now) }
-    requires bucket { bucket ≡ hash % length slots.now }
-    requires linked { (free : ℕ) × IsLinked slots.now cells.now free }
-    requires callable { (cell : ℕ) (node : N) → kept_at cells.now cell ≡ Some
-        (record { hash = hash; node = node })
-        → F.pre is_match.now node }
-    ensures found { IfSome result
-        (λ f. (kept_at cells.now f.0 ≡ Some (record { hash = hash; node = f.1 }))
-        × F.post is_match.now f.1 true) }
-    ensures none { IfNone result
-        ((cell : ℕ) (node : N) → kept_at cells.now cell ≡ Some (record { hash = hash; node = node })
-        → F.post is_match.now node false) }
-    ensures goes_on { steps.old ≤ steps.new }
-    ensures cost { let m = length slots.now in let b = hash % m in steps.new
-        ≤ steps.old + count_by (λ c. chain_of m c.kept == b) cells.now }
-{
-    let mut at = slots.next(bucket);
-    while at != END {
-        let cell = &cells[at];
-        let kept = cell.look(steps);
-        if kept.hash == hash && is_match(kept.node) {
-            return Some((at, kept.node));
-        }
-        at = cell.next();
-    }
-    None
-}
-
-// Returns the first node that has this hash and matches, and where it is: in a slot of its group, or else in
-// the chain of its bucket.
-#[inline(always)]
-pub fn seek<N: Copy, F: Fn(N) -> bool, L: Ledger>(
-    slots: &Slots<N>,
-    cells: &[StoredCell<N>],
+    first: usize,
     hash: u32,
     is_match: &F,
     steps: &mut Steps<L>,
 ) -> Option<FoundNode<N>>
-    requires masked { IsPowerOfTwo (length slots.now) }
-    requires whole { length slots.now % LANES ≡ 0 }
-    requires arranged { (free : ℕ) × IsArranged slots.now cells.now free }
-    requires callable { (h : ℕ) (node : N)
-        → Contains (nodes_in slots.now ++ nodes_in cells.now) (record { hash = h; node = node })
-        → h % length slots.now ≡ hash % length slots.now
+    requires masked { IsPowerOfTwo (length slots.now.cells) }
+    requires whole { length slots.now.cells % LANES ≡ 0 }
+    requires group { hash % length slots.now.cells / LANES < length slots.now.heads }
+    requires few { length slots.now.heads ≤ length slots.now.cells }
+    requires first { first ≡ first_at slots.now.heads (hash % length slots.now.cells / LANES) }
+    requires linked { IsLinked slots.now.cells slots.now.heads }
+    requires callable { (at : ℕ) (node : N) → guest_at slots.now.cells at ≡ Some
+        (record { hash = hash; node = node })
         → F.pre is_match.now node }
-    requires telling { (h : ℕ) (node : N)
-        → Contains (nodes_in slots.now ++ nodes_in cells.now) (record { hash = h; node = node })
-        → F.post is_match.now node true → h ≡ hash }
     ensures found { IfSome result
-        (λ f. (kept_by slots.now cells.now f.spot ≡ Some (record { hash = hash; node = f.node }))
+        (λ f. (guest_at slots.now.cells f.at ≡ Some (record { hash = hash; node = f.node }))
         × F.post is_match.now f.node true) }
-    ensures none { IfNone result ((node : N)
-        → Contains (nodes_in slots.now ++ nodes_in cells.now) (record { hash = hash; node = node })
+    ensures none { IfNone result
+        ((at : ℕ) (node : N) → guest_at slots.now.cells at ≡ Some (record { hash = hash; node = node })
         → F.post is_match.now node false) }
     ensures goes_on { steps.old ≤ steps.new }
-    ensures cost { let m = length slots.now in steps.new
-        ≤ steps.old + count_by (λ k. k.hash % m == hash % m) (nodes_in slots.now ++ nodes_in cells.now) }
+    ensures cost { let m = length slots.now.cells in let b = hash % m in steps.new
+        ≤ steps.old + count_by (λ c. bucket_in m (guest_of c) == b) slots.now.cells }
 {
-    let buckets = slots.len();
-    let base = base_of(hash, buckets);
-    if let Some((at, node)) = seek_slots(slots, base, hash, is_match, steps) {
-        let spot = Spot::Slot(at);
-        return Some(FoundNode { spot, node });
-    }
-    let bucket = bucket_of(hash, buckets);
-    if !slots.has_chain(bucket) {
-        return None; // no chain begins at the bucket
-    }
-    match seek_overflow(slots, cells, bucket, hash, is_match, steps) {
-        Some((at, node)) => {
-            let spot = Spot::Overflow(at);
-            Some(FoundNode { spot, node })
+    let mut at = first;
+    while at != END {
+        if slots.may_have_guest(at, hash) {
+            let kept = slots.look_at_guest(at, steps);
+            if kept.hash == hash && is_match(kept.node) {
+                return Some(FoundNode {
+                    at,
+                    node: kept.node,
+                });
+            }
         }
-        None => None,
+        at = slots.next(at);
     }
+    None
+}
+
+// Returns the first node that has this hash and matches, and its slot: in its group, or else among the guests
+// of the group.
+#[inline(always)]
+pub fn seek<N: Copy, F: Fn(N) -> bool, L: Ledger>(
+    slots: &Slots<N>,
+    hash: u32,
+    is_match: &F,
+    steps: &mut Steps<L>,
+) -> Option<FoundNode<N>>
+    requires masked { IsPowerOfTwo (length slots.now.cells) }
+    requires whole { length slots.now.cells % LANES ≡ 0 }
+    requires arranged { IsArranged slots.now.cells slots.now.heads }
+    requires callable { (h : ℕ) (node : N)
+        → Contains (nodes_in slots.now.cells) (record { hash = h; node = node })
+        → h % length slots.now.cells ≡ hash % length slots.now.cells
+        → F.pre is_match.now node }
+    requires telling { (h : ℕ) (node : N)
+        → Contains (nodes_in slots.now.cells) (record { hash = h; node = node })
+        → F.post is_match.now node true → h ≡ hash }
+    ensures found { IfSome result
+        (λ f. (kept_at slots.now.cells f.at ≡ Some (record { hash = hash; node = f.node }))
+        × F.post is_match.now f.node true) }
+    ensures none { IfNone result ((node : N)
+        → Contains (nodes_in slots.now.cells) (record { hash = hash; node = node })
+        → F.post is_match.now node false) }
+    ensures goes_on { steps.old ≤ steps.new }
+    ensures cost { let m = length slots.now.cells in steps.new
+        ≤ steps.old + count_by (λ k. k.hash % m == hash % m) (nodes_in slots.now.cells) }
+{
+    let base = base_of(hash, slots.len());
+    if let Some(found) = seek_slots(slots, base, hash, is_match, steps) {
+        return Some(found);
+    }
+    let head = slots.head(base / LANES);
+    if !head.may_have(hash) {
+        return None; // no guest of the group has the hash
+    }
+    seek_guests(slots, head.first as usize, hash, is_match, steps)
 }

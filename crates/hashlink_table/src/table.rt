@@ -1,16 +1,15 @@
 ghost use Rattle.std.specs.Prelude.{◌≡◌, ℕ, ◌+◌, ◌*◌, ◌%◌, ◌^◌, ◌<◌, ◌≤◌, ◌↔◌, ◌∷◌, ◌++◌, [], false, true};
-ghost use Rattle.std.specs.Prelude.{IfNone, IfOk, IfSome, IsOk, IsPermutation, OnErr, OnOk, Ok, Err, length};
+ghost use Rattle.std.specs.Prelude.{IfNone, IfOk, IfSome, IsOk, IsPermutation, OnErr, OnOk, Ok, Err};
 ghost use Rattle.std.specs.{Prelude.max, Int.IsPowerOfTwo};
 ghost use Rattle.hashlink_table.specs.declared.error.TryReserveError.TheVariants.{CapacityOverflow};
-ghost use Rattle.hashlink_table.specs.Chains.{nodes_in};
-ghost use Rattle.hashlink_table.specs.Contents.{agreeing, len_of, AcceptsOnly, AreBuckets, CanAsk, Keeps};
+ghost use Rattle.hashlink_table.specs.Contents.{agreeing, len_of, AcceptsOnly, AreBuckets, CanAsk, IsAmple};
+ghost use Rattle.hashlink_table.specs.Contents.{Keeps};
 
 use crate::error::TryReserveError;
 use crate::hashed::Hashed;
 use crate::search;
 use crate::steps::Steps;
-use crate::store::bucket::{bucket_of, buckets_for};
-use crate::store::cell::{END, StoredCell};
+use crate::store::bucket::slots_for;
 use crate::store::lanes::LANES;
 use crate::store::slots::Slots;
 use crate::store::{growth, insertion, removal};
@@ -21,34 +20,30 @@ use std::sync::ledger::{Blank, Ledger};
 /// The greatest room that a table can be asked for.
 pub const MAX_ROOM: usize = 1 << 62;
 
-// The greatest number of buckets, so that the index of each cell fits into a link. A request for more fails
-// as a failed allocation does.
-const MAX_BUCKETS: usize = 1 << 31;
+// The greatest number of slots, so that the index of each fits into a link. A request for more fails as a
+// failed allocation does.
+const MAX_SLOTS: usize = 1 << 31;
 
-// The least room to which a table grows.
+// A table grows to a room of at most twice what is needed, and of at most twice this if less is needed.
 const MIN_ROOM: usize = 4;
 
 /// Nodes by their hashes.
 ///
-/// A new table does not allocate. One with room has at least 16 buckets: one for each node of its room, or
-/// two in a small table, and after a shrink up to twice as many. A bucket takes 10 bytes and a node. An
-/// overflow cell for each node of the room takes 8 bytes and a node. After a growth that failed, the table
-/// may have memory for up to eight times as many overflow cells.
+/// A new table does not allocate. One with room has a power of two of slots, at least 16 and at most 2^31.
+/// The room is at most seven eighths of them. A slot takes 10 bytes and a node.
 pub struct Table<N> {
     // The slots. Their number is 0 or a power of two, and a multiple of 16.
     slots: Slots<N>,
-    // The overflow cells, for nodes whose group has no free slot.
-    overflow: Vec<StoredCell<N>>,
-    // The first free overflow cell, or `END`.
-    free: usize,
+    alloc: Global,
+    // Where the search for a free slot for a guest goes on.
+    cursor: usize,
     len: usize,
     room: usize,
-    // The node that is stored in a cell without a node.
+    // The node that is stored in a slot without a node.
     filler: N,
 }
 
 impl<N> Model for Table<N> {
-    ghost use Rattle.std.specs.Prelude.{vec_capacity};
     ghost use Rattle.hashlink_table.specs.Contents.{Contents, contents_code};
 
     ghost Value = { Contents N };
@@ -57,10 +52,9 @@ impl<N> Model for Table<N> {
 
     ghost use Rattle.hashlink_table.specs.Chains.{contents, IsSound};
 
-    ghost view = { λ t. contents t.slots t.overflow.items t.room };
+    ghost view = { λ t. contents t.slots.cells t.room };
 
-    ghost invariant = { λ t. IsSound t.slots t.overflow.items (vec_capacity t.overflow) t.free t.len
-        t.room };
+    ghost invariant = { λ t. IsSound t.slots.cells t.slots.heads t.len t.room };
 }
 
 // Written by hand, so that a drop is one call. A derived drop would be inlined wherever a table is dropped.
@@ -68,8 +62,8 @@ impl<N: Drop> Drop for Table<N> {
     fn drop(self) {
         let Table {
             slots: _,
-            overflow: _,
-            free: _,
+            alloc: _,
+            cursor: _,
             len: _,
             room: _,
             filler: _,
@@ -78,15 +72,15 @@ impl<N: Drop> Drop for Table<N> {
 }
 
 impl<N: Copy> Table<N> {
-    /// Creates an empty table. It does not allocate. `filler` is any node, which is stored in cells without a
+    /// Creates an empty table. It does not allocate. `filler` is any node, which is stored in slots without a
     /// node.
     pub fn new(alloc: Global, filler: N) -> Self
         ensures { result ≡ record { nodes = []; room = 0 } }
     {
         Table {
             slots: Slots::new(alloc),
-            overflow: Vec::new(alloc),
-            free: END,
+            alloc,
+            cursor: 0,
             len: 0,
             room: 0,
             filler,
@@ -106,27 +100,21 @@ impl<N: Copy> Table<N> {
         Ok(table)
     }
 
-    // Creates an empty table with `buckets` buckets.
-    fn with_buckets(
-        alloc: Global,
-        filler: N,
-        buckets: usize,
-        room: usize,
-    ) -> Result<Self, AllocError>
-        requires power { IsPowerOfTwo buckets }
-        requires small { buckets ≤ 2 ^ 31 }
+    // Creates an empty table with `count` slots.
+    fn with_slots(alloc: Global, filler: N, count: usize, room: usize) -> Result<Self, AllocError>
+        requires power { IsPowerOfTwo count }
+        requires small { count ≤ 2 ^ 31 }
         requires some { 0 < room }
-        requires headed { room ≤ buckets }
-        requires bounded { buckets ≤ 4 * max 8 room }
-        requires whole { buckets % LANES ≡ 0 }
+        requires headed { 8 * room ≤ 7 * count }
+        requires bounded { count ≤ 4 * max 8 room }
+        requires whole { count % LANES ≡ 0 }
         ensures { IfOk result (λ t. t ≡ record { nodes = []; room = room }) }
     {
-        let slots = Slots::with_cells(alloc, filler, buckets)?;
-        let overflow = Vec::with_capacity(alloc, room)?;
+        let slots = Slots::with_cells(alloc, filler, count)?;
         Ok(Table {
             slots,
-            overflow,
-            free: END,
+            alloc,
+            cursor: 0,
             len: 0,
             room,
             filler,
@@ -148,7 +136,7 @@ impl<N: Copy> Table<N> {
         ensures value { result ≡ self.now.room }
         ensures small { result ≤ 2 ^ 62 }
     {
-        self.room // at most what the buckets and the memory of the overflow cells allow
+        self.room // at most what the slots allow
     }
 
     /// Inserts a node under its hash. It does not allocate.
@@ -159,15 +147,8 @@ impl<N: Copy> Table<N> {
             self.new.nodes }
         ensures room { self.new.room ≡ self.old.room }
     {
-        let bucket = bucket_of(hash, self.slots.len());
         let kept = Hashed { hash, node };
-        insertion::put(
-            &mut self.slots,
-            &mut self.overflow,
-            &mut self.free,
-            bucket,
-            kept,
-        );
+        insertion::put(&mut self.slots, &mut self.cursor, kept);
         self.len += 1;
     }
 
@@ -237,15 +218,10 @@ impl<N: Copy> Table<N> {
         if self.len == 0 {
             return None;
         }
-        match search::seek(&self.slots, &self.overflow, hash, &is_match, steps) {
+        match search::seek(&self.slots, hash, &is_match, steps) {
             None => None,
             Some(found) => {
-                removal::take(
-                    &mut self.slots,
-                    &mut self.overflow,
-                    &mut self.free,
-                    found.spot,
-                );
+                removal::take(&mut self.slots, found.at);
                 self.len -= 1;
                 Some(found.node)
             }
@@ -253,9 +229,9 @@ impl<N: Copy> Table<N> {
     }
 
     /// Returns a node of this hash that matches: the first at which it looks. It looks at the nodes of the
-    /// hash's group whose tag is the hash's, and then at those of the hash's chain. All of them are of the
-    /// hash's bucket. It takes a step for each. It calls `is_match` only on nodes at which it looks; their
-    /// hashes may differ from this one.
+    /// hash's group whose tag is the hash's, and then at the group's guests of the hash's position. All of
+    /// them are of the hash's bucket. It takes a step for each. It calls `is_match` only on nodes at which it
+    /// looks; their hashes may differ from this one.
     #[inline(always)]
     pub fn find<F: Fn(N) -> bool, L: Ledger>(
         &self,
@@ -274,7 +250,7 @@ impl<N: Copy> Table<N> {
         if self.len == 0 {
             return None;
         }
-        match search::seek(&self.slots, &self.overflow, hash, &is_match, steps) {
+        match search::seek(&self.slots, hash, &is_match, steps) {
             None => None,
             Some(found) => Some(found.node),
         }
@@ -315,13 +291,11 @@ impl<N: Copy> Table<N> {
         self.find(hash, is_match, &mut steps)
     }
 
-    /// Removes every node, and keeps the room. It takes linear time in the number of buckets.
+    /// Removes every node, and keeps the room. It takes linear time in the number of slots.
     pub fn clear(&mut self)
         ensures { self.new ≡ record self.old { nodes = [] } }
     {
         self.slots.clear();
-        self.overflow.clear();
-        self.free = END;
         self.len = 0;
     }
 
@@ -333,7 +307,8 @@ impl<N: Copy> Table<N> {
         ensures nodes { IsPermutation self.old.nodes self.new.nodes }
         ensures room { self.old.room ≤ self.new.room }
         ensures bound { self.new.room ≤ max self.old.room (2 * max 4 (len_of self.old + additional)) }
-        ensures power { self.old.room < self.new.room → IsPowerOfTwo self.new.room }
+        ensures ample { self.old.room < self.new.room → IsAmple (len_of self.old + additional)
+            self.new.room }
         ensures unchanged { OnErr result (self.new ≡ self.old) }
 
         // If there is enough room, it does not fail and changes nothing.
@@ -347,8 +322,9 @@ impl<N: Copy> Table<N> {
             return Err(TryReserveError::CapacityOverflow);
         }
         let needed = self.len + additional;
-        let room = needed.max(MIN_ROOM).next_power_of_two();
-        self.grow(buckets_for(room), room)?;
+        let count = slots_for(needed);
+        let room = (2 * needed.max(MIN_ROOM)).min(count / 8 * 7);
+        self.grow(count, room)?;
         Ok(())
     }
 
@@ -361,68 +337,68 @@ impl<N: Copy> Table<N> {
         ensures empty { len_of self.old ≡ 0 → IsOk result }
     {
         if self.len == 0 {
-            let alloc = *self.overflow.allocator();
+            let alloc = self.alloc;
             *self = Table::new(alloc, self.filler);
             return Ok(());
         }
         let len = self.len;
-        self.rebuild(buckets_for(len.next_power_of_two()), len)
+        let count = slots_for(len);
+        if count == self.slots.len() {
+            self.room = len;
+            return Ok(());
+        }
+        self.rebuild(count, len)
     }
 
-    // Grows to `buckets` buckets and this room. If the number of buckets stays, only the overflow cells get
-    // more memory. If it doubles, the nodes in the slots move without a search. Else a new table is made. If
-    // it fails, it changes no node and no room, but may keep memory that it requested.
+    // Grows to `count` slots and this room. If the number of slots stays, only the room changes. If it
+    // doubles, the nodes in their groups move without a search. Else a new table is made. If it fails, it
+    // changes no node and no room, but may keep memory that it requested.
     #[cold]
-    fn grow(&mut self, buckets: usize, room: usize) -> Result<(), AllocError>
-        requires power { IsPowerOfTwo buckets }
+    fn grow(&mut self, count: usize, room: usize) -> Result<(), AllocError>
+        requires power { IsPowerOfTwo count }
         requires more { self.old.room ≤ room }
         requires some { 0 < room }
-        requires headed { room ≤ buckets }
-        requires bounded { buckets ≤ 4 * max 8 room }
-        requires whole { buckets % LANES ≡ 0 }
+        requires headed { 8 * room ≤ 7 * count }
+        requires bounded { count ≤ 4 * max 8 room }
+        requires whole { count % LANES ≡ 0 }
         ensures nodes { IsPermutation self.old.nodes self.new.nodes }
         ensures ok { OnOk result (self.new.room ≡ room) }
         ensures unchanged { OnErr result (self.new ≡ self.old) }
     {
         let now = self.slots.len();
-        if (buckets != now && buckets != 2 * now) || buckets > MAX_BUCKETS {
-            return self.rebuild(buckets, room);
-        }
-        let block = Vec::with_capacity(*self.overflow.allocator(), room)?;
-        if buckets == now {
-            growth::move_to(&mut self.overflow, block);
+        if count == now {
             self.room = room;
             return Ok(());
         }
-        let chained = growth::double(&mut self.slots, &mut self.overflow, block, self.filler)?;
-        self.free = END;
-        self.len -= chained.len();
+        if count != 2 * now || count > MAX_SLOTS {
+            return self.rebuild(count, room);
+        }
+        let guests = growth::double(self.alloc, &mut self.slots, self.filler)?;
+        self.len -= guests.len();
         self.room = room;
-        self.insert_chained(&chained);
+        self.insert_guests(&guests);
         Ok(())
     }
 
-    // Moves the nodes to a new table with `buckets` buckets and this room. If it fails, it changes nothing.
+    // Moves the nodes to a new table with `count` slots and this room. If it fails, it changes nothing.
     #[cold]
-    fn rebuild(&mut self, buckets: usize, room: usize) -> Result<(), AllocError>
-        requires power { IsPowerOfTwo buckets }
+    fn rebuild(&mut self, count: usize, room: usize) -> Result<(), AllocError>
+        requires power { IsPowerOfTwo count }
         requires held { len_of self.old ≤ room }
         requires some { 0 < room }
-        requires headed { room ≤ buckets }
-        requires bounded { buckets ≤ 4 * max 8 room }
-        requires whole { buckets % LANES ≡ 0 }
+        requires headed { 8 * room ≤ 7 * count }
+        requires bounded { count ≤ 4 * max 8 room }
+        requires whole { count % LANES ≡ 0 }
         ensures nodes { IsPermutation self.old.nodes self.new.nodes }
         ensures ok { OnOk result (self.new.room ≡ room) }
         ensures unchanged { OnErr result (self.new ≡ self.old) }
     {
-        if buckets > MAX_BUCKETS {
+        if count > MAX_SLOTS {
             return Err(AllocError);
         }
-        let alloc = *self.overflow.allocator();
-        let mut table = Table::with_buckets(alloc, self.filler, buckets, room)?;
-        let chained = growth::chained(alloc, &self.overflow)?;
+        let alloc = self.alloc;
+        let mut table = Table::with_slots(alloc, self.filler, count, room)?;
         table.insert_slots(&self.slots);
-        table.insert_chained(&chained);
         *self = table;
         Ok(())
     }

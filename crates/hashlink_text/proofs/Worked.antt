@@ -1,6 +1,7 @@
 -- Worked texts, in which no insert is refused.
 use Rattle.std.proofs.Common.{ℕ, ◌+◌, ◌≤◌, ◌++◌, List, [], ◌∷◌, length, None, Some, Ok, codes, refl}
-use Rattle.std.{proofs.Common.{length-append, arith, lit≤}, specs.Fmt.digits, specs.Int.IsPowerOfTwo}
+use Rattle.std.proofs.Common.{◌≡◌, ◌*◌, inl, length-append, arith, lit≤}
+use Rattle.std.{specs.Fmt.digits}
 use Rattle.hashlink_model.specs.MapState.{MapState, map_state, empty_map, Adds, Changes}
 use Rattle.hashlink_core.specs.declared.hash_builder.DefaultHashBuilder.{DefaultHashBuilder}
 use Rattle.hashlink_core.specs.Hashing.{default_builder}
@@ -15,25 +16,33 @@ State = MapState ℕ ℕ DefaultHashBuilder
 abbrev state : List (ℕ × ℕ) → ℕ → ℕ → ℕ → State
 state es spare room writes = map_state es spare room writes default_builder
 
--- a pair is inserted at the back, if there is room only for the others
-adds : (es : List (ℕ × ℕ)) (w : ℕ) (pair : ℕ × ℕ) → IsPowerOfTwo (length es + 1)
-    → Adds (state es 0 (length es) w) (state (es ++ pair ∷ []) 0 (length es + 1) (w + 4)) (es ++ pair ∷ [])
-adds es w pair power =
+-- a pair is inserted at the back, after which there is room for 8
+adds : (es : List (ℕ × ℕ)) (room w : ℕ) (pair : ℕ × ℕ) → 2 * (length es + 1) ≤ 8 → room ≤ 8
+    → (length es + 1 ≤ room → 8 ≡ room)
+    → Adds (state es 0 room w) (state (es ++ pair ∷ []) 0 8 (w + 4)) (es ++ pair ∷ [])
+adds es room w pair few small same =
     let more = length-append es (pair ∷ []) in
     record {
       entries = refl;
       more = more;
       spare = refl;
       room = record {
-        grows = omega arith;
-        same = λ le. absurd (omega arith);
+        grows = small;
+        same = λ le. same (omega (arith, le, more));
         bound = omega arith;
-        power = λ _. power;
+        ample = λ _. inl (omega (arith, few, more));
       };
-      fits = omega arith;
+      fits = omega (arith, few, more);
       link_writes = record { grows = omega arith; bound = omega arith };
       hasher = refl;
     }
+
+first_added : Adds (state [] 0 0 0) (state ((1, 10) ∷ []) 0 8 4) ((1, 10) ∷ [])
+first_added = adds [] 0 0 (1, 10) (lit≤ tt) (lit≤ tt) (λ le. absurd (omega (arith, le)))
+
+second_added : (pair : ℕ × ℕ)
+    → Adds (state ((1, 10) ∷ []) 0 8 4) (state ((1, 10) ∷ pair ∷ []) 0 8 8) ((1, 10) ∷ pair ∷ [])
+second_added pair = adds ((1, 10) ∷ []) 8 4 pair (lit≤ tt) (lit≤ tt) (λ _. refl)
 
 changes : (old new : List (ℕ × ℕ)) (room w stored most : ℕ) → stored ≤ most
     → Changes (state old 0 room w) (state new 0 room (w + stored)) new most
@@ -71,21 +80,21 @@ pub worked_answer : IsTranscript (codes "map\ninsert 1 10\ninsert 2 20\ninsert 1
     (codes "-\n-\n10\n11\n20\n1:11\n")
 unfolding digits
 worked_answer =
-    let one : State = state ((1, 10) ∷ []) 0 1 4 in
-    let two : State = state ((1, 10) ∷ (2, 20) ∷ []) 0 2 8 in
-    let again : State = state ((2, 20) ∷ (1, 11) ∷ []) 0 2 14 in
-    let end : State = state ((1, 11) ∷ []) 1 2 17 in
+    let one : State = state ((1, 10) ∷ []) 0 8 4 in
+    let two : State = state ((1, 10) ∷ (2, 20) ∷ []) 0 8 8 in
+    let again : State = state ((2, 20) ∷ (1, 11) ∷ []) 0 8 14 in
+    let end : State = state ((1, 11) ∷ []) 1 8 17 in
     runs
     (first (codes "insert 1 10") (codes "-") one
-    (Value None ∷ [], (Ok None, record { absent = refl; adds = adds [] 0 (1, 10) (0, refl) }, refl), refl)
+    (Value None ∷ [], (Ok None, record { absent = refl; adds = first_added }, refl), refl)
     (first (codes "insert 2 20") (codes "-") two (
       Value None ∷ [],
-      (Ok None, record { absent = refl; adds = adds ((1, 10) ∷ []) 4 (2, 20) (1, refl) }, refl),
+      (Ok None, record { absent = refl; adds = second_added (2, 20) }, refl),
       refl,
     )
     (first (codes "insert 1 11") (codes "10") again (
       Value (Some 10) ∷ [],
-      (Ok (Some 10), record { old_value = refl; puts = changes _ _ 2 8 6 6 (lit≤ tt) }, refl),
+      (Ok (Some 10), record { old_value = refl; puts = changes _ _ 8 8 6 6 (lit≤ tt) }, refl),
       refl,
     )
     (first (codes "get 1") (codes "11") again
@@ -115,22 +124,22 @@ pub worked_entries : IsTranscript
     (codes "-\n10\n21\n1:10\n1:12 2:21\n")
 unfolding digits
 worked_entries =
-    let one : State = state ((1, 10) ∷ []) 0 1 4 in
-    let two : State = state ((1, 10) ∷ (2, 21) ∷ []) 0 2 8 in
-    let end : State = state ((1, 12) ∷ (2, 21) ∷ []) 0 2 8 in
+    let one : State = state ((1, 10) ∷ []) 0 8 4 in
+    let two : State = state ((1, 10) ∷ (2, 21) ∷ []) 0 8 8 in
+    let end : State = state ((1, 12) ∷ (2, 21) ∷ []) 0 8 8 in
     runs
     (first (codes "insert 1 10") (codes "-") one
-    (Value None ∷ [], (Ok None, record { absent = refl; adds = adds [] 0 (1, 10) (0, refl) }, refl), refl)
+    (Value None ∷ [], (Ok None, record { absent = refl; adds = first_added }, refl), refl)
     (first (codes "entry 1 or_insert 5") (codes "10") one
-    (Seen (Some (1, 10)) ∷ [], (changes _ _ 1 4 0 6 (lit≤ tt), (Some (1, 10), refl, refl)), refl)
+    (Seen (Some (1, 10)) ∷ [], (changes _ _ 8 4 0 6 (lit≤ tt), (Some (1, 10), refl, refl)), refl)
     (first (codes "entry 2 or_insert 21") (codes "21") two (
       Seen None ∷ [],
-      (Ok tt, record { absent = refl; adds = adds ((1, 10) ∷ []) 4 (2, 21) (1, refl) }, refl),
+      (Ok tt, record { absent = refl; adds = second_added (2, 21) }, refl),
       refl,
     )
     (first (codes "entry 1 replace_entry 12") (codes "1:10") end (
       Pair (Some (1, 10)) ∷ [],
-      ((1, 10), record { answer = refl; step = changes _ _ 2 8 0 0 (lit≤ tt) }, refl),
+      ((1, 10), record { answer = refl; step = changes _ _ 8 8 0 0 (lit≤ tt) }, refl),
       refl,
     )
     (first (codes "iter") (codes "1:12 2:21") end (refl, refl) no_line)))))

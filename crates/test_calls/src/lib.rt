@@ -7,6 +7,8 @@
 #[cfg(test)]
 mod adapters;
 #[cfg(test)]
+mod cloning;
+#[cfg(test)]
 mod commands;
 #[cfg(test)]
 mod counting;
@@ -35,6 +37,7 @@ pub mod raw_insert;
 mod rooms;
 #[cfg(test)]
 mod serving;
+pub mod threads;
 #[cfg(test)]
 mod uses;
 #[cfg(test)]

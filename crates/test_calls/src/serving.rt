@@ -76,3 +76,38 @@ fn a_fault_says_what_failed(rt: HostRuntime) -> ExitCode {
             & says(rt.alloc(), &Fault::Writing, "linkrun: writing failed"),
     )
 }
+
+// A writer that keeps what is written until it is flushed. Then it has passed on as many bytes as were
+// written.
+#[derive(Clone, Copy)]
+struct Keeping {
+    written: usize,
+    passed: usize,
+}
+
+impl Write for Keeping {
+    fn write(&mut self, buf: &[u8]) -> io::Result<usize> {
+        self.written = self.written.saturating_add(buf.len());
+        Ok(buf.len())
+    }
+
+    fn flush(&mut self) -> io::Result<()> {
+        self.passed = self.written;
+        Ok(())
+    }
+}
+
+/// Whether all of the answer of so many bytes to a text is passed on.
+fn is_flushed(alloc: Global, mut text: &[u8], length: usize) -> bool {
+    let mut output = Keeping {
+        written: 0,
+        passed: 0,
+    };
+    let is_served = serve(alloc, &mut text, &mut output).is_ok();
+    is_served & (output.written == length) & (output.passed == length)
+}
+
+#[test]
+fn the_answer_is_flushed_once_it_is_written(rt: HostRuntime) -> ExitCode {
+    passes(is_flushed(rt.alloc(), b"map\ninsert 1 10\niter\n", 7))
+}

@@ -130,7 +130,9 @@ fn run_part<C: Listed + Stands>(
         container.stand(rt);
     }
     let replies = line.answers.words.as_slice();
-    Stop::Reply.unless(line.answers.tally.refused > 0 || are_replies_written(lines, replies))
+    Stop::Reply.unless(
+        line.answers.tally.refused > 0 || are_replies_written(lines, replies, line.is_open),
+    )
 }
 
 /// Records and prints the replies of a run, or that there was no memory for it.
@@ -150,20 +152,26 @@ fn say_replies(replies: Replies, line: &mut Line<'_>) -> Result<(), Stop> {
 }
 
 /// Whether the replies to the lines are the written ones.
-fn are_replies_written(lines: &[&str], replies: &[Word]) -> bool {
+fn are_replies_written(lines: &[&str], replies: &[Word], is_open: bool) -> bool {
     let mut place = 0usize;
     for line in lines {
         let (call, wanted) = cut(line);
         let next = place.saturating_add(count_replies(call));
         let came = replies.get(place..next).unwrap_or(&[]);
-        if let Some(wanted) = wanted
-            && !are_written(came, wanted)
-        {
+        if !is_reply_written(came, wanted, is_open) {
             return false;
         }
         place = next;
     }
     true
+}
+
+/// Whether the replies to a line are the written ones, if they have to be written.
+fn is_reply_written(came: &[Word], wanted: Option<&str>, is_open: bool) -> bool {
+    match wanted {
+        Some(wanted) => are_written(came, wanted, 0),
+        None => is_open || came.is_empty(),
+    }
 }
 
 /// The number of replies to a line, which is one for each step of a cursor.
@@ -185,9 +193,9 @@ fn count_names(words: &str) -> usize {
     count
 }
 
-/// Runs the lines on two caches, whose capacities are the next words. What they find is compared only with
-/// the reference model. The number of a key is that of its line, so the stored entries show which of several
-/// equal keys was stored.
+/// Runs the lines on two caches, whose capacities are the next words. The answer to a line is what the
+/// smaller finds and what the larger finds. The number of a key is that of its line, so the stored entries
+/// show which of several equal keys was stored.
 pub fn run_on_pair<'f>(row: Row<'f>, line: &mut Line<'f>) -> Result<(), Stop> {
     begin(row, Hashing::Default, line);
     let alloc = line.home.alloc;
@@ -197,10 +205,17 @@ pub fn run_on_pair<'f>(row: Row<'f>, line: &mut Line<'f>) -> Result<(), Stop> {
         Ok(pair) => {
             say_found(&pair.small, &pair.small_replies, line.voice);
             say_found(&pair.large, &pair.large_replies, line.voice);
+            let found = (
+                pair.small_replies.as_slice(),
+                Some(pair.large_replies.as_slice()),
+            );
+            Stop::Reply.unless(is_found_written(row.lines, found, line.is_open))
         }
-        Err(AllocError) => line.refuse(),
+        Err(AllocError) => {
+            line.refuse();
+            Ok(())
+        }
     }
-    Ok(())
 }
 
 /// The commands of the lines, for two caches.
@@ -209,7 +224,7 @@ fn commands_of_pair(alloc: Global, lines: &str) -> Result<Vec<PairCommand<Name, 
     let mut number = 0u64;
     for line in lines.split('\n') {
         number = number.saturating_add(1);
-        let command = meaning_of(line.as_bytes()).ok_or(Stop::Unread)?;
+        let command = meaning_of(cut(line).0.as_bytes()).ok_or(Stop::Unread)?;
         push(&mut commands, numbered(command, number))?;
     }
     Ok(commands)
@@ -231,10 +246,44 @@ pub fn run_as_uses<'f>(row: Row<'f>, line: &mut Line<'f>) -> Result<(), Stop> {
     let alloc = line.home.alloc;
     let pairs = uses_of(alloc, row.lines)?;
     match run_uses(alloc, line.words.capacity(), &pairs) {
-        Ok(uses) => say_found(&uses.cache, &uses.replies, line.voice),
-        Err(AllocError) => line.refuse(),
+        Ok(uses) => {
+            say_found(&uses.cache, &uses.replies, line.voice);
+            Stop::Reply.unless(is_found_written(row.lines, (&uses.replies, None), line.is_open))
+        }
+        Err(AllocError) => {
+            line.refuse();
+            Ok(())
+        }
     }
-    Ok(())
+}
+
+/// Whether one cache, and another if there are two, found at each line what is written after it.
+fn is_found_written(
+    lines: &str,
+    (first, second): (&[Option<u64>], Option<&[Option<u64>]>),
+    is_open: bool,
+) -> bool {
+    let mut place = 0usize;
+    for line in lines.split('\n') {
+        let one = word_at(first, place);
+        let is_written = match second {
+            Some(second) => is_reply_written(&[one, word_at(second, place)], cut(line).1, is_open),
+            None => is_reply_written(&[one], cut(line).1, is_open),
+        };
+        if !is_written {
+            return false;
+        }
+        place = place.saturating_add(1);
+    }
+    true
+}
+
+/// The word for what was found at a line.
+fn word_at(found: &[Option<u64>], place: usize) -> Word {
+    match found.get(place) {
+        Some(value) => value.as_ref().shown(),
+        None => Word::Wrong,
+    }
 }
 
 /// The pairs that the lines use.

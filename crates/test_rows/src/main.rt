@@ -2,9 +2,10 @@
 //! `docs/dev/rows.md` describes how a row is written.
 //!
 //! Its arguments name the files, or a single row of a file by its number, such as `map.rows#3`. It ends with
-//! status 1 if an answer was wrong, and prints for each wrong row the place and the answer. If the first
-//! argument is `--say`, it prints each answer and the contents of the containers afterwards, which
-//! `tools/judge` compares with the reference model.
+//! status 1 if an answer was wrong or is not written, and prints for each wrong row the place and the answer;
+//! also if no row was run. After the argument `--open` an answer need not be written. After `--say` neither,
+//! and it prints each answer and the contents of the containers afterwards, which `tools/judge` compares with
+//! the reference model.
 #![tactic(auto)]
 
 mod calls;
@@ -34,20 +35,34 @@ fn main(rt: HostRuntime) -> ExitCode {
         return ExitCode::SUCCESS;
     };
     let _program = words.next();
-    let mut is_said = false;
+    let mut asked = Asked {
+        is_said: false,
+        is_open: false,
+    };
     let mut are_right = true;
     for word in words {
-        if word.as_str() == "--say" {
-            is_said = true;
-        } else {
-            are_right = is_file_right(&rt, word.as_str(), is_said, &mut tally) && are_right;
+        match word.as_str() {
+            "--say" => asked.is_said = true,
+            "--open" => asked.is_open = true,
+            name => are_right = is_file_right(&rt, name, asked, &mut tally) && are_right,
         }
     }
     if !are_right {
         return ExitCode::FAILURE;
     }
-    end(&rt, is_said, tally);
+    if tally.rows == 0 && tally.left_out == 0 {
+        let _ = println!(rt; "no row is named");
+        return ExitCode::FAILURE;
+    }
+    end(&rt, asked.is_said, tally);
     ExitCode::SUCCESS
+}
+
+/// Whether each answer is printed, and whether an answer need not be written.
+#[derive(Clone, Copy)]
+struct Asked {
+    is_said: bool,
+    is_open: bool,
 }
 
 /// Prints that each answer is right, and if each is printed or one refused, how many rows did so.
@@ -66,13 +81,13 @@ fn end(rt: &HostRuntime, is_said: bool, tally: Tally) {
 
 /// Runs the rows of a file, or one of them, and prints what is wrong. A file for which there is no memory is
 /// left out, and is not wrong.
-fn is_file_right(rt: &HostRuntime, name: &str, is_said: bool, tally: &mut Tally) -> bool {
+fn is_file_right(rt: &HostRuntime, name: &str, asked: Asked, tally: &mut Tally) -> bool {
     let (name, only) = match name.split_once('#') {
         Some((name, place)) => (name, number(place)),
         None => (name, None),
     };
     let is_right = match fs::read_to_string(rt, name) {
-        Ok(text) => is_text_right(rt, (name, only), text.as_str(), is_said, tally),
+        Ok(text) => is_text_right(rt, (name, only), text.as_str(), asked, tally),
         Err(error) if error.kind() == ErrorKind::OutOfMemory => Err(AllocError),
         Err(error) => {
             let _ = println!(rt; "{name}: {error}");
@@ -90,24 +105,24 @@ fn is_text_right(
     rt: &HostRuntime,
     named: (&str, Option<u64>),
     text: &str,
-    is_said: bool,
+    asked: Asked,
     tally: &mut Tally,
 ) -> Result<bool, AllocError> {
     let counts = Rc::new(rt.alloc(), Counts::new())?;
-    let voice = if is_said { Some(rt) } else { None };
-    is_counted_right(rt, named, text, voice, &counts, tally)
+    is_counted_right(rt, named, text, asked, &counts, tally)
 }
 
 /// The same with these counts.
 fn is_counted_right<'f>(
-    rt: &HostRuntime,
+    rt: &'f HostRuntime,
     named: (&str, Option<u64>),
     text: &'f str,
-    voice: Voice<'f>,
+    asked: Asked,
     counts: &'f Rc<Counts>,
     tally: &mut Tally,
 ) -> Result<bool, AllocError> {
     let alloc = rt.alloc();
+    let voice: Voice<'f> = if asked.is_said { Some(rt) } else { None };
     let line = &mut Line {
         home: Home {
             alloc,
@@ -115,6 +130,7 @@ fn is_counted_right<'f>(
             hashing: Hashing::Default,
         },
         voice,
+        is_open: asked.is_said || asked.is_open,
         place: (0, ""),
         words: Words::new(""),
         answers: Answers::new(alloc, *tally)?,

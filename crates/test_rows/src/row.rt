@@ -45,7 +45,7 @@ impl<'f> Row<'f> {
     }
 }
 
-/// The call of a line, and the answer that is written after it, if there is one.
+/// The calls of a line, and the answers that are written after them, if there are any.
 pub fn cut(line: &str) -> (&str, Option<&str>) {
     match line.split_once(" -> ") {
         Some((call, wanted)) => (call, Some(wanted)),
@@ -53,7 +53,7 @@ pub fn cut(line: &str) -> (&str, Option<&str>) {
     }
 }
 
-/// The words of a call and, after `each FIRST LAST`, also the last number for which it is made.
+/// The words of a line and, after `each FIRST LAST`, also the last number for which its calls are made.
 pub fn words_of(call: &str) -> (Words<'_>, u64) {
     let mut words = Words::new(call);
     if !words.has("each") {

@@ -1,7 +1,7 @@
 //! Runs a row.
-use crate::calls::{Cache, Map, Set, Weighted};
+use crate::calls::{Cache, Curve, Map, Set, Weighted};
 use crate::hashers::Hashing;
-use crate::items::{Answers, Home, Line, Name, Stop, Word, Words, are_written};
+use crate::items::{Home, Line, Name, Stop, Word, Words, are_written};
 use crate::lists::{run_as_uses, run_list, run_on_pair};
 use crate::row::{Row, cut, words_of};
 use crate::spoken::{Spoken, Stands, say_words};
@@ -62,6 +62,7 @@ fn run_under<'f>(row: Row<'f>, hashing: Hashing, line: &mut Line<'f>) -> Result<
         "set" => speak::<Set>(row, line),
         "cache" => speak::<Cache>(row, line),
         "weighted" => speak::<Weighted>(row, line),
+        "curve" => speak::<Curve>(row, line),
         "copied_map" => speak::<LinkedHashMap<Name, Name, Hashing>>(row, line),
         "copied_set" => speak::<LinkedHashSet<Name, Hashing>>(row, line),
         "commands" => run_list::<LinkedHashMap<u64, u64, Hashing>>(row, line),
@@ -104,6 +105,7 @@ fn speak<'f, C: Spoken + Stands + Drop>(row: Row<'f>, line: &mut Line<'f>) -> Re
 fn count_anew(home: Home<'_>) {
     let _cost = home.cost();
     let _clones = home.clones();
+    let _lost = home.lost();
 }
 
 /// The two containers of a row.
@@ -130,22 +132,43 @@ impl<C: Spoken + Stands> Speech<C> {
     }
 
     fn run_line<'f>(&mut self, text: &'f str, line: &mut Line<'f>) -> Result<(), Stop> {
-        let (call, wanted) = cut(text);
-        let (words, last) = words_of(call);
+        let (calls, wanted) = cut(text);
+        let (words, last) = words_of(calls);
         for n in words.n..last.saturating_add(1) {
-            line.words = Words { n, ..words };
-            line.answers.words.clear();
-            self.call(wanted.is_some(), line)?;
-            Stop::Unread.unless(!line.words.is_unread)?;
-            self.say(line);
-            self.judge(wanted, line)?;
+            self.run_calls(Words { n, ..words }, wanted, line)?;
         }
         Ok(())
     }
 
+    /// Makes the calls of a line, between which stand commas, as between their answers.
+    fn run_calls<'f>(
+        &mut self,
+        words: Words<'f>,
+        wanted: Option<&'f str>,
+        line: &mut Line<'f>,
+    ) -> Result<(), Stop> {
+        let mut answers = wanted.unwrap_or("").split(", ");
+        for rest in words.rest.split(", ") {
+            let answer = answers.next();
+            Stop::Unread.unless(wanted.is_none() || answer.is_some())?;
+            line.words = Words { rest, ..words };
+            line.answers.words.clear();
+            self.run_call(if wanted.is_some() { answer } else { None }, line)?;
+        }
+        Stop::Unread.unless(wanted.is_none() || answers.next().is_none())
+    }
+
+    /// Makes the call that the words name, and judges its answer.
+    fn run_call<'f>(&mut self, wanted: Option<&'f str>, line: &mut Line<'f>) -> Result<(), Stop> {
+        self.call(wanted.is_some(), line)?;
+        Stop::Unread.unless(!line.words.is_unread)?;
+        self.say(line);
+        self.judge(wanted, line)
+    }
+
     /// Makes the call that the words name on the first container or, after `other`, on the second, or records
-    /// the counts. A line that asks for counts has to have its answer, which `is_answered` tells, because the
-    /// reference model does not know the counts.
+    /// the counts. A line that asks for hashes, comparisons or clones has to have its answer, which
+    /// `is_answered` tells, because the reference model does not know them.
     fn call(&mut self, is_answered: bool, line: &mut Line<'_>) -> Result<(), Stop> {
         let words = line.words;
         match line.words.word() {
@@ -162,6 +185,10 @@ impl<C: Spoken + Stands> Speech<C> {
             "clones" => {
                 let clones = line.home.clones();
                 line.say(Word::Item(clones, 0))
+            }
+            "lost" => {
+                let lost = line.home.lost();
+                line.say(Word::Item(lost, 0))
             }
             _ => {
                 line.words = words;
@@ -181,19 +208,20 @@ impl<C: Spoken + Stands> Speech<C> {
 
     /// Judges the answer, and the number of live items.
     fn judge(&mut self, wanted: Option<&str>, line: &mut Line<'_>) -> Result<(), Stop> {
-        Stop::Answer.unless(self.is_written(wanted, &mut line.answers))?;
+        Stop::Answer.unless(self.is_written(wanted, line))?;
         let (first, second) = (self.first.count_items(), self.second.count_items());
         Stop::Living.unless(line.home.living() == first.saturating_add(second))
     }
 
-    /// Whether the answer is the written one, if it has to be.
-    fn is_written(&mut self, wanted: Option<&str>, answers: &mut Answers) -> bool {
-        let is_refused = answers.count_refused();
+    /// Whether the answer is the written one, if it has to be. An answer of no words is not written.
+    fn is_written(&mut self, wanted: Option<&str>, line: &mut Line<'_>) -> bool {
+        let is_refused = line.answers.count_refused();
+        let words = line.answers.words.as_slice();
         let Some(wanted) = wanted else {
             self.is_sure = self.is_sure && !is_refused;
-            return true;
+            return line.is_open || words.is_empty();
         };
-        let is_written = are_written(answers.words.as_slice(), wanted);
+        let is_written = are_written(words, wanted, line.words.n);
         self.is_sure = self.is_sure && (is_written || !is_refused);
         is_written || !self.is_sure
     }

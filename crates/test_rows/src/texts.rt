@@ -9,7 +9,7 @@ use std::alloc::Global;
 use std::str::from_utf8;
 
 /// Runs the text of the row. The answer has to be the one that is written after the text and a line `=`, if
-/// there is one and no allocation failed. Each line of the answer is printed.
+/// it has to be written and no allocation failed. Each line of the answer is printed.
 pub fn run_as_text<'f>(row: Row<'f>, line: &mut Line<'f>) -> Result<(), Stop> {
     begin(row, Hashing::Default, line);
     let alloc = line.home.alloc;
@@ -19,7 +19,10 @@ pub fn run_as_text<'f>(row: Row<'f>, line: &mut Line<'f>) -> Result<(), Stop> {
         line.refuse();
         return Ok(());
     };
-    Stop::Reply.unless(is_answer_right(answer.as_slice(), written, line.voice))
+    Stop::Reply.unless(
+        is_answer_right(answer.as_slice(), written, line.voice)
+            && (line.is_open || written.is_some()),
+    )
 }
 
 /// The text of the lines, and the answer that is written after it, if there is one.

@@ -1,40 +1,45 @@
-//! Calls that take the nodes of a keyed list out, to drain them, and that put them back.
-ghost use Rattle.std.specs.Prelude.{◌≡◌, []};
-ghost use Rattle.hashlink_core.specs.{Keyed.{state_of, IsKeyed}, Drained.{with_drained, FitsBack}};
+//! Calls that take the entries of a keyed list out, to drain them.
+ghost use Rattle.std.specs.Prelude.{◌≡◌};
+ghost use Rattle.hashlink_model.specs.Steps.{PopsFront, PopsBack};
+ghost use Rattle.hashlink_core.specs.{Keyed.{state_of, IsKeyed}, Drained.{state_with, CanDrain}};
 
 use super::KeyedList;
-use crate::drained::DrainedNodes;
-use hashlink_nodes::{Node, Nodes};
+use hashlink_nodes::Chain;
 use std::hash::{BuildHasher, Hash};
-use std::mem;
 
 impl<K: Eq + Hash, V, S: BuildHasher> KeyedList<K, V, S> {
-    /// Takes all nodes out, with their entries. The list is then empty, and keeps its room. It takes linear
-    /// time in the number of buckets, and hashes nothing.
-    pub fn take_nodes(&mut self) -> DrainedNodes<K, V>
-        ensures taken { with_drained self.new result ≡ self.old }
-        ensures fits { FitsBack (state_of self.new) result }
+    /// Takes all entries out. The list is then empty, and keeps its room and its free nodes. It takes linear
+    /// time in the number of buckets, stores at most two links, and hashes nothing.
+    pub fn take_entries(&mut self) -> Chain<K, V>
+        ensures taken { state_with (state_of self.new) result ≡ state_of self.old }
+        ensures fits { CanDrain (state_of self.new) result }
         ensures sound { IsKeyed K.eq self.old }
     {
         self.table.clear();
-        let own = Nodes::new(self.nodes.allocator());
-        let nodes = mem::replace(&mut self.nodes, own);
-        DrainedNodes {
-            first: nodes.next(None).unwrap_or(Node::nowhere()),
-            last: nodes.prev(None).unwrap_or(Node::nowhere()),
-            nodes,
-        }
+        self.nodes.take_entries()
     }
 
-    /// Exchanges the nodes of the list, which is empty, for nodes that `take_nodes` took out and that have no
-    /// entries. Returns those of the list.
-    pub fn swap_nodes(&mut self, drained: DrainedNodes<K, V>) -> DrainedNodes<K, V>
-        requires fits { FitsBack (state_of self.old) drained }
-        requires empty { drained.nodes ≡ [] }
-        ensures { self.new ≡ with_drained self.old drained }
+    /// Removes the first of the entries that were taken out, and returns it. Its node is then the list's
+    /// first free node. It stores one link.
+    #[inline(always)]
+    pub fn pop_front_of(&mut self, chain: &mut Chain<K, V>) -> Option<(K, V)>
+        requires { CanDrain (state_of self.old) chain.old }
+        ensures pops { PopsFront (state_with (state_of self.old) chain.old)
+            (state_with (state_of self.new) chain.new) result }
+        ensures fits { CanDrain (state_of self.new) chain.new }
     {
-        let DrainedNodes { nodes, first, last } = drained;
-        let nodes = mem::replace(&mut self.nodes, nodes);
-        DrainedNodes { nodes, first, last }
+        chain.pop_front(&mut self.nodes)
+    }
+
+    /// Removes the last of the entries that were taken out, and returns it. Its node is then the list's first
+    /// free node. It stores one link.
+    #[inline(always)]
+    pub fn pop_back_of(&mut self, chain: &mut Chain<K, V>) -> Option<(K, V)>
+        requires { CanDrain (state_of self.old) chain.old }
+        ensures pops { PopsBack (state_with (state_of self.old) chain.old)
+            (state_with (state_of self.new) chain.new) result }
+        ensures fits { CanDrain (state_of self.new) chain.new }
+    {
+        chain.pop_back(&mut self.nodes)
     }
 }

@@ -32,8 +32,7 @@ impl<K, V> Nodes<K, V> {
         self.spare -= 1;
     }
 
-    /// Drops the entries and frees their blocks, from the last to the first. The free nodes stay. It stores
-    /// two links for each entry.
+    /// Drops the entries and frees their blocks. The free nodes stay. It stores two links for each entry.
     pub fn release_all(&mut self)
     where
         K: Drop,
@@ -88,34 +87,6 @@ impl<K, V> Nodes<K, V> {
         self.pool.release(node, self.alloc);
         self.len -= 1;
         Entry { number, key, value }
-    }
-
-    /// Removes the last entry and returns its pair. Its node is the first free node then. It stores three
-    /// links.
-    fn detach_last_into_free(&mut self) -> (K, V)
-        requires { 0 < length self.old.entries }
-        ensures entries { length self.old.entries ≡ length self.new.entries + 1 }
-        ensures free { length self.new.free ≡ length self.old.free + 1 }
-        ensures link_writes { self.new.link_writes ≡ self.old.link_writes + 3 }
-    {
-        let guard = self.guard.unwrap();
-        let node = self.pool.prev(guard);
-        self.detach_into_free(node)
-    }
-
-    /// Drops the entries, from the last to the first. Their nodes are free then. It stores three links for
-    /// each entry.
-    pub fn detach_all_into_free(&mut self)
-    where
-        K: Drop,
-        V: Drop,
-        ensures entries { self.new.entries ≡ [] }
-        ensures free { length self.new.free ≡ length self.old.free + length self.old.entries }
-        ensures link_writes { self.new.link_writes ≡ self.old.link_writes + 3 * length self.old.entries }
-    {
-        while self.len() != 0 {
-            let _pair = self.detach_last_into_free();
-        }
     }
 
     /// Ends a ring that has no nodes, and frees the guard's block.

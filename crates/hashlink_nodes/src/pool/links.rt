@@ -5,6 +5,7 @@ ghost use Rattle.hashlink_nodes.specs.State.{store_next, store_prev, Adds, Makes
 
 use super::Pool;
 use super::link::Link;
+use crate::arena::Block;
 use crate::link_writes::LinkWrites;
 use crate::node::Node;
 use std::alloc::{AllocError, Global};
@@ -66,9 +67,17 @@ impl<K, V> Pool<K, V> {
         ensures unchanged { OnErr result (self.new ≡ self.old) }
     {
         match Vacant::take(alloc) {
-            Ok(vacant) => Ok(self.arena.keep(vacant, Links::nowhere())),
+            Ok(vacant) => Ok(self.keep(vacant)),
             Err(_) => Err(AllocError),
         }
+    }
+
+    /// Takes a block over, as a node that holds nothing. Its links lead nowhere until they are stored.
+    #[inline(always)]
+    pub(crate) fn keep(&mut self, vacant: Vacant<Block<(K, V)>, Global>) -> Node
+        ensures { Adds result (state_of self.old) (state_of self.new) }
+    {
+        self.arena.keep(vacant, Links::nowhere())
     }
 
     /// Allocates a guard, which holds nothing and links to itself. The count of the pool does not include the

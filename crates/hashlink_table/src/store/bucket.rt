@@ -1,4 +1,5 @@
-ghost use Rattle.std.specs.{Prelude.{◌≡◌, ◌-◌, ◌*◌, ◌%◌, ◌≤◌, max}, Int.IsPowerOfTwo};
+ghost use Rattle.std.specs.Prelude.{◌≡◌, ◌-◌, ◌*◌, ◌^◌, ◌%◌, ◌≤◌, max};
+ghost use Rattle.std.specs.Int.{IsPowerOfTwo};
 
 use super::lanes::LANES;
 
@@ -11,7 +12,7 @@ pub fn bucket_of(hash: u32, buckets: usize) -> usize
     (hash as usize) & (buckets - 1)
 }
 
-/// Returns the first bucket of the group to which a hash belongs.
+/// Returns the first slot of the group to which a hash belongs.
 #[inline]
 pub fn base_of(hash: u32, buckets: usize) -> usize
     requires power { IsPowerOfTwo buckets }
@@ -21,31 +22,22 @@ pub fn base_of(hash: u32, buckets: usize) -> usize
     (hash as usize) & (buckets - LANES)
 }
 
-/// Returns the first bucket of this bucket's group.
+/// Returns the first slot of this slot's group.
 #[inline]
-pub fn group_of(bucket: usize) -> usize
-    ensures { result ≡ bucket - bucket % LANES }
+pub fn group_of(at: usize) -> usize
+    ensures { result ≡ at - at % LANES }
 {
-    bucket - bucket % LANES
+    at - at % LANES
 }
 
-// The greatest room for which a table has two buckets for each node. Above it, it has one.
-const MAX_SPARSE_ROOM: usize = 1 << 10;
-
-/// Returns the number of buckets of a table with this room, which fill whole groups. A table that was shrunk
-/// may have a smaller room.
-pub fn buckets_for(room: usize) -> usize
-    requires { IsPowerOfTwo room }
+/// Returns the number of slots of a table with this room: the least power of two of which the room is at most
+/// seven eighths. They fill whole groups.
+pub fn slots_for(room: usize) -> usize
+    requires { room ≤ 2 ^ 62 }
     ensures power { IsPowerOfTwo result }
-    ensures enough { room ≤ result }
+    ensures enough { 8 * room ≤ 7 * result }
     ensures grouped { result % LANES ≡ 0 }
-    ensures bounded { result ≤ 2 * max 8 room }
+    ensures bounded { result ≤ 4 * max 8 room }
 {
-    if room <= LANES / 2 {
-        LANES
-    } else if room <= MAX_SPARSE_ROOM {
-        2 * room
-    } else {
-        room
-    }
+    (room + (room + 6) / 7).max(LANES).next_power_of_two()
 }

@@ -1,22 +1,21 @@
-//! The growth of the cells.
-ghost use Rattle.std.specs.Prelude.{◌≡◌, ◌+◌, ◌*◌, ◌%◌, ◌^◌, ◌<◌, ◌≤◌, [], ◌++◌, IfOk, IsPermutation, OnErr};
-ghost use Rattle.std.specs.{Prelude.{OnOk, Some, length, max, min, vec_capacity, vec_len}, Int.IsPowerOfTwo};
-ghost use Rattle.hashlink_table.specs.{Chains.{nodes_in, IsArranged, IsInPlace}, Contents.len_of};
+//! The growth of the slots.
+ghost use Rattle.std.specs.Prelude.{◌≡◌, ◌+◌, ◌*◌, ◌%◌, ◌^◌, ◌≤◌, ◌++◌, IfOk, IsPermutation, OnErr, OnOk};
+ghost use Rattle.std.specs.{Prelude.{length, vec_len}, Int.IsPowerOfTwo};
+ghost use Rattle.hashlink_table.specs.{Chains.{guests_in, nodes_in, IsArranged}, Contents.len_of};
 
-use super::cell::{END, StoredCell};
 use super::lanes::LANES;
 use super::slots::Slots;
 use crate::hashed::Hashed;
 use crate::table::Table;
 use std::alloc::{AllocError, Global};
 
-/// The nodes of overflow cells, while they move to other cells. Only this file reads their hashes.
+/// The nodes of guests, while they move to other slots. Only this file reads their hashes.
 #[derive(Drop)]
-pub struct OverflowNodes<N> {
+pub struct GuestNodes<N> {
     nodes: Vec<Hashed<N>>,
 }
 
-impl<N> OverflowNodes<N> {
+impl<N> GuestNodes<N> {
     pub fn len(&self) -> usize
         ensures { result ≡ vec_len self.now.nodes }
     {
@@ -24,76 +23,45 @@ impl<N> OverflowNodes<N> {
     }
 }
 
-/// Returns the nodes of the overflow cells.
-pub fn chained<N: Copy>(
-    alloc: Global,
-    cells: &[StoredCell<N>],
-) -> Result<OverflowNodes<N>, AllocError>
-    ensures { IfOk result (λ chained. chained.nodes.items ≡ nodes_in cells.now) }
+// Returns the nodes of the guests.
+fn guests<N: Copy>(alloc: Global, slots: &Slots<N>) -> Result<GuestNodes<N>, AllocError>
+    ensures { IfOk result (λ guests. guests.nodes.items ≡ guests_in slots.now.cells) }
 {
-    let mut nodes = Vec::with_capacity(alloc, cells.len())?;
-    for cell in cells {
-        if let Some(kept) = cell.kept() {
-            nodes.push_reserved(kept);
+    let mut nodes = Vec::new(alloc);
+    for at in 0..slots.len() {
+        if let Some(kept) = slots.guest(at) {
+            nodes.push(kept)?;
         }
     }
-    Ok(OverflowNodes { nodes })
+    Ok(GuestNodes { nodes })
 }
 
-/// Moves the overflow cells to this block.
-pub fn move_to<N: Copy>(cells: &mut Vec<StoredCell<N>>, mut block: Vec<StoredCell<N>>)
-    requires empty { block.items ≡ [] }
-    requires roomy { vec_len cells.old ≤ vec_capacity block }
-    ensures items { cells.new.items ≡ cells.old.items }
-    ensures capacity { vec_capacity cells.new ≡ vec_capacity block }
-{
-    for cell in cells.iter() {
-        block.push_reserved(cell.copied());
-    }
-    *cells = block;
-}
-
-/// Doubles the buckets. The overflow cells move to this block, and their nodes are taken out and returned. If
-/// it fails, no node changes, and the block may be kept.
-//
-// The overflow cells move before the slots grow, so that the slots can grow into their old memory. So the
-// heap stays small, and `malloc` returns less of it to the system, to request it again. The overflow cells
-// are emptied last, so that nothing is lost if the slots cannot grow.
+/// Doubles the slots. The nodes of guests are taken out and returned. If it fails, nothing changes.
 pub fn double<N: Copy>(
+    alloc: Global,
     slots: &mut Slots<N>,
-    cells: &mut Vec<StoredCell<N>>,
-    block: Vec<StoredCell<N>>,
     filler: N,
-) -> Result<OverflowNodes<N>, AllocError>
-    requires power { IsPowerOfTwo (length slots.old) }
-    requires whole { length slots.old % LANES ≡ 0 }
-    requires small { length slots.old ≤ 2 ^ 30 }
-    requires in_place { IsInPlace slots.old }
-    requires empty { block.items ≡ [] }
-    requires roomy { vec_len cells.old ≤ vec_capacity block }
-    ensures arranged { OnOk result (IsArranged slots.new cells.new.items END) }
-    ensures no_overflow { OnOk result (cells.new.items ≡ []) }
-    ensures len { OnOk result (length slots.new ≡ 2 * length slots.old) }
-    ensures nodes { IfOk result (λ chained. IsPermutation (nodes_in slots.old ++ nodes_in cells.old.items)
-        (nodes_in slots.new ++ chained.nodes.items)) }
-    ensures moved { OnOk result (vec_capacity cells.new ≡ vec_capacity block) }
-    ensures slots_same { OnErr result (slots.new ≡ slots.old) }
-    ensures cells_same { OnErr result (cells.new.items ≡ cells.old.items) }
-    ensures least { min (vec_capacity block) (vec_capacity cells.old) ≤ vec_capacity cells.new }
-    ensures most { vec_capacity cells.new ≤ max (vec_capacity block) (vec_capacity cells.old) }
+) -> Result<GuestNodes<N>, AllocError>
+    requires power { IsPowerOfTwo (length slots.old.cells) }
+    requires whole { length slots.old.cells % LANES ≡ 0 }
+    requires small { length slots.old.cells ≤ 2 ^ 30 }
+    requires arranged { IsArranged slots.old.cells slots.old.heads }
+    ensures arranged { OnOk result (IsArranged slots.new.cells slots.new.heads) }
+    ensures len { OnOk result (length slots.new.cells ≡ 2 * length slots.old.cells) }
+    ensures nodes { IfOk result (λ guests. IsPermutation (nodes_in slots.old.cells)
+        (nodes_in slots.new.cells ++ guests.nodes.items)) }
+    ensures unchanged { OnErr result (slots.new ≡ slots.old) }
 {
-    let nodes = chained(*cells.allocator(), cells)?;
-    move_to(cells, block);
+    let nodes = guests(alloc, slots)?;
     slots.double(filler)?;
-    cells.clear();
     Ok(nodes)
 }
 
 impl<N: Copy> Table<N> {
     /// Inserts the nodes in the slots of another table.
     pub(crate) fn insert_slots(&mut self, slots: &Slots<N>)
-        requires { len_of self.old + length (nodes_in slots.now) ≤ self.old.room }
-        ensures inserted { IsPermutation (self.old.nodes ++ nodes_in slots.now) self.new.nodes }
+        requires { len_of self.old + length (nodes_in slots.now.cells) ≤ self.old.room }
+        ensures inserted { IsPermutation (self.old.nodes ++ nodes_in slots.now.cells) self.new.nodes }
         ensures room { self.new.room ≡ self.old.room }
     {
         for at in 0..slots.len() {
@@ -103,13 +71,13 @@ impl<N: Copy> Table<N> {
         }
     }
 
-    /// Inserts the nodes that were taken out of overflow cells.
-    pub(crate) fn insert_chained(&mut self, chained: &OverflowNodes<N>)
-        requires { len_of self.old + vec_len chained.now.nodes ≤ self.old.room }
-        ensures inserted { IsPermutation (self.old.nodes ++ chained.now.nodes.items) self.new.nodes }
+    /// Inserts the nodes of guests that were taken out.
+    pub(crate) fn insert_guests(&mut self, guests: &GuestNodes<N>)
+        requires { len_of self.old + vec_len guests.now.nodes ≤ self.old.room }
+        ensures inserted { IsPermutation (self.old.nodes ++ guests.now.nodes.items) self.new.nodes }
         ensures room { self.new.room ≡ self.old.room }
     {
-        for kept in &chained.nodes {
+        for kept in &guests.nodes {
             self.insert_reserved(kept.hash, kept.node);
         }
     }

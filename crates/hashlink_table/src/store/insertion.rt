@@ -1,89 +1,105 @@
-//! Inserts of a node into a cell.
-ghost use Rattle.std.specs.Prelude.{◌≡◌, ◌≢◌, ◌+◌, ◌-◌, ◌%◌, ◌<◌, ◌≤◌, ◌∷◌, ◌++◌, IsPermutation, length};
-ghost use Rattle.std.specs.Prelude.{vec_capacity, vec_len};
-ghost use Rattle.hashlink_table.specs.Chains.{nodes_in, AreTaken, IsArranged, IsPlaced};
+//! Inserts of a node into a slot.
+ghost use Rattle.std.specs.Prelude.{◌≡◌, ℕ, ◌+◌, ◌-◌, ◌*◌, ◌%◌, ◌/◌, ◌<◌, ◌≤◌, ◌∷◌, IfNone, IfSome, IsSome};
+ghost use Rattle.std.specs.{Prelude.{IsPermutation, None, length}, Int.IsPowerOfTwo};
+ghost use Rattle.hashlink_table.specs.Chains.{kept_at, nodes_in, IsArranged};
 
-use super::bucket::group_of;
-use super::cell::{END, StoredCell};
+use super::bucket::{base_of, group_of};
+use super::cell::END;
 use super::lanes::LANES;
 use super::slots::Slots;
 use crate::hashed::Hashed;
 
-// Puts a cell at the first free one's place, or after the last cell if none is free. Returns the place.
-#[inline]
-fn place<N: Copy>(cells: &mut Vec<StoredCell<N>>, free: &mut usize, cell: StoredCell<N>) -> usize
-    requires within { free.old ≢ END → free.old < vec_len cells.old }
-    requires reserved { free.old ≡ END → vec_len cells.old < vec_capacity cells.old }
-    requires small { free.old ≡ END → vec_len cells.old < END }
-    ensures placed { IsPlaced cells.old.items cells.new.items free.old free.new cell result }
-    ensures capacity { vec_capacity cells.new ≡ vec_capacity cells.old }
+// The slots around a full group that are tried first for its guest: those whose tags share a line of the
+// cache.
+const NEAR: usize = 4 * LANES;
+
+// Returns the first free slot of these groups.
+fn first_free<N: Copy>(slots: &Slots<N>, from: usize, to: usize) -> Option<usize>
+    requires begins { from % LANES ≡ 0 }
+    requires ends { to % LANES ≡ 0 }
+    requires within { to ≤ length slots.now.cells }
+    ensures some { IfSome result (λ at. (at < length slots.now.cells) × (kept_at slots.now.cells at ≡ None)) }
+    ensures none { IfNone result
+        ((at : ℕ) → from ≤ at → at < to → IsSome (kept_at slots.now.cells at)) }
 {
-    if *free == END {
-        let at = cells.len();
-        cells.push_reserved(cell);
+    let mut base = from;
+    while base < to {
+        let free = slots.free(base);
+        if free != 0 {
+            return Some(base + free.trailing_zeros() as usize);
+        }
+        base += LANES;
+    }
+    None
+}
+
+// Returns a free slot: near the group from `base` on, or else the next one from the cursor on, which moves
+// there.
+fn lodging<N: Copy>(slots: &Slots<N>, cursor: &mut usize, base: usize) -> usize
+    requires whole { length slots.now.cells % LANES ≡ 0 }
+    requires small { length slots.now.cells ≤ END }
+    requires within { base < length slots.now.cells }
+    requires roomy { length (nodes_in slots.now.cells) < length slots.now.cells }
+    ensures within { result < length slots.now.cells }
+    ensures free { kept_at slots.now.cells result ≡ None }
+{
+    let count = slots.len();
+    let near = base - base % NEAR;
+    if let Some(at) = first_free(slots, near, (near + NEAR).min(count)) {
         return at;
     }
-    let at = *free;
-    *free = cells[at].next();
-    cells[at] = cell;
-    at
+    let start = group_of((*cursor).min(count));
+    if let Some(at) = first_free(slots, start, count) {
+        *cursor = at;
+        return at;
+    }
+    match first_free(slots, 0, start) {
+        Some(at) => {
+            *cursor = at;
+            at
+        }
+        None => unreachable!(), // not each slot has a node
+    }
 }
 
-// Puts a node into an overflow cell, which becomes the first of its bucket's chain.
-fn chain<N: Copy>(
-    slots: &mut Slots<N>,
-    cells: &mut Vec<StoredCell<N>>,
-    free: &mut usize,
-    bucket: usize,
-    kept: Hashed<N>,
-)
-    requires within { bucket < length slots.old }
-    requires bucket { bucket ≡ kept.hash % length slots.old }
-    requires taken { AreTaken slots.old (bucket - bucket % LANES) }
-    requires arranged { IsArranged slots.old cells.old.items free.old }
-    requires reserved { free.old ≡ END → vec_len cells.old < vec_capacity cells.old }
-    requires small { vec_len cells.old < END }
-    ensures arranged { IsArranged slots.new cells.new.items free.new }
-    ensures len { length slots.new ≡ length slots.old }
-    ensures nodes { IsPermutation (kept ∷ nodes_in slots.old ++ nodes_in cells.old.items)
-        (nodes_in slots.new ++ nodes_in cells.new.items) }
-    ensures capacity { vec_capacity cells.new ≡ vec_capacity cells.old }
-    ensures full { free.old ≡ END → vec_len cells.new ≡ vec_len cells.old + 1 }
-    ensures reused { free.old ≢ END → vec_len cells.new ≡ vec_len cells.old }
+// Puts a node whose group, from `base` on, is full into a free slot, as the first guest of its group.
+#[cold]
+#[inline(never)]
+fn lodge<N: Copy>(slots: &mut Slots<N>, cursor: &mut usize, base: usize, kept: Hashed<N>)
+    requires within { base < length slots.old.cells }
+    requires home { base / LANES ≡ kept.hash % length slots.old.cells / LANES }
+    requires whole { length slots.old.cells % LANES ≡ 0 }
+    requires small { length slots.old.cells ≤ END }
+    requires arranged { IsArranged slots.old.cells slots.old.heads }
+    requires roomy { length (nodes_in slots.old.cells) < length slots.old.cells }
+    ensures arranged { IsArranged slots.new.cells slots.new.heads }
+    ensures len { length slots.new.cells ≡ length slots.old.cells }
+    ensures nodes { IsPermutation (kept ∷ nodes_in slots.old.cells) (nodes_in slots.new.cells) }
 {
-    let cell = StoredCell::taken(kept, slots.next(bucket));
-    let at = place(cells, free, cell);
-    slots.set_next(bucket, at);
+    let at = lodging(slots, cursor, base);
+    let group = base / LANES;
+    let head = slots.head(group);
+    slots.put_guest(at, kept, head.first as usize);
+    slots.set_head(group, head.with(kept.hash, at));
 }
 
-// Puts a node into a free slot of its bucket's group, or into an overflow cell if there is none.
+/// Puts a node into a free slot of its group, or of another group if there is none.
 #[inline]
-pub fn put<N: Copy>(
-    slots: &mut Slots<N>,
-    cells: &mut Vec<StoredCell<N>>,
-    free: &mut usize,
-    bucket: usize,
-    kept: Hashed<N>,
-)
-    requires within { bucket < length slots.old }
-    requires bucket { bucket ≡ kept.hash % length slots.old }
-    requires whole { length slots.old % LANES ≡ 0 }
-    requires arranged { IsArranged slots.old cells.old.items free.old }
-    requires reserved { free.old ≡ END → vec_len cells.old < vec_capacity cells.old }
-    requires small { vec_len cells.old < END }
-    ensures arranged { IsArranged slots.new cells.new.items free.new }
-    ensures len { length slots.new ≡ length slots.old }
-    ensures nodes { IsPermutation (kept ∷ nodes_in slots.old ++ nodes_in cells.old.items)
-        (nodes_in slots.new ++ nodes_in cells.new.items) }
-    ensures capacity { vec_capacity cells.new ≡ vec_capacity cells.old }
-    ensures full { free.old ≡ END → vec_len cells.new ≤ vec_len cells.old + 1 }
-    ensures reused { free.old ≢ END → vec_len cells.new ≤ vec_len cells.old }
+pub fn put<N: Copy>(slots: &mut Slots<N>, cursor: &mut usize, kept: Hashed<N>)
+    requires masked { IsPowerOfTwo (length slots.old.cells) }
+    requires whole { length slots.old.cells % LANES ≡ 0 }
+    requires small { length slots.old.cells ≤ END }
+    requires arranged { IsArranged slots.old.cells slots.old.heads }
+    requires roomy { length (nodes_in slots.old.cells) < length slots.old.cells }
+    ensures arranged { IsArranged slots.new.cells slots.new.heads }
+    ensures len { length slots.new.cells ≡ length slots.old.cells }
+    ensures nodes { IsPermutation (kept ∷ nodes_in slots.old.cells) (nodes_in slots.new.cells) }
 {
-    let base = group_of(bucket);
-    let free_cells = slots.free(base);
-    if free_cells == 0 {
-        chain(slots, cells, free, bucket, kept);
+    let base = base_of(kept.hash, slots.len());
+    let free = slots.free(base);
+    if free == 0 {
+        lodge(slots, cursor, base, kept);
     } else {
-        slots.put(base + free_cells.trailing_zeros() as usize, kept);
+        slots.put(base + free.trailing_zeros() as usize, kept);
     }
 }

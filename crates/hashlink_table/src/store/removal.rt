@@ -1,112 +1,84 @@
-//! Removals of a node from its cell.
-ghost use Rattle.std.specs.Prelude.{◌≡◌, ◌≢◌, ℕ, ◌+◌, ◌*◌, ◌%◌, ◌<◌, ◌≤◌, ◌∷◌, ◌++◌, IfNone, IfSome};
-ghost use Rattle.std.specs.{Prelude.{IsPermutation, IsSome, Some, length}, Int.IsPowerOfTwo};
-ghost use Rattle.hashlink_table.specs.Chains.{chain_at, kept_at, kept_by, next_at, nodes_in, IsArranged};
-ghost use Rattle.hashlink_table.specs.declared.store.spot.Spot.TheVariants.{Overflow};
-ghost use Rattle.hashlink_table.specs.Chains.{IsFilled, IsLinked, IsLinkedBut, SameNodes};
+//! Removals of a node from its slot.
+ghost use Rattle.std.specs.Prelude.{◌≡◌, ◌≢◌, ℕ, ◌*◌, ◌/◌, ◌%◌, ◌<◌, ◌≤◌, ◌∷◌, IfSome, IsPermutation, IsSome};
+ghost use Rattle.std.specs.Prelude.{Some};
+ghost use Rattle.std.specs.{Prelude.length, Int.IsPowerOfTwo};
+ghost use Rattle.hashlink_table.specs.Chains.{cell_at, chain_at, kept_at, nodes_in, IsArranged, IsLinked};
+ghost use Rattle.hashlink_table.specs.Chains.{IsLinkedBut, SameMasks, SameNodes};
 
-use super::bucket::{bucket_of, group_of};
-use super::cell::{END, StoredCell};
+use super::bucket::bucket_of;
+use super::cell::END;
 use super::lanes::LANES;
 use super::slots::Slots;
-use super::spot::Spot;
 use crate::hashed::Hashed;
 
-// Removes a cell from its bucket's chain: the link to it now leads to the cell after it.
-fn unlink<N: Copy>(slots: &mut Slots<N>, cells: &mut [StoredCell<N>], bucket: usize, cell: usize)
-    requires within { bucket < length slots.old }
-    requires on_chain { chain_at (length slots.old) cells.old cell ≡ bucket }
-    requires linked { (free : ℕ) × IsLinked slots.old cells.old free }
-    requires small { length cells.old < END }
-    ensures unlinked { (free : ℕ) → IsLinked slots.old cells.old free
-        → IsLinkedBut slots.new cells.new free cell }
-    ensures slots { SameNodes slots.old slots.new }
-    ensures begun { (b : ℕ) → next_at slots.new b ≢ END → next_at slots.old b ≢ END }
-    ensures nodes { SameNodes cells.old cells.new }
+// Removes a guest from its group's chain: the link to it now leads to the guest after it.
+fn unlink<N: Copy>(slots: &mut Slots<N>, group: usize, guest: usize)
+    requires within { group < length slots.old.heads }
+    requires few { length slots.old.heads ≤ length slots.old.cells }
+    requires small { length slots.old.cells ≤ END }
+    requires on_chain { chain_at (length slots.old.cells) slots.old.cells guest ≡ group }
+    requires linked { IsLinked slots.old.cells slots.old.heads }
+    ensures unlinked { IsLinkedBut slots.new.cells slots.new.heads guest }
+    ensures nodes { SameNodes slots.old.cells slots.new.cells }
+    ensures masks { SameMasks slots.old.heads slots.new.heads }
 {
-    let after = cells[cell].next();
-    let mut at = slots.next(bucket);
-    if at == cell {
-        slots.set_next(bucket, after);
+    let after = slots.next(guest);
+    let head = slots.head(group);
+    let first = head.first as usize;
+    if first == guest {
+        slots.set_head(group, head.from(after));
         return;
     }
-    while cells[at].next() != cell {
-        at = cells[at].next();
+    let mut at = first;
+    while slots.next(at) != guest {
+        at = slots.next(at);
     }
-    cells[at].set_next(after);
+    slots.set_next(at, after);
 }
 
-// Removes a node from its overflow cell, which becomes the first free one.
-fn take_out<N: Copy>(
-    slots: &mut Slots<N>,
-    cells: &mut [StoredCell<N>],
-    free: &mut usize,
-    bucket: usize,
-    cell: usize,
-) -> Hashed<N>
-    requires within { bucket < length slots.old }
-    requires on_chain { chain_at (length slots.old) cells.old cell ≡ bucket }
-    requires arranged { IsArranged slots.old cells.old free.old }
-    requires small { length cells.old < END }
-    ensures arranged { IsArranged slots.new cells.new free.new }
-    ensures slots { SameNodes slots.old slots.new }
-    ensures kept { kept_at cells.old cell ≡ Some result }
-    ensures nodes { IsPermutation (nodes_in slots.old ++ nodes_in cells.old)
-        (result ∷ nodes_in slots.new ++ nodes_in cells.new) }
+// Removes a guest from its slot and from its group's chain.
+fn take_out<N: Copy>(slots: &mut Slots<N>, group: usize, guest: usize) -> Hashed<N>
+    requires within { group < length slots.old.heads }
+    requires whole { length slots.old.cells % LANES ≡ 0 }
+    requires small { length slots.old.cells ≤ END }
+    requires on_chain { chain_at (length slots.old.cells) slots.old.cells guest ≡ group }
+    requires arranged { IsArranged slots.old.cells slots.old.heads }
+    ensures arranged { IsArranged slots.new.cells slots.new.heads }
+    ensures len { length slots.new.cells ≡ length slots.old.cells }
+    ensures kept { kept_at slots.old.cells guest ≡ Some result }
+    ensures others { (at : ℕ) → at ≢ guest → cell_at slots.new.cells at ≡ cell_at slots.old.cells at }
+    ensures nodes { IsPermutation (nodes_in slots.old.cells) (result ∷ nodes_in slots.new.cells) }
 {
-    unlink(slots, cells, bucket, cell);
-    let kept = cells[cell].known();
-    cells[cell].set_free(*free);
-    *free = cell;
+    unlink(slots, group, guest);
+    let kept = slots.known(guest);
+    slots.set_free(guest);
     kept
 }
 
-// Returns the first bucket of a group that has a chain.
-fn first_chained<N: Copy>(slots: &Slots<N>, base: usize) -> Option<usize>
-    requires { base + LANES ≤ length slots.now }
-    ensures some { IfSome result (λ bucket. (base ≤ bucket) × (bucket < base + LANES)
-        × (next_at slots.now bucket ≢ END)) }
-    ensures none { IfNone result
-        ((bucket : ℕ) → base ≤ bucket → bucket < base + LANES → next_at slots.now bucket ≡ END) }
+/// Removes the node that a search found. If it was no guest and its group has guests, the first of them moves
+/// to the slot. It returns nothing, so that no caller can read a hash by it.
+pub fn take<N: Copy>(slots: &mut Slots<N>, at: usize)
+    requires masked { IsPowerOfTwo (length slots.old.cells) }
+    requires whole { length slots.old.cells % LANES ≡ 0 }
+    requires small { length slots.old.cells ≤ END }
+    requires there { IsSome (kept_at slots.old.cells at) }
+    requires arranged { IsArranged slots.old.cells slots.old.heads }
+    ensures arranged { IsArranged slots.new.cells slots.new.heads }
+    ensures len { length slots.new.cells ≡ length slots.old.cells }
+    ensures nodes { IfSome (kept_at slots.old.cells at)
+        (λ kept. IsPermutation (nodes_in slots.old.cells) (kept ∷ nodes_in slots.new.cells)) }
 {
-    let chains = slots.chains(base);
-    if chains == 0 {
-        return None;
+    if slots.is_guest(at) {
+        let group = bucket_of(slots.known(at).hash, slots.len()) / LANES;
+        let _taken = take_out(slots, group, at);
+        return;
     }
-    Some(base + chains.trailing_zeros() as usize)
-}
-
-// Removes the node that a search found. If it was in a slot and a bucket of the group has a chain, the first
-// node of this chain moves to the slot. It returns nothing, so that no caller can read a hash by it.
-pub fn take<N: Copy>(
-    slots: &mut Slots<N>,
-    cells: &mut [StoredCell<N>],
-    free: &mut usize,
-    spot: Spot,
-)
-    requires masked { IsPowerOfTwo (length slots.old) }
-    requires whole { length slots.old % LANES ≡ 0 }
-    requires there { IsSome (kept_by slots.old cells.old spot) }
-    requires arranged { IsArranged slots.old cells.old free.old }
-    requires small { length cells.old < END }
-    ensures arranged { IsArranged slots.new cells.new free.new }
-    ensures len { length slots.new ≡ length slots.old }
-    ensures nodes { IfSome (kept_by slots.old cells.old spot) (λ kept.
-        IsPermutation (nodes_in slots.old ++ nodes_in cells.old)
-        (kept ∷ nodes_in slots.new ++ nodes_in cells.new)) }
-{
-    match spot {
-        Spot::Slot(at) => match first_chained(slots, group_of(at)) {
-            None => slots.set_free(at),
-            Some(chained) => {
-                let next = slots.next(chained);
-                let follower = take_out(slots, cells, free, chained, next);
-                slots.put(at, follower);
-            }
-        },
-        Spot::Overflow(at) => {
-            let bucket = bucket_of(cells[at].known().hash, slots.len());
-            let _taken = take_out(slots, cells, free, bucket, at);
-        }
+    let group = at / LANES;
+    let first = slots.head(group).first as usize;
+    if first == END {
+        slots.set_free(at);
+        return;
     }
+    let follower = take_out(slots, group, first);
+    slots.put(at, follower);
 }

@@ -3,10 +3,12 @@ use crate::calls::cache_many::call_many;
 use crate::calls::entries::not_made;
 use crate::hashers::Hashing;
 use crate::items::{
-    Answer, Item, Line, Shown, Stop, Word, made, no_memory, put, write, write_item,
+    Answer, Item, Line, Name, Shown, Stop, Word, made, no_memory, put, write, write_item,
 };
 use crate::spoken::Spoken;
 use hashlink_lru::LruCache;
+use std::alloc::{AllocError, Global};
+use std::mem;
 
 pub type Cache = LruCache<Item, Item, Hashing>;
 
@@ -27,11 +29,26 @@ impl Spoken for Cache {
             "remove_lru" => self.remove_lru().shown(),
             "clear" => self.clear().shown(),
             "clone" => made(self.clone(), self),
+            "try_take" => taken(mem::try_take(self)),
+            "new" => Word::count(new(line.home.alloc, self.capacity()).capacity()),
             "set_capacity" => self.set_capacity(line.words.size()).shown(),
             _ => return call_many(self, name, line),
         };
         line.say(word)
     }
+}
+
+/// How many entries the cache had that was taken out.
+fn taken(taken: Result<Cache, AllocError>) -> Word {
+    match taken {
+        Ok(cache) => Word::count(cache.len()),
+        Err(AllocError) => Word::Memory,
+    }
+}
+
+/// A cache of this capacity with the default hasher.
+fn new(alloc: Global, capacity: usize) -> LruCache<Name, Name> {
+    LruCache::new(alloc, capacity)
 }
 
 /// Makes the call of this name, if it takes the key that the next word names. What is lent for writing is

@@ -5,6 +5,8 @@ use crate::items::{
     Answer, Item, Line, Name, Shown, Stop, Word, has_room, made, no_memory, put, write, write_item,
 };
 use hashlink_map::LinkedHashMap;
+use std::alloc::AllocError;
+use std::mem;
 
 pub type Map = LinkedHashMap<Item, Item, Hashing>;
 
@@ -21,10 +23,20 @@ pub fn call_map(map: &mut Map, line: &mut Line<'_>) -> Result<(), Stop> {
         "clear" => map.clear().shown(),
         "shrink" => map.shrink_to_fit().shown(),
         "clone" => made(map.clone(), map),
+        "try_take" => taken(mem::try_take(map)),
+        "new" => Word::count(LinkedHashMap::<Name, Name>::new(line.home.alloc).capacity()),
         "back_value_mut" => write(map.back_value_mut(), line.words.optional()),
         _ => return call_of_number(map, name, line),
     };
     line.say(word)
+}
+
+/// How many entries the map had that was taken out.
+fn taken(taken: Result<Map, AllocError>) -> Word {
+    match taken {
+        Ok(map) => Word::count(map.len()),
+        Err(AllocError) => Word::Memory,
+    }
 }
 
 /// Makes the call of this name, if it takes the number that comes next.

@@ -1,8 +1,10 @@
 //! Lines that call a set and need at most one of its elements. The others are in `set_many`.
 use crate::calls::set_many::call_many;
 use crate::hashers::Hashing;
-use crate::items::{Answer, Item, Line, Shown, Stop, Word, has_room, made, no_memory, put};
+use crate::items::{Answer, Item, Line, Name, Shown, Stop, Word, has_room, made, no_memory, put};
 use hashlink_set::LinkedHashSet;
+use std::alloc::AllocError;
+use std::mem;
 
 pub type Set = LinkedHashSet<Item, Hashing>;
 
@@ -19,9 +21,19 @@ pub fn call_set(set: &mut Set, line: &mut Line<'_>) -> Result<(), Stop> {
         "clear" => set.clear().shown(),
         "shrink" => set.shrink_to_fit().shown(),
         "clone" => made(set.clone(), set),
+        "try_take" => taken(mem::try_take(set)),
+        "new" => Word::count(LinkedHashSet::<Name>::new(line.home.alloc).capacity()),
         _ => return call_of_number(set, name, line),
     };
     line.say(word)
+}
+
+/// How many elements the set had that was taken out.
+fn taken(taken: Result<Set, AllocError>) -> Word {
+    match taken {
+        Ok(set) => Word::count(set.len()),
+        Err(AllocError) => Word::Memory,
+    }
 }
 
 /// Makes the call of this name, if it takes the number that comes next.

@@ -18,8 +18,7 @@ pub fn call_many(set: &mut Set, name: &str, line: &mut Line<'_>) -> Result<(), S
         "get_or_insert_with" => put_made(set, line),
         "from_iter" => make_of_rest(set, line),
         "from_iter_kept" => make_of_kept(set, line),
-        "retain" => retain(set, false, line),
-        "retain_with_order" => retain(set, true, line),
+        "retain" | "retain_with_order" | "retain_from" => retain(set, name, line),
         "iter" => walk_and_clone(set.iter(), line),
         "drain" => walk_whole(set.drain(), line),
         "forgotten_drain" => walk_and_forget(set.drain(), 1, line),
@@ -65,22 +64,22 @@ fn extended(answer: Result<(), ExtendError<Item, ()>>) -> Answer {
     }
 }
 
-/// Keeps what the next word names. A set has no values that could be even.
-fn retain(set: &mut Set, is_ordered: bool, line: &mut Line<'_>) -> Result<(), Stop> {
+/// Keeps what the next word names, by the call of this name. A set has no values that could be even.
+fn retain(set: &mut Set, name: &str, line: &mut Line<'_>) -> Result<(), Stop> {
     let keep = read_keep(set.len(), line)?;
     if matches!(keep, Keep::Even | Keep::WithoutOdd) {
         return Err(Stop::Unread);
     }
-    keep_some(set, is_ordered, keep, &mut line.answers.words);
+    keep_some(set, name, keep, &mut line.answers.words);
     line.say(Word::Done)
 }
 
-fn keep_some(set: &mut Set, is_ordered: bool, keep: Keep, met: &mut Vec<Word>) {
-    let keep = |element: &Item| is_kept(element, keep, met);
-    if is_ordered {
-        set.retain_with_order(keep);
-    } else {
-        set.retain(keep);
+fn keep_some(set: &mut Set, name: &str, keep: Keep, met: &mut Vec<Word>) {
+    let mut keep = |element: &Item| is_kept(element, keep, met);
+    match name {
+        "retain" => set.retain(keep),
+        "retain_with_order" => set.retain_with_order(keep),
+        _ => set.retain_from(&mut keep),
     }
 }
 

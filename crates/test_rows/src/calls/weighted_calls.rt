@@ -1,8 +1,10 @@
 //! Lines that call a cache with a budget.
 use crate::hashers::Hashing;
-use crate::items::{Answer, Item, Line, Shown, Stop, Word, no_memory, walk_and_clone};
+use crate::items::{Answer, Item, Line, Name, Shown, Stop, Word, no_memory, walk_and_clone};
 use crate::spoken::Spoken;
 use hashlink_weighted::{WeightError, WeightedCache};
+use std::alloc::{AllocError, Global};
+use std::mem;
 
 pub type Weighted = WeightedCache<Item, Item, Hashing>;
 
@@ -19,6 +21,8 @@ impl Spoken for Weighted {
             "is_empty" => Word::Is(self.is_empty()),
             "total" => Word::Item(self.total(), 0),
             "budget" => Word::Item(self.budget(), 0),
+            "try_take" => taken(mem::try_take(self)),
+            "new" => Word::Item(new(line.home.alloc, self.budget()).budget(), 0),
             "get" => self.get(&line.item()?).shown(),
             "peek" => self.peek(&line.item()?).shown(),
             "remove" => self.remove(&line.item()?).shown(),
@@ -29,6 +33,19 @@ impl Spoken for Weighted {
         };
         line.say(word)
     }
+}
+
+/// How many entries the cache had that was taken out.
+fn taken(taken: Result<Weighted, AllocError>) -> Word {
+    match taken {
+        Ok(cache) => Word::count(cache.len()),
+        Err(AllocError) => Word::Memory,
+    }
+}
+
+/// A cache of this budget with the default hasher.
+fn new(alloc: Global, budget: u64) -> WeightedCache<Name, Name> {
+    WeightedCache::new(alloc, budget)
 }
 
 fn put_pair(cache: &mut Weighted, line: &mut Line<'_>) -> Result<(), Stop> {

@@ -23,7 +23,11 @@ impl Name {
         Name { group, number: 0 }
     }
 
-    pub fn read(word: &str) -> Option<Name> {
+    /// The item that the word spells. The word `n` spells the one of this group.
+    pub fn read(word: &str, n: u64) -> Option<Name> {
+        if word == "n" {
+            return Some(Name::of(n));
+        }
         let (group, number_word) = word.split_once('.').unwrap_or((word, "0"));
         let (group, number) = (number(group)?, number(number_word)?);
         Some(Name { group, number })
@@ -101,17 +105,17 @@ pub fn find<T: Copy>(table: &[(&str, T)], name: &str) -> Option<T> {
 }
 
 impl Word {
-    pub fn read(word: &str) -> Option<Word> {
+    pub fn read(word: &str, n: u64) -> Option<Word> {
         match find(&PLAIN, word) {
-            None => Word::read_items(word),
+            None => Word::read_items(word, n),
             plain => plain,
         }
     }
 
-    fn read_items(word: &str) -> Option<Word> {
+    fn read_items(word: &str, n: u64) -> Option<Word> {
         match word.split_once(':') {
-            None => Some(Word::item(Name::read(word)?)),
-            Some((key, value)) => Some(Word::pair((Name::read(key)?, Name::read(value)?))),
+            None => Some(Word::item(Name::read(word, n)?)),
+            Some((key, value)) => Some(Word::pair((Name::read(key, n)?, Name::read(value, n)?))),
         }
     }
 
@@ -255,11 +259,14 @@ impl Answers {
     }
 }
 
-/// Whether the words are the written ones.
-pub fn are_written(words: &[Word], written: &str) -> bool {
+/// Whether the words are the written ones, of which the word `n` spells this number.
+pub fn are_written(words: &[Word], written: &str, n: u64) -> bool {
+    if written.is_empty() {
+        return words.is_empty();
+    }
     let mut written = written.split(' ');
     for word in words {
-        if Word::read(written.next().unwrap_or("")) != Some(*word) {
+        if Word::read(written.next().unwrap_or(""), n) != Some(*word) {
             return false;
         }
     }

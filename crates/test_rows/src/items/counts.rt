@@ -12,6 +12,8 @@ pub struct Counts {
     pub clones: Cell<u64>,
     /// How many items are never dropped.
     pub forgotten: Cell<u64>,
+    /// How many entries a forgotten drain has not given.
+    pub lost: Cell<u64>,
 }
 
 impl Counts {
@@ -21,6 +23,7 @@ impl Counts {
             comparisons: Cell::new(0),
             clones: Cell::new(0),
             forgotten: Cell::new(0),
+            lost: Cell::new(0),
         }
     }
 }

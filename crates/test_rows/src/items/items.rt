@@ -37,6 +37,11 @@ impl Home<'_> {
     pub fn clones(self) -> u64 {
         self.counts.clones.replace(0)
     }
+
+    /// How many entries forgotten drains had not given, since the last call of this function.
+    pub fn lost(self) -> u64 {
+        self.counts.lost.replace(0)
+    }
 }
 
 /// A key, an element or a value. It is compared and hashed only by its group, so its number shows which of

@@ -11,6 +11,8 @@ pub struct Line<'l> {
     pub home: Home<'l>,
     /// Where answers and contents are printed.
     pub voice: Voice<'l>,
+    /// Whether an answer need not be written.
+    pub is_open: bool,
     /// Its number and its text, or those of the row's first line.
     pub place: (usize, &'l str),
     /// The words that have not been read yet.

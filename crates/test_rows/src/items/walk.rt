@@ -98,10 +98,9 @@ pub fn walk_and_forget<W: Walk + Iterator>(
 {
     let taken = take_steps(&mut walk, line);
     let (left, _) = walk.size_hint();
-    add(
-        &line.home.counts.forgotten,
-        left.saturating_mul(items) as u64,
-    );
+    let counts = line.home.counts;
+    add(&counts.forgotten, left.saturating_mul(items) as u64);
+    add(&counts.lost, left as u64);
     mem::forget(walk);
     taken
 }

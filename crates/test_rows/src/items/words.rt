@@ -49,11 +49,7 @@ impl<'l> Words<'l> {
     }
 
     pub fn name(&mut self) -> Name {
-        let word = self.word();
-        if word == "n" {
-            return Name::of(self.n);
-        }
-        let name = Name::read(word);
+        let name = Name::read(self.word(), self.n);
         self.is_unread = self.is_unread | name.is_none();
         name.unwrap_or(Name::of(0))
     }
@@ -72,7 +68,11 @@ impl<'l> Words<'l> {
     }
 
     fn number_of(&mut self, word: &str) -> u64 {
-        let number = number(word);
+        let number = if word == "n" {
+            Some(self.n)
+        } else {
+            number(word)
+        };
         self.is_unread = self.is_unread | number.is_none();
         number.unwrap_or(0)
     }

@@ -1,7 +1,7 @@
 use Rattle.hashlink_table.proofs.Names.{◌≡◌, ℕ, ◌+◌, true, false, inl, inr, Option, None, Some, IsSome, refl}
 use Rattle.hashlink_table.proofs.Names.{sym, ap, ◌∙◌, subst, arith, IfSome, cases_eq, cases_lt, eq-eqb}
 use Rattle.hashlink_table.proofs.Names.{eqb-true, true≢false, false≢true, same_Some, count_trailing_zeros}
-use Rattle.hashlink_table.proofs.{Names.{Hashed, kept_at, tag_of, kept_may_be}, Masks.{hit, no_hit}}
+use Rattle.hashlink_table.proofs.{Names.{Hashed, own_at, tag_of, kept_may_be}, Masks.{hit, no_hit}}
 use Rattle.hashlink_table.proofs.search.seek_slots.Goals as goal
 
 -- a cell that may have a node has one
@@ -80,7 +80,7 @@ loop-hits-preserved g c =
         | inl early ↦ v.seen i node from early is
         | inr late ↦ elim (cases_eq i now) as (λ _. Other node) [
           | inl e ↦
-              let same = same_Some _ _ (sym k.1 ∙ ap (kept_at c.args.slots.now) (sym e) ∙ is) in
+              let same = same_Some _ _ (sym k.1 ∙ ap (own_at c.args.slots.now.cells) (sym e) ∙ is) in
               subst Other (sym k.2 ∙ ap (λ (j : Hashed g.row.N.Denot). j.node) same) c.if-is_match.ensures
           | inr ne ↦ absurd (true≢false (sym (slot_hash c.args.hash _ node is)
               ∙ h.before i late (omega (arith, to, ne))))

@@ -1,7 +1,7 @@
 use Rattle.std.{proofs.Common.{List, Option, Result, Ok, Err, IfOk, ◌≡◌}, specs.Iterator.DrainsIf}
 use Rattle.std.specs.Map.Iter.{TakesFirst}
 use Rattle.hashlink.{proofs.CallerLemmas.given_all, specs.MapDrain.{DrainSteps, drain_rest}}
-use Rattle.hashlink_uses.proofs.Common.{ap, entries_of, sym, ◌∙◌}
+use Rattle.hashlink_uses.proofs.Common.{ap, sym, ◌∙◌}
 use Rattle.hashlink_uses.proofs.forms.take_all.Goals as goal
 
 collected : {V E I X : Type 0} (steps : I → Option X → I → Type 0) (rest : I → List X)
@@ -16,5 +16,5 @@ collected steps rest takes i es is items L (Err e) ran = tt
 pub returns-clause-pairs : goal.returns-clause-pairs
 returns-clause-pairs g c =
     collected DrainSteps drain_rest (λ i o j s. s.takes) c.drain.result _
-    (ap entries_of c.drain.ensures.unchanged)
+    (ap (λ m. m.entries) c.drain.ensures.unchanged)
     (λ v. v.items) _ c.collect-pairs.result c.collect-pairs.ensures.ran

@@ -7,7 +7,7 @@ use Rattle.hashlink_uses.proofs.topics.subscribe.Goals as goal
 
 pub returns : goal.returns
 returns c =
-    let began = read-found_or_made elements_of (λ s made. made.0) c.entry.ensures.value
+    let began = read-found_or_made elements_of (λ s made. ap elements_of made.0) c.entry.ensures.value
     c.in_ok-ids.ensures.value in
     let updates = updates-entered _ _ _ _ c.args.topic c.insert.new.self string_eq_equiv
     c.entry.ensures.distinct c.entry.ensures.entry
@@ -22,7 +22,7 @@ returns c =
 
 pub returns-in_err-is_new-clause-unchanged : goal.returns-in_err-is_new-clause-unchanged
 returns-in_err-is_new-clause-unchanged c =
-    let began = read-found_or_made elements_of (λ s made. made.0) c.entry.ensures.value
+    let began = read-found_or_made elements_of (λ s made. ap elements_of made.0) c.entry.ensures.value
     c.in_ok-ids.ensures.value in
     let updates = updates-entered _ _ _ _ c.args.topic c.insert.new.self string_eq_equiv
     c.entry.ensures.distinct c.entry.ensures.entry

@@ -1,59 +1,61 @@
-use Rattle.hashlink_table.proofs.Names.{◌≡◌, ◌+◌, ◌-◌, ◌/◌, ◌%◌, ◌≤◌, List, length, inl, None, Some, refl}
-use Rattle.hashlink_table.proofs.Names.{sym, ap, map, ◌∙◌, subst, arith, is_none, same_Some}
-use Rattle.hashlink_table.proofs.Names.{count_trailing_zeros, mask_l, Hashed, Cell, nodes_in, lanes_of}
-use Rattle.hashlink_table.proofs.{Groups.{group_within, grouped_in}, Masks.{all_taken, first_free, IsFree}}
-use Rattle.hashlink_table.proofs.Moving.{arranged-set, set-nodes}
+use Rattle.hashlink_table.proofs.Names.{◌≡◌, ◌+◌, ◌-◌, ◌/◌, ◌%◌, ◌<◌, ◌≤◌, length, None, Some, refl, sym, ap}
+use Rattle.hashlink_table.proofs.Names.{◌∙◌}
+use Rattle.hashlink_table.proofs.Names.{arith, is_none, same_Some, count_trailing_zeros, mask_l, map, Hashed}
+use Rattle.hashlink_table.proofs.Names.{lanes_of}
+use Rattle.hashlink_table.proofs.Groups.{group_within, grouped_in}
+use Rattle.hashlink_table.proofs.{Linking.{none_guest, positive_by_power}, Masks.{first_free, IsFree}}
+use Rattle.hashlink_table.proofs.Moving.{arranged-set, nodes-written}
 use Rattle.hashlink_table.proofs.store.insertion.put.Given as given
-use Rattle.hashlink_table.proofs.store.insertion.put.Goals.{After-free-free_cells}
+use Rattle.hashlink_table.proofs.store.insertion.put.Goals.{After-free-free}
 use Rattle.hashlink_table.proofs.store.insertion.put.Goals as goal
 
--- what the mask of the group's free cells tells
-module _ (g : given.Over) (c : After-free-free_cells g) where
-  abbrev slots : List (Cell g.row.N.Denot)
-  slots = c.args.slots.now
+-- what the mask of the group's free slots tells
+module _ (g : given.Over) (c : After-free-free g) where
+  base : c.base_of-base.result
+      ≡ c.args.kept.hash % length c.args.slots.now.cells - c.args.kept.hash % length c.args.slots.now.cells %
+      16
+  base = c.base_of-base.ensures ∙ ap (λ m. c.args.kept.hash % m - c.args.kept.hash % m % 16) c.len.ensures
 
-  room : c.args.bucket - c.args.bucket % 16 + 16 ≤ length slots
-  room = group_within c.args.bucket (length c.args.slots.now) c.requires.within c.requires.whole
+  bucket : c.args.kept.hash % length c.args.slots.now.cells < length c.args.slots.now.cells
+  bucket = omega (arith, positive_by_power (length c.args.slots.now.cells) c.requires.masked)
 
-  mask : c.free-free_cells.result
-      ≡ mask_l (map (λ d. is_none d.kept) (lanes_of slots (c.args.bucket - c.args.bucket % 16)))
-  mask = c.free-free_cells.ensures.lanes
-      ∙ ap (λ b. mask_l (map (λ d. is_none d.kept) (lanes_of c.args.slots.now b))) c.group_of-base.ensures
+  room : c.base_of-base.result + 16 ≤ length c.args.slots.now.cells
+  room =
+      omega (
+        arith,
+        base,
+        group_within (c.args.kept.hash % length c.args.slots.now.cells) (length c.args.slots.now.cells) bucket
+            c.requires.whole,
+      )
 
-  free_cell : (c.free-free_cells.result ≡ 0 → ⊥)
-      → IsFree slots (c.args.bucket - c.args.bucket % 16)
-      (c.group_of-base.result + count_trailing_zeros 64 c.free-free_cells.result)
-  free_cell some =
-      subst (IsFree slots (c.args.bucket - c.args.bucket % 16))
-      (λ i. sym c.group_of-base.ensures i + count_trailing_zeros 64 (sym mask i))
-      (first_free slots (c.args.bucket - c.args.bucket % 16) room (λ e. some (mask ∙ e)))
-
-pub chain-requires-clause-taken : goal.chain-requires-clause-taken
-chain-requires-clause-taken g c =
-    let p = (goal.at.chain-requires-clause-taken g c).After-free-free_cells in
-    all_taken c.args.slots.now (c.args.bucket - c.args.bucket % 16) (room g p)
-    (sym (mask g p) ∙ c.if-free_cells-eq0.true)
+  found : (c.free-free.result ≡ 0 → ⊥)
+      → IsFree c.args.slots.now.cells c.base_of-base.result
+      (c.base_of-base.result + count_trailing_zeros 64 c.free-free.result)
+  found some =
+      let mask = c.free-free.ensures.lanes in
+      rw mask (first_free c.args.slots.now.cells c.base_of-base.result room (λ e. some (mask ∙ e)))
 
 pub put-requires : goal.put-requires
 put-requires g c =
-    let p = (goal.at.put-requires g c).After-free-free_cells in
-    omega (arith, (free_cell g p c.if-free_cells-eq0.false).to, room g p)
+    let p = (goal.at.put-requires g c).After-free-free in
+    omega (arith, (found g p c.if-free-eq0.false).to, room g p)
 
-pub returns-else-free_cells-eq0-clause-arranged : goal.returns-else-free_cells-eq0-clause-arranged
-returns-else-free_cells-eq0-clause-arranged g c =
-    let p = (goal.at.returns-else-free_cells-eq0-clause-arranged g c).After-free-free_cells in
-    let f = free_cell g p c.if-free_cells-eq0.false in
+pub returns-else-free-eq0-clause-arranged : goal.returns-else-free-eq0-clause-arranged
+returns-else-free-eq0-clause-arranged g c =
+    let p = (goal.at.returns-else-free-eq0-clause-arranged g c).After-free-free in
+    let f = found g p c.if-free-eq0.false in
     rw c.put.ensures
-    (arranged-set _ _ (omega (arith, f.to, room g p)) refl c.requires.arranged
-    (λ k is. ap (λ b. b / 16) (sym (c.requires.bucket
-    ∙ ap (λ (j : Hashed g.row.N.Denot). j.hash % length c.args.slots.now) (same_Some _ _ is)))
-    ∙ grouped_in c.args.bucket _ f.from f.to)
-    (inl refl))
+    (arranged-set c.requires.arranged _ _ (omega (arith, f.to, room g p)) refl refl
+    (none_guest c.args.slots.now.cells _ f.none)
+    (λ k is. ap (λ (j : Hashed g.row.N.Denot). j.hash % length c.args.slots.now.cells / 16) (sym (same_Some _
+    _ is))
+    ∙ grouped_in (c.args.kept.hash % length c.args.slots.now.cells) _ (omega (arith, base g p, f.from))
+    (omega (arith, base g p, f.to))))
 
-pub returns-else-free_cells-eq0-clause-nodes : goal.returns-else-free_cells-eq0-clause-nodes
-returns-else-free_cells-eq0-clause-nodes g c =
-    let p = (goal.at.returns-else-free_cells-eq0-clause-nodes g c).After-free-free_cells in
-    let f = free_cell g p c.if-free_cells-eq0.false in
+pub returns-else-free-eq0-clause-nodes : goal.returns-else-free-eq0-clause-nodes
+returns-else-free-eq0-clause-nodes g c =
+    let p = (goal.at.returns-else-free-eq0-clause-nodes g c).After-free-free in
+    let f = found g p c.if-free-eq0.false in
     rw c.put.ensures
-    (set-nodes c.args.slots.now _ _ (nodes_in c.args.cells.now.items) (Some c.args.kept) None
-    (omega (arith, f.to, room g p)) refl f.none)
+    (nodes-written c.args.slots.now.cells _ _ (Some c.args.kept) None (omega (arith, f.to, room g p)) refl
+    f.none)

@@ -1,66 +1,75 @@
-use Rattle.hashlink_table.proofs.Names.{◌≡◌, ◌<◌, IsSome, get_or, length, sym, ap, ◌∙◌, subst, arith, Cell}
-use Rattle.hashlink_table.proofs.Linking.{kept_at_read, free_small, linked-give, on_within, on_some}
-use Rattle.hashlink_table.proofs.{Names.kept_at, Linking.{taken-nodes, kept-same}}
-use Rattle.hashlink_table.proofs.Moving.{arranged-same, overflow-taken}
+use Rattle.hashlink_table.proofs.Names.{◌≡◌, ◌<◌, ◌+◌, IsSome, None, Some, length, refl, sym, ap, ◌∙◌, subst}
+use Rattle.hashlink_table.proofs.Names.{arith, Hashed}
+use Rattle.hashlink_table.proofs.Names.{kept_at, guest_at, stored_in, ◌%◌, ◌/◌}
+use Rattle.hashlink_table.proofs.Linking.{at-set_other, guest_kept, kept-same, on_chain, same_length}
+use Rattle.hashlink_table.proofs.Linking.{stored-same}
+use Rattle.hashlink_table.proofs.Linking.{within_kept}
+use Rattle.hashlink_table.proofs.Moving.{arranged-freed, nodes-written}
+use Rattle.hashlink_table.proofs.Nodes.{nodes_in-same}
 use Rattle.hashlink_table.proofs.store.removal.take_out.Given as given
-use Rattle.hashlink_table.proofs.store.removal.take_out.Goals.{After-unlink}
+use Rattle.hashlink_table.proofs.store.removal.take_out.Goals.{Start}
 use Rattle.hashlink_table.proofs.store.removal.take_out.Goals as goal
 
--- the cell is still there, with its node
-module _ (g : given.Over) (c : After-unlink g) where
-  within : c.args.cell < length c.unlink.new.cells
-  within =
-      omega (
-        arith,
-        c.unlink.auto.cells,
-        on_within (length c.args.slots.now) c.args.cells.now c.args.cell c.args.bucket c.requires.on_chain
-            c.requires.within,
-      )
+-- the guest
+module _ (g : given.Over) (c : Start g) where
+  there : (k : Hashed g.row.N.Denot) × (guest_at c.args.slots.now.cells c.args.guest ≡ Some k)
+      × (k.hash % length c.args.slots.now.cells / 16 ≡ c.args.group)
+  there =
+      on_chain (length c.args.slots.now.cells) c.args.slots.now.cells c.args.guest c.args.group
+      c.requires.on_chain
+      (omega (arith, c.requires.within, c.requires.arranged.paired))
 
-  kept : (d : Cell g.row.N.Denot)
-      → (get_or c.unlink.new.cells c.args.cell d).kept ≡ kept_at c.args.cells.now c.args.cell
-  kept d =
-      kept_at_read c.unlink.new.cells c.args.cell d within
-      ∙ kept-same c.args.cells.now c.unlink.new.cells c.unlink.ensures.nodes c.args.cell
+  kept : kept_at c.args.slots.now.cells c.args.guest ≡ Some there.0
+  kept = guest_kept c.args.slots.now.cells c.args.guest there.0 there.1
+
+  within : c.args.guest < length c.args.slots.now.cells
+  within = within_kept c.args.slots.now.cells c.args.guest there.0 kept
 
 pub known-kept-requires : goal.known-kept-requires
 known-kept-requires g c =
-    subst IsSome (sym (kept g (goal.at.known-kept-requires g c).After-unlink c.index-cells-cell.result))
-    (on_some (length c.args.slots.now) c.args.cells.now c.args.cell c.args.bucket c.requires.on_chain
-    c.requires.within)
+    let s = (goal.at.known-kept-requires g c).Start in
+    rw (kept-same c.args.slots.now.cells c.unlink.new.slots.cells c.unlink.ensures.nodes c.args.guest ∙ kept g
+    s) refl
 
 pub set_free-requires : goal.set_free-requires
 set_free-requires g c =
-    free_small c.args.slots.now c.args.cells.now c.args.free.now c.requires.arranged.linked
-    (omega (arith, c.requires.small))
+    omega (
+      arith,
+      within g (goal.at.set_free-requires g c).Start,
+      same_length c.args.slots.now.cells c.unlink.new.slots.cells c.unlink.ensures.nodes,
+    )
 
 pub returns-clause-arranged : goal.returns-clause-arranged
 returns-clause-arranged g c =
-    let C : Type 0 = Cell g.row.N.Denot in
-    arranged-same c.args.slots.now c.unlink.new.slots _ _ c.unlink.ensures.slots c.requires.arranged
-    (linked-give c.unlink.new.slots c.unlink.new.cells c.args.free.now c.args.cell c.set_free.new.self
-    (within g (goal.at.returns-clause-arranged g c).After-unlink)
-    (omega (arith, c.requires.small, c.unlink.auto.cells))
-    (ap (λ (d : C). d.next) c.set_free.ensures) (ap (λ (d : C). d.kept) c.set_free.ensures)
-    (c.unlink.ensures.unlinked c.args.free.now c.requires.arranged.linked))
-    (λ b low ne. c.requires.arranged.filled b low (c.unlink.ensures.begun b ne))
+    rw c.set_free.ensures
+    (arranged-freed c.requires.arranged c.unlink.new.slots.cells c.unlink.new.slots.heads c.args.guest _
+    c.requires.whole
+    (within g (goal.at.returns-clause-arranged g c).Start) c.unlink.ensures.nodes c.unlink.ensures.masks
+    c.unlink.ensures.unlinked refl refl refl)
 
 pub returns-clause-kept : goal.returns-clause-kept
 returns-clause-kept g c =
-    sym (kept g (goal.at.returns-clause-kept g c).After-unlink c.index-cells-cell.result)
+    sym (kept-same c.args.slots.now.cells c.unlink.new.slots.cells c.unlink.ensures.nodes c.args.guest)
     ∙ c.known-kept.ensures
+
+pub returns-clause-others : goal.returns-clause-others
+returns-clause-others g c = λ at ne.
+    rw c.set_free.ensures
+    (at-set_other c.unlink.new.slots.cells c.args.guest _ stored_in at ne
+    ∙ stored-same c.args.slots.now.cells c.unlink.new.slots.cells c.unlink.ensures.nodes at)
 
 pub returns-clause-nodes : goal.returns-clause-nodes
 returns-clause-nodes g c =
-    let now = within g (goal.at.returns-clause-nodes g c).After-unlink in
-    overflow-taken c.args.slots.now c.unlink.new.slots _ _ c.known-kept.result c.unlink.ensures.slots
-    (taken-nodes c.args.cells.now c.unlink.new.cells c.args.cell c.set_free.new.self c.known-kept.result
-    c.unlink.ensures.nodes now
-    (sym (kept_at_read c.unlink.new.cells c.args.cell c.index-cells-cell.result now) ∙ c.known-kept.ensures)
-    (ap (λ (d : Cell g.row.N.Denot). d.kept) c.set_free.ensures))
-
-pub bounds-cells-cell : goal.bounds-cells-cell
-bounds-cells-cell g c = within g (goal.at.bounds-cells-cell g c).After-unlink
-
-pub bounds-cells-cell-2 : goal.bounds-cells-cell-2
-bounds-cells-cell-2 g c = within g (goal.at.bounds-cells-cell-2 g c).After-unlink
+    let low = within g (goal.at.returns-clause-nodes g c).Start in
+    let long = same_length c.args.slots.now.cells c.unlink.new.slots.cells c.unlink.ensures.nodes in
+    rw (
+      c.set_free.ensures,
+      ← nodes_in-same c.args.slots.now.cells c.unlink.new.slots.cells
+          c.unlink.ensures.nodes,
+    )
+    (nodes-written c.unlink.new.slots.cells c.args.guest _ None (Some c.known-kept.result) (omega (
+      arith,
+      low,
+      long,
+    ))
+    refl c.known-kept.ensures)

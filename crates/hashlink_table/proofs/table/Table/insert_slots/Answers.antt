@@ -5,7 +5,7 @@ use Rattle.hashlink_table.proofs.table.Table.insert_slots.Goals.{in-Some, in_def
 
 pub insert_reserved-requires : goal.insert_reserved-requires
 insert_reserved-requires g c =
-    let slots = c.args.slots.now in let at = c.loop-at.at in
+    let slots = c.args.slots.now.cells in let at = c.loop-at.at in
     has_room c.args.self.now _ _ c.in-Some.kept
     (next_some slots at (omega (arith, c.loop-at-test.true, c.len-at-end.ensures)) c.kept.result
     c.kept.ensures
@@ -14,7 +14,7 @@ insert_reserved-requires g c =
 
 pub loop-at-preserved : goal.loop-at-preserved
 loop-at-preserved g c =
-    let slots = c.args.slots.now in let at = c.loop-at.at in
+    let slots = c.args.slots.now.cells in let at = c.loop-at.at in
     let low : at < length slots = omega (arith, c.loop-at-test.true, c.len-at-end.ensures) in
     elim c.match-kept.branch [
       | in-Some w ↦

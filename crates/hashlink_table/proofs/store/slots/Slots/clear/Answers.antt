@@ -1,20 +1,31 @@
-use Rattle.std.proofs.Common.{◌∙◌, ap}
-use Rattle.hashlink_table.proofs.{Names.replicate, Begins.{flags-bare, flags_long, stored_with}}
-use Rattle.hashlink_table.proofs.Storing.{bare_cells, sizes}
+use Rattle.hashlink_table.proofs.Names.{◌≡◌, ◌++◌, ◌/◌, List, length, ap, arith, ◌∙◌, replicate, Block}
+use Rattle.hashlink_table.proofs.Names.{empty_block, bare_grid}
+use Rattle.hashlink_table.proofs.{Grids.{slots_long, stores-bare, Stores}, Storing.bare}
+use Rattle.hashlink_table.proofs.store.slots.Slots.clear.Given as given
+use Rattle.hashlink_table.proofs.store.slots.Slots.clear.Goals.{After-fill}
 use Rattle.hashlink_table.proofs.store.slots.Slots.clear.Goals as goal
 
+-- what is stored afterwards
+cleared : (g : given.Over) (c : After-fill g)
+    → Stores c.add_groups.new.groups.items c.self.inside.nodes.items c.fill.new.self.items
+    (bare_grid (length c.args.self.now.cells))
+cleared g c =
+    let long = slots_long c.self.invariant c.self.view_is in let n = length c.args.self.now.cells in
+    let t = c.self.inside in
+    let count : c.len-count.result ≡ n / 16 = omega (arith, c.len-count.ensures, t.groups.ok.0, long.groups)
+    in
+    rw (
+      c.add_groups.ensures ∙ ap (λ (bs : List Block). bs ++ replicate c.len-count.result empty_block)
+          c.clear.ensures.items ∙ ap (λ k. replicate k empty_block) count,
+      c.fill.ensures.items (λ y e. e),
+    )
+    (stores-bare t.nodes.items n _ long.nodes (omega (arith, t.rests.ok.0, long.rests)) (omega (
+      arith,
+      long.groups,
+    )))
+
 pub invariant_of-self : goal.invariant_of-self
-invariant_of-self g c =
-    let s = sizes c.self.invariant.tagged c.self.view_is in
-    let long = c.self.inside.begins.ok.0 ∙ flags_long c.self.invariant c.self.view_is in
-    rw (c.fill.ensures.items (λ y e. e), c.fill-2.ensures.items (λ y e. e))
-    (stored_with (bare_cells c.self.inside.nodes.items _ _ _ s.1 (c.self.inside.tags.ok.0 ∙ s.0)
-    (c.self.inside.rests.ok.0 ∙ s.2))
-    (c.fill-3.ensures.items (λ y e. e) ∙ ap (λ n. replicate n 0) long ∙ flags-bare _ _)).0
+invariant_of-self g c = (cleared g (goal.at.invariant_of-self g c).After-fill).0
 
 pub returns : goal.returns
-returns g c =
-    let s = sizes c.self.invariant.tagged c.self.view_is in
-    rw (c.fill.ensures.items (λ y e. e), c.fill-2.ensures.items (λ y e. e))
-    (bare_cells c.self.inside.nodes.items _ _ _ s.1 (c.self.inside.tags.ok.0 ∙ s.0)
-    (c.self.inside.rests.ok.0 ∙ s.2)).1
+returns g c = (cleared g (goal.at.returns g c).After-fill).1

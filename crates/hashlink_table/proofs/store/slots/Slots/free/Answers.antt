@@ -1,17 +1,26 @@
-use Rattle.hashlink_table.proofs.Names.{eqb, length, ap, arith, is_none}
-use Rattle.hashlink_table.proofs.Storing.{agrees_free, group_tests, sizes}
+use Rattle.hashlink_table.proofs.Names.{arith, is_free, is_none}
+use Rattle.hashlink_table.proofs.Grids.{cells_are, marks_from, slots_long}
+use Rattle.hashlink_table.proofs.Storing.{agrees_free, group_tests}
 use Rattle.hashlink_table.proofs.store.slots.Slots.free.Goals as goal
 
-pub lanes_with-requires : goal.lanes_with-requires
-lanes_with-requires g c =
-    omega (arith, ap length c.deref.ensures.value, sizes c.self.invariant.tagged c.self.view_is)
+pub index-requires : goal.index-requires
+index-requires g c =
+    omega (arith, slots_long c.self.invariant c.self.view_is, c.self.inside.groups.ok.0, c.requires.within)
 
 pub returns-clause-lanes : goal.returns-clause-lanes
 returns-clause-lanes g c =
-    group_tests c.self.invariant.tagged c.self.view_is (λ t. eqb t 0) (λ d. is_none d.kept) agrees_free
-    c.args.base _
-    _ c.lanes_with.ensures c.deref.ensures.value
+    group_tests c.self.invariant.tagged (cells_are c.self.invariant c.self.view_is) is_free
+    (λ d. is_none d.kept) agrees_free c.args.base _ _ c.free.ensures
+    (marks_from c.self.invariant c.self.view_is c.args.base c.index.result.now c.requires.within
+    c.requires.whole
+    c.index.ensures)
 
 pub returns-clause-small : goal.returns-clause-small
 returns-clause-small g c =
-    omega (arith, c.self.inside.tags.small, sizes c.self.invariant.tagged c.self.view_is)
+    omega (
+      arith,
+      c.self.inside.nodes.small,
+      c.self.inside.nodes.ok.0,
+      c.requires.within,
+      slots_long c.self.invariant c.self.view_is,
+    )

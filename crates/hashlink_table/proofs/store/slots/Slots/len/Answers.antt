@@ -1,6 +1,6 @@
+use Rattle.hashlink_table.proofs.Grids.{slots_long}
 use Rattle.std.proofs.Common.{arith}
-use Rattle.hashlink_table.proofs.Storing.{sizes}
 use Rattle.hashlink_table.proofs.store.slots.Slots.len.Goals as goal
 
 pub returns : goal.returns
-returns g c = omega (arith, sizes c.self.invariant.tagged c.self.view_is)
+returns g c = omega (arith, slots_long c.self.invariant c.self.view_is)

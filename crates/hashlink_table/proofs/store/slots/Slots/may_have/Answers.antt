@@ -1,17 +1,28 @@
-use Rattle.hashlink_table.proofs.Names.{eqb, length, ap, arith, tag_of, may_be}
-use Rattle.hashlink_table.proofs.Storing.{agrees_may_have, group_tests, sizes}
+use Rattle.hashlink_table.proofs.Names.{arith, has_own, tag_of, may_be}
+use Rattle.hashlink_table.proofs.Grids.{cells_are, marks_from, slots_long}
+use Rattle.hashlink_table.proofs.Storing.{agrees_may_have, group_tests}
 use Rattle.hashlink_table.proofs.store.slots.Slots.may_have.Goals as goal
 
-pub lanes_with-requires : goal.lanes_with-requires
-lanes_with-requires g c =
-    omega (arith, ap length c.deref.ensures.value, sizes c.self.invariant.tagged c.self.view_is)
+pub index-requires : goal.index-requires
+index-requires g c =
+    omega (arith, slots_long c.self.invariant c.self.view_is, c.self.inside.groups.ok.0, c.requires.within)
 
 pub returns-clause-lanes : goal.returns-clause-lanes
 returns-clause-lanes g c =
-    group_tests c.self.invariant.tagged c.self.view_is (λ t. eqb t (tag_of c.args.hash)) (may_be c.args.hash)
-    (agrees_may_have c.args.hash) c.args.base _ _ (rw c.tag.ensures at c.lanes_with.ensures)
-    c.deref.ensures.value
+    group_tests c.self.invariant.tagged (cells_are c.self.invariant c.self.view_is) (has_own (tag_of
+    c.args.hash))
+    (may_be c.args.hash) (λ row is. agrees_may_have row is c.args.hash) c.args.base _ _ (rw c.tag.ensures at
+    c.with_tag.ensures)
+    (marks_from c.self.invariant c.self.view_is c.args.base c.index.result.now c.requires.within
+    c.requires.whole
+    c.index.ensures)
 
 pub returns-clause-small : goal.returns-clause-small
 returns-clause-small g c =
-    omega (arith, c.self.inside.tags.small, sizes c.self.invariant.tagged c.self.view_is)
+    omega (
+      arith,
+      c.self.inside.nodes.small,
+      c.self.inside.nodes.ok.0,
+      c.requires.within,
+      slots_long c.self.invariant c.self.view_is,
+    )

@@ -1,7 +1,0 @@
-use Rattle.hashlink_nodes.proofs.StateLemmas.{added}
-use Rattle.hashlink_nodes.proofs.pool.Pool.make.Goals as goal
-
-pub returns-in-Ok-clause-made : goal.returns-in-Ok-clause-made
-returns-in-Ok-clause-made g c =
-    added c.args.self.now.arena.blocks c.args.self.now.writes.count c.keep.result c.nowhere.result
-    c.keep.ensures.kept c.keep.ensures.apart

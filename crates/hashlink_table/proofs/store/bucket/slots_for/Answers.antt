@@ -1,0 +1,9 @@
+-- From 16 on a power of two is a multiple of 16.
+use Rattle.std.proofs.Common.{arith}
+use Rattle.hashlink_table.proofs.Groups.{whole_power}
+use Rattle.hashlink_table.proofs.store.bucket.slots_for.Goals as goal
+
+pub returns-clause-grouped : goal.returns-clause-grouped
+returns-clause-grouped c =
+    whole_power c.next_power_of_two.result c.next_power_of_two.ensures.power
+    (omega (arith, c.next_power_of_two.ensures.lower_bound, c.max.ensures))
