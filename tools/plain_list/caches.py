@@ -1,6 +1,6 @@
 """The model's answers to the lines of caches."""
 
-from .model import MANY_LINES, NO_CAPACITY, READ_LINES, WALK_LINES, Model
+from .model import MANY_LINES, NO_CAPACITY, READ_LINES, WALK_LINES, Model, named
 
 
 class CacheModel(Model):
@@ -74,39 +74,22 @@ class CacheModel(Model):
     def state(self):
         return " ".join([str(len(self.list.pairs)), str(self.capacity), *self.shown()])
 
-    def answer(self, words, answers):
-        rest = words.copy()
-        name = rest.word()
-        if name in ("capacity", "new"):
-            words.read = rest.read
-            answers.count(self.capacity)
-        elif name == "make_room":
-            words.read = rest.read
-            self.drop_first(1)
-            answers.done()
-        elif name == "inside":
-            words.read = rest.read
-            capacity, self.capacity = self.capacity, NO_CAPACITY
-            self.call(words, answers)
-            self.capacity = capacity
-        elif name in ("get", "get_mut"):
-            key = rest.name()
-            used = self.list.use_key(key)
-            if name == "get_mut":
-                self.write(key, rest.optional())
-            words.read = rest.read
-            answers.value(used)
-        elif name in ("get_or_insert_with", "get_or_try_insert_with"):
-            words.read = rest.read
-            self.get_or_insert(words, answers)
-        elif name == "evicted_by":
-            answers.pair(self.evicted_by(rest.name()))
-            words.read = rest.read
-        elif name == "push":
-            self.push(rest.pair(), answers)
-            words.read = rest.read
-        else:
-            self.call(words, answers)
+    def make_room(self, words, answers):
+        self.drop_first(1)
+        answers.done()
+
+    def inside(self, words, answers):
+        """A call of the cache's map."""
+        capacity, self.capacity = self.capacity, NO_CAPACITY
+        self.call(self.CALLS, words, answers)
+        self.capacity = capacity
+
+    def use(self, words, answers):
+        """Moves the pair of a key last, and lends its value."""
+        key = words.name()
+        used = self.list.use_key(key)
+        self.write(key, words.optional())
+        answers.value(used)
 
     def evicted_by(self, key):
         """The first pair that an insert of the key drops: the first with another key, if the others leave no
@@ -114,9 +97,10 @@ class CacheModel(Model):
         others = [pair for pair in self.list.pairs if pair[0][0] != key[0]]
         return others[0] if others and len(others) >= self.capacity else None
 
-    def push(self, pair, answers):
+    def push(self, words, answers):
         """Puts a pair, and answers the given key with the old value, or else the first pair that is
         dropped."""
+        pair = words.pair()
         if self.is_refused(pair, answers):
             return
         old = self.put("back", pair)
@@ -133,6 +117,19 @@ class CacheModel(Model):
             capacity, self.capacity = self.capacity, max(self.capacity, 1)
             self.drop_first()
             self.capacity = capacity
+
+    OWN = {
+        "capacity": lambda m, words, answers: answers.count(m.capacity),
+        "new": lambda m, words, answers: answers.count(m.capacity),
+        "make_room": make_room,
+        "inside": inside,
+        "get": use,
+        "get_mut": use,
+        "get_or_insert_with": get_or_insert,
+        "get_or_try_insert_with": get_or_insert,
+        "evicted_by": lambda m, words, answers: answers.pair(m.evicted_by(words.name())),
+        "push": push,
+    }
 
 
 class WeightedModel(Model):
@@ -170,22 +167,6 @@ class WeightedModel(Model):
         """The sum of all weights."""
         return sum(value[1] for _, value in self.list.pairs)
 
-    def answer(self, words, answers):
-        rest = words.copy()
-        name = rest.word()
-        if name == "total":
-            answers.count(self.total())
-        elif name in ("budget", "new"):
-            answers.count(self.capacity)
-        elif name == "get":
-            answers.value(self.list.use_key(rest.name()))
-        elif name in ("insert", "insert_evicting"):
-            self.insert_weighted(name, rest.pair(), answers)
-        else:
-            self.call(words, answers)
-            return
-        words.read = rest.read
-
     def insert_weighted(self, name, pair, answers):
         """Puts a pair, unless it is refused. `insert_evicting` answers each dropped pair, in order."""
         if pair[1][1] > self.capacity:
@@ -199,3 +180,14 @@ class WeightedModel(Model):
             if name == "insert_evicting":
                 answers.pair(evicted)
         answers.item(old)
+
+    def call_insert(self, name, words, answers):
+        self.insert_weighted(name, words.pair(), answers)
+
+    OWN = {
+        "total": lambda m, words, answers: answers.count(m.total()),
+        "budget": lambda m, words, answers: answers.count(m.capacity),
+        "new": lambda m, words, answers: answers.count(m.capacity),
+        "get": lambda m, words, answers: answers.value(m.list.use_key(words.name())),
+        **named(call_insert, ("insert", "insert_evicting")),
+    }

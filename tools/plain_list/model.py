@@ -28,6 +28,15 @@ SHARED_FREE = (
 )
 
 
+def named(method, names):
+    """Calls by these names of a method that is given the name."""
+
+    def call_of(name):
+        return lambda m, words, answers: method(m, name, words, answers)
+
+    return {name: call_of(name) for name in names}
+
+
 class Model(Entries, Cursors):
     """The model of a map. Without a capacity it has the greatest one, and a budget is a capacity."""
 
@@ -199,7 +208,14 @@ class Model(Entries, Cursors):
 
     def answer(self, words, answers):
         """Answers the call of a line."""
-        self.call(words, answers)
+        self.call({**Model.CALLS, **self.OWN}, words, answers)
+
+    def call(self, calls, words, answers):
+        """Answers the call that the next word names, one of these."""
+        name = words.word()
+        if name not in calls:
+            raise Unread
+        calls[name](self, words, answers)
 
     def drop_first(self, most=NO_CAPACITY):
         """Drops the first pairs that are too many, at most `most` of them."""
@@ -207,98 +223,43 @@ class Model(Entries, Cursors):
         for _ in range(min(surplus, most)):
             self.list.take_first()
 
-    def call(self, words, answers):
-        """Answers a call of a map, or a call that a cache answers as a map does."""
-        name = words.word()
-        if name in ("front", "peek_lru", "back", "len", "is_empty"):
-            self.read_end(name, answers)
-        elif name in ("get", "peek", "contains_key", "get_key_value", "index"):
-            self.read_key(name, words.name(), answers)
-        elif name in ("insert", "insert_front", "replace"):
-            self.insert(name, words.pair(), answers)
-        elif name in ("get_mut", "peek_mut", "to_front", "to_back", "index_mut"):
-            key = words.name()
-            self.lend(name, key, words.optional(), answers)
-        elif name == "back_value_mut":
-            self.lend_last(words.optional(), answers)
-        elif name == "get_or_insert_with":
-            stands = self.or_insert((words.name(), words.name()), words.optional(), answers)
-            if stands:
-                answers.value(stands)
-        else:
-            self.call_take(name, words, answers)
+    def get_or_insert_with(self, words, answers):
+        stands = self.or_insert((words.name(), words.name()), words.optional(), answers)
+        if stands:
+            answers.value(stands)
 
-    def call_take(self, name, words, answers):
-        if name == "remove":
-            answers.value(self.list.take(words.name()))
-        elif name == "remove_entry":
-            answers.pair(self.list.take(words.name()))
-        elif name in ("pop_front", "remove_lru"):
-            answers.pair(self.list.take_first())
-        elif name == "pop_back":
-            answers.pair(self.list.take_last())
-        elif name == "clear":
-            self.list.clear()
-            answers.done()
-        elif name in ("retain", "retain_with_order", "retain_from"):
-            self.retain(words.word(), answers)
-        elif name in WALKS:
-            self.walk(name, words, answers)
-        elif name == "iter_from":
-            self.walk_from(words.name(), answers)
-        else:
-            self.call_entry(name, words, answers)
+    def raw_read(self, words, answers):
+        words.word()
+        answers.pair(self.list.find(words.name()))
 
-    def call_entry(self, name, words, answers):
-        if name == "cursor":
-            self.cursor(words, answers)
-        elif name == "cursor_of":
-            self.cursor_of(words, answers)
-        elif name == "entry":
-            self.entry(words, answers)
-        elif name in ("raw", "front_entry", "back_entry"):
-            self.raw(name, words, answers)
-        elif name == "raw_read":
-            words.word()
-            answers.pair(self.list.find(words.name()))
-        else:
-            self.call_of_all(name, words, answers)
+    def ask_room(self, words, answers):
+        words.size()
+        answers.echo(is_word(True), is_word(False))
 
-    def call_of_all(self, name, words, answers):
-        if name in ("reserve", "try_reserve"):
-            self.reserve(words.size(), answers)
-        elif name in ("room", "capacity", "under"):
-            words.size()
-            answers.echo(is_word(True), is_word(False))
-        elif name == "try_take":
-            answers.count(len(self.list.pairs))
-            self.list.clear()
+    def try_take(self, words, answers):
+        answers.count(len(self.list.pairs))
+        self.list.clear()
+        self.forget_room(0)
+
+    def clear(self, words, answers):
+        self.list.clear()
+        answers.done()
+
+    def set_capacity(self, words, answers):
+        self.capacity = words.size()
+        self.drop_first()
+        answers.done()
+
+    def clone(self, words, answers):
+        if not answers.is_refused():
             self.forget_room(0)
-        elif name == "new":
-            answers.count(0)
-        elif name == "set_capacity":
-            self.capacity = words.size()
-            self.drop_first()
-            answers.done()
-        elif name == "shrink":
-            self.shrink(answers)
-        elif name == "with_capacity":
-            self.make(words.size(), answers)
-        elif name == "clone":
-            if not answers.is_refused():
-                self.forget_room(0)
-            answers.echo(DONE, MEMORY)
-        elif name == "collect":
-            self.forget_room(0)
-            if answers.is_refused():
-                self.list.clear()
-            answers.echo(DONE, MEMORY)
-        elif name in ("extend", *KEPT, "from_iter"):
-            self.extend(name, words, answers)
-        elif name == "from_iter_kept":
-            self.make_of_kept(words, answers)
-        else:
-            raise Unread
+        answers.echo(DONE, MEMORY)
+
+    def collect(self, words, answers):
+        self.forget_room(0)
+        if answers.is_refused():
+            self.list.clear()
+        answers.echo(DONE, MEMORY)
 
     def make(self, size, answers):
         """The model continues empty, with room."""
@@ -329,29 +290,10 @@ class Model(Entries, Cursors):
         else:
             answers.echo(MEMORY, OVERFLOW)
 
-    def read_end(self, name, answers):
-        if name in ("front", "peek_lru"):
-            answers.pair(self.list.first())
-        elif name == "back":
-            answers.pair(self.list.last())
-        elif name == "len":
-            answers.count(len(self.list.pairs))
-        else:
-            answers.tell(not self.list.pairs)
-
-    def read_key(self, name, key, answers):
-        if name == "contains_key":
-            answers.tell(self.list.find(key) is not None)
-        elif name == "get_key_value":
-            answers.pair(self.list.find(key))
-        else:
-            answers.value(self.list.find(key))
-
-    def insert(self, name, pair, answers):
+    def insert(self, goal, pair, answers):
         """Puts a pair, and answers the old value, unless the pair is refused."""
         if self.is_refused(pair, answers):
             return
-        goal = {"insert_front": "front", "replace": "place"}.get(name, "back")
         old = self.put(goal, pair)
         self.drop_first()
         answers.item(old)
@@ -375,17 +317,17 @@ class Model(Entries, Cursors):
             self.list.write((old[0], (value[0], old[1][1])))
         return old
 
-    def lend(self, name, key, value, answers):
+    def lend(self, goal, words, answers):
+        """Moves the pair of a key, if there is a goal, and lends its value."""
+        key = words.name()
         old = self.list.find(key)
-        if old and name == "to_front":
-            self.put("front", old)
-        if old and name == "to_back":
-            self.put("back", old)
-        self.write(key, value)
+        if old and goal:
+            self.put(goal, old)
+        self.write(key, words.optional())
         answers.value(old)
 
-    def lend_last(self, value, answers):
-        last = self.list.last()
+    def lend_last(self, words, answers):
+        last, value = self.list.last(), words.optional()
         if last:
             self.write(last[0], value)
         answers.value(last)
@@ -540,3 +482,59 @@ class Model(Entries, Cursors):
             self.next_of_many(words)
             count += 1
         return count
+
+    #: the calls of a map, and those that a cache answers as a map does
+    CALLS = {
+        "front": lambda m, words, answers: answers.pair(m.list.first()),
+        "peek_lru": lambda m, words, answers: answers.pair(m.list.first()),
+        "back": lambda m, words, answers: answers.pair(m.list.last()),
+        "len": lambda m, words, answers: answers.count(len(m.list.pairs)),
+        "is_empty": lambda m, words, answers: answers.tell(not m.list.pairs),
+        "contains_key": lambda m, words, answers: answers.tell(m.list.find(words.name()) is not None),
+        "get_key_value": lambda m, words, answers: answers.pair(m.list.find(words.name())),
+        "get": lambda m, words, answers: answers.value(m.list.find(words.name())),
+        "peek": lambda m, words, answers: answers.value(m.list.find(words.name())),
+        "index": lambda m, words, answers: answers.value(m.list.find(words.name())),
+        "raw_read": raw_read,
+        "insert": lambda m, words, answers: m.insert("back", words.pair(), answers),
+        "insert_front": lambda m, words, answers: m.insert("front", words.pair(), answers),
+        "replace": lambda m, words, answers: m.insert("place", words.pair(), answers),
+        "get_or_insert_with": get_or_insert_with,
+        "get_mut": lambda m, words, answers: m.lend(None, words, answers),
+        "peek_mut": lambda m, words, answers: m.lend(None, words, answers),
+        "index_mut": lambda m, words, answers: m.lend(None, words, answers),
+        "to_front": lambda m, words, answers: m.lend("front", words, answers),
+        "to_back": lambda m, words, answers: m.lend("back", words, answers),
+        "back_value_mut": lend_last,
+        "remove": lambda m, words, answers: answers.value(m.list.take(words.name())),
+        "remove_entry": lambda m, words, answers: answers.pair(m.list.take(words.name())),
+        "pop_front": lambda m, words, answers: answers.pair(m.list.take_first()),
+        "remove_lru": lambda m, words, answers: answers.pair(m.list.take_first()),
+        "pop_back": lambda m, words, answers: answers.pair(m.list.take_last()),
+        "clear": clear,
+        **dict.fromkeys(
+            ("retain", "retain_with_order", "retain_from"),
+            lambda m, words, answers: m.retain(words.word(), answers),
+        ),
+        "iter_from": lambda m, words, answers: m.walk_from(words.name(), answers),
+        "cursor": Cursors.cursor,
+        "cursor_of": Cursors.cursor_of,
+        "entry": Entries.entry,
+        "reserve": lambda m, words, answers: m.reserve(words.size(), answers),
+        "try_reserve": lambda m, words, answers: m.reserve(words.size(), answers),
+        "room": ask_room,
+        "capacity": ask_room,
+        "under": ask_room,
+        "try_take": try_take,
+        "new": lambda m, words, answers: answers.count(0),
+        "set_capacity": set_capacity,
+        "shrink": lambda m, words, answers: m.shrink(answers),
+        "with_capacity": lambda m, words, answers: m.make(words.size(), answers),
+        "clone": clone,
+        "collect": collect,
+        "from_iter_kept": make_of_kept,
+    }
+    CALLS |= named(walk, WALKS) | named(extend, ("extend", *KEPT, "from_iter"))
+    CALLS |= named(Entries.raw, ("raw", "front_entry", "back_entry"))
+    #: the calls that a container answers in its own way
+    OWN = {}

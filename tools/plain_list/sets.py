@@ -1,6 +1,6 @@
 """The models' answers to the lines of sets. An element is a key whose value is its own name."""
 
-from .model import POP_LINES, ROOM_LINES, SHARED_FREE, SIZE_LINES, Model
+from .model import POP_LINES, ROOM_LINES, SHARED_FREE, SIZE_LINES, Model, named
 from .words import MEMORY, NOTHING, item_word
 
 
@@ -73,26 +73,6 @@ class SetModel(Model):
     def shown(self):
         return [item_word(key) for key, _ in self.list.pairs]
 
-    def answer(self, words, answers):
-        rest = words.copy()
-        name = rest.word()
-        if name in ("front", "back", "pop_front", "pop_back"):
-            answers.key(self.end(name))
-        elif name in ("insert", "replace", "get_or_insert", "get_or_insert_with"):
-            self.put_element(name, rest.name(), answers)
-        elif name in ("contains", "get", "to_front", "to_back", "remove", "take"):
-            self.call_element(name, rest.name(), answers)
-        elif name in ("iter", "drain", "forgotten_drain", "into_iter"):
-            self.walk(name, rest, answers)
-        else:
-            self.call(words, answers)
-            return
-        words.read = rest.read
-
-    def end(self, name):
-        ends = {"front": self.list.first, "back": self.list.last}
-        return ends.get(name, self.list.take_first if name == "pop_front" else self.list.take_last)()
-
     def is_element_refused(self, element, answers):
         """Whether the container failed to allocate for the element, as it may, and so returned it."""
         if answers.is_refused() and self.list.may_refuse(element):
@@ -100,7 +80,8 @@ class SetModel(Model):
             return True
         return False
 
-    def put_element(self, name, element, answers):
+    def put_element(self, name, words, answers):
+        element = words.name()
         if self.is_element_refused(element, answers):
             return
         pair = self.list.find(element)
@@ -116,20 +97,11 @@ class SetModel(Model):
         else:
             answers.item(old or element)
 
-    def call_element(self, name, element, answers):
-        old = self.list.find(element)
-        if name == "contains":
-            answers.tell(old is not None)
-        elif name == "get":
-            answers.key(old)
-        elif name == "remove":
-            answers.tell(self.list.take(element) is not None)
-        elif name == "take":
-            answers.key(self.list.take(element))
-        else:
-            if old:
-                self.put(name[3:], old)
-            answers.tell(old is not None)
+    def move(self, goal, words, answers):
+        old = self.list.find(words.name())
+        if old:
+            self.put(goal, old)
+        answers.tell(old is not None)
 
     def step(self, name, ends, word, written):
         """An iterator over the elements answers them as one over keys does."""
@@ -141,6 +113,20 @@ class SetModel(Model):
 
     def back_of_many(self, pair, answers):
         return self.is_element_refused(pair[0], answers)
+
+    OWN = {
+        "front": lambda m, words, answers: answers.key(m.list.first()),
+        "back": lambda m, words, answers: answers.key(m.list.last()),
+        "pop_front": lambda m, words, answers: answers.key(m.list.take_first()),
+        "pop_back": lambda m, words, answers: answers.key(m.list.take_last()),
+        "contains": lambda m, words, answers: answers.tell(m.list.find(words.name()) is not None),
+        "get": lambda m, words, answers: answers.key(m.list.find(words.name())),
+        "remove": lambda m, words, answers: answers.tell(m.list.take(words.name()) is not None),
+        "take": lambda m, words, answers: answers.key(m.list.take(words.name())),
+        "to_front": lambda m, words, answers: m.move("front", words, answers),
+        "to_back": lambda m, words, answers: m.move("back", words, answers),
+        **named(put_element, ("insert", "replace", "get_or_insert", "get_or_insert_with")),
+    }
 
 
 def call_sets(model, other, words, answers):
