@@ -129,7 +129,8 @@ module _ {K V S : Type 0} {eq : K → K → Bool} (laws : IsEquivalence eq) {has
 
     -- a part of what it holds
     pub part-stored : {Y : Type 0} (f : Entry K V → Y) (g : K × V → Y)
-        → ((h : Entry K V) → f h ≡ g (pair_of h)) → (y : Y) → option_map f (lookup (same_node n) r.entries) ≡ Some y
+        → ((h : Entry K V) → f h ≡ g (pair_of h)) → (y : Y)
+        → option_map f (lookup (same_node n) r.entries) ≡ Some y
         → option_map g (slice_get (entries_of seen) j) ≡ Some y
     part-stored f g same y is =
         let held : f at.0 ≡ y = cc (sym (ap (option_map f) at.1.found) ∙ is) in

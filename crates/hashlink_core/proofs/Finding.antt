@@ -1,43 +1,18 @@
--- Finding nodes by the table: a key's, and one that left the ring. A node with a number that is no short
--- hash, its mark, can be distinguished from another one.
+-- Finding nodes by the table: a key's, and one that left the ring.
 use Rattle.hashlink_core.proofs.Names
-use Names.{◌++◌, ◌≡◌, ℕ, ◌^◌, ◌<◌, ◌≤◌, Bool, true, false, cond, eqb, eqb-true, eq-eqb, List, ◌∷◌, Option}
+use Names.{◌≡◌, ℕ, ◌^◌, ◌<◌, Bool, true, false, cond, List, ◌∷◌, Option}
 use Names.{None, Some, refl, ap, sym, subst, ◌∙◌, arith, ◌⊎◌, inl, inr, length, Bor, IsEquivalence, Shared}
-use Names.{FnReturnsAt, fold, lookup, remove_entry, set_value, keys_of, option_map, is_some, IfSome, IfNone}
-use Names.{IsTrue, IsPermutation, slice_get, Contains, lookup-set_value, NonePasses, Contains-from_lookup}
+use Names.{FnReturnsAt, fold, lookup, remove_entry, keys_of, option_map, is_some, IfSome, IfNone}
+use Names.{IsPermutation, slice_get, Contains, NonePasses, Contains-from_lookup}
 use Names.{lookup-from_Contains, place_of_its_key, slice_get_here, place_of, IsKeyTest, same_node}
-use Names.{same_node_equiv, eq-same_node, Ring, ring, Holds, pair_of, with_number, Entry, Node, Contents}
+use Names.{same_node_equiv, eq-same_node, Ring, Holds, pair_of, Entry, Node, Contents}
 use Names.{Keeps, nodes_of, pairs_in, HoldsMatch, place_number, Tells, IsInStep, short, hash_with, mapped-at}
 use Names.{from_part, element-at, at-element, lookup-map_values, node-at}
 use Rattle.hashlink_core.proofs.Mapped.{place_number-mapped}
 use Rattle.hashlink_core.proofs.Stepping.{pair-at, held-at, kept, listed, in-table, number-of, was-kept}
 use Rattle.std.{specs.Option.{is_some, IfSome, IfNone, MatchOption}, proofs.{Common.not, Math.Path.fun_ext}}
-use Rattle.std.proofs.lemmas.Map.{lookup-remove_entry, Steps.set_value_same}
-use Rattle.hashlink_model.proofs.Splits.{Stands, splits, place_of-none, stands_from_lookup, set_value-here}
-
--- an entry with a new value, which then gets another value
-module _ {X : Type 0} (test : Node → Bool) (es : List (Node × X)) (x : X) (found : lookup test es ≡ Some x)
-    (w : X) where
-  s : Stands test es
-  s = stands_from_lookup test es x found
-
-  was-written : set_value test es w ≡ s.0 ++ (s.1.0, w) ∷ s.2
-  was-written = ap (λ l. set_value test l w) s.3.is ∙ set_value-here test s.1 s.2 s.3.passes w s.0 s.3.before
-
-  set_value_twice : (v : X) → set_value test (set_value test es w) v ≡ set_value test es v
-  set_value_twice v = ap (λ l. set_value test l v) was-written
-      ∙ set_value-here test (s.1.0, w) s.2 s.3.passes v s.0 s.3.before
-      ∙ sym (ap (λ l. set_value test l v) s.3.is ∙ set_value-here test s.1 s.2 s.3.passes v s.0 s.3.before)
-
--- the number of n's entry was replaced by one that is no short hash, which left the entries fs
-pub record Marked {K V : Type 0} (r : Ring K V) (n : Node) (number : ℕ)
-    (fs : List (Node × Entry K V)) : Type 0 where
-  pub mark : ℕ
-  pub long : 2 ^ 32 ≤ mark
-  pub held : Holds r.entries n
-  pub is : option_map (λ h. h.number) (lookup (same_node n) r.entries) ≡ Some number
-  pub renumbered : IfSome (lookup (same_node n) r.entries)
-      (λ h. fs ≡ set_value (same_node n) r.entries (with_number h mark))
+use Rattle.std.proofs.lemmas.Map.{lookup-remove_entry}
+use Rattle.hashlink_model.proofs.Splits.{Stands, splits, place_of-none}
 
 -- the node n, whose entry had this number, was detached, which left the ring s
 pub record Detached {K V : Type 0} (r : Ring K V) (n : Node) (number : ℕ) (s : Ring K V) : Type 0 where
@@ -48,99 +23,13 @@ pub record Detached {K V : Type 0} (r : Ring K V) (n : Node) (number : ℕ) (s :
 
 module _ {K V : Type 0} {eq : K → K → Bool} {hash : K → ℕ} {r : Ring K V} {t : Contents Node}
     (step : IsInStep eq hash r t) where
-  number-short : (m : Node) (h : Entry K V) → lookup (same_node m) r.entries ≡ Some h → h.number < 2 ^ 32
-  number-short m h at = omega (arith, number-of step m h at)
-
-  -- the number of a node's entry
+  -- the number of a node's entry is a short hash
   pub asked-short : (n : Node) (number : ℕ) → Holds r.entries n
       → option_map (λ h. h.number) (lookup (same_node n) r.entries) ≡ Some number → number < 2 ^ 32
   asked-short n number held is =
       let x = node-at r.entries n held in
       let own : x.0.number ≡ number = cc (sym (ap (option_map (λ h. h.number)) x.1.found) ∙ is) in
-      omega (arith, number-short n x.0 x.1.found, own)
-
-  module _ {n : Node} {number : ℕ} {fs : List (Node × Entry K V)} (marked : Marked r n number fs) where
-    abbrev own : Entry K V
-    own = (node-at r.entries n marked.held).0
-
-    found : lookup (same_node n) r.entries ≡ Some own
-    found = (node-at r.entries n marked.held).1.found
-
-    own-number : own.number ≡ number
-    own-number = cc (sym (ap (option_map (λ h. h.number)) found) ∙ marked.is)
-
-    set-at : fs ≡ set_value (same_node n) r.entries (with_number own marked.mark)
-    set-at = rw found at marked.renumbered
-
-    found-now : (m : Node) → lookup (same_node m) fs
-        ≡ cond (same_node n m) (Some (with_number own marked.mark)) (lookup (same_node m) r.entries)
-    found-now m = ap (lookup (same_node m)) set-at
-        ∙ lookup-set_value same_node_equiv (same_node n) (λ x y e. same_node_equiv.congr n x y e) m
-        (with_number own marked.mark) r.entries marked.held
-
-    own-now : lookup (same_node n) fs ≡ Some (with_number own marked.mark)
-    own-now = found-now n
-        ∙ ap (λ b. cond b (Some (with_number own marked.mark)) (lookup (same_node n) r.entries))
-        (same_node_equiv.refl n)
-
-    pub marked-holds : (m : Node) → Holds r.entries m → Holds fs m
-    marked-holds m there = ap is_some (found-now m)
-        ∙ (elim (same_node n m) as (λ b. is_some (cond b (Some (with_number own marked.mark))
-        (lookup (same_node m) r.entries)) ≡ true) [ true ↦ refl | false ↦ there ])
-
-    -- it has its old number again
-    restored : (gs : List (Node × Entry K V)) → IfSome (lookup (same_node n) fs)
-        (λ h. gs ≡ set_value (same_node n) fs (with_number h number)) → gs ≡ r.entries
-    restored gs set =
-        subst (λ o. IfSome o (λ h. gs ≡ set_value (same_node n) fs (with_number h number))) own-now set
-        ∙ ap (λ i. set_value (same_node n) fs (with_number own i)) (sym own-number)
-        ∙ ap (λ l. set_value (same_node n) l own) set-at
-        ∙ set_value_twice (same_node n) r.entries own found (with_number own marked.mark) own
-        ∙ set_value_same (same_node n) r.entries own found
-
-    module _ (s : Ring K V) (set : IfSome (lookup (same_node n) fs)
-        (λ h. s.entries ≡ set_value (same_node n) fs (with_number h number))) (free : s.free ≡ r.free)
-        (stored : s.link_writes ≡ r.link_writes) where
-      pub restored-ring : s ≡ r
-      restored-ring = let entries = restored s.entries set in λ i. ring (entries i) (free i) (stored i)
-
-      pub restored-step : IsInStep eq hash s t
-      restored-step = subst (λ r. IsInStep eq hash r t) (sym restored-ring) step
-
-    -- a node of the ring that has the mark is n
-    marked-is : (m : Node) → Holds r.entries m → (h : Entry K V) → lookup (same_node m) fs ≡ Some h
-        → h.number ≡ marked.mark → m ≡ n
-    marked-is m there h at is =
-        (elim (same_node n m) as (λ b. same_node n m ≡ b → m ≡ n) [
-          | true ↦ λ e. sym (eq-same_node n m e)
-          | false ↦ λ e.
-              let x = node-at r.entries m there in
-              let now : lookup (same_node m) fs ≡ Some x.0 = found-now m
-              ∙ ap (λ b. cond b (Some (with_number own marked.mark)) (lookup (same_node m) r.entries)) e
-              ∙ x.1.found in
-              let same : h ≡ x.0 = cc (sym at ∙ now) in
-              absurd (omega (
-                arith,
-                is,
-                ap (λ (h : Entry K V). h.number) same,
-                number-short m x.0 x.1.found,
-                marked.long,
-              ))
-        ]) refl
-
-    -- a node has the mark exactly if it is n
-    pub marked-same : (m : Node) → Holds r.entries m → (i : ℕ)
-        → option_map (λ h. h.number) (lookup (same_node m) fs) ≡ Some i
-        → (IsTrue (eqb i marked.mark) → m ≡ n) × (m ≡ n → IsTrue (eqb i marked.mark))
-    marked-same m there i at =
-        let h = from_part (λ h. h.number) (lookup (same_node m) fs) i at in (
-          λ t. marked-is m there h.0 h.1 (h.2 ∙ eqb-true i marked.mark t),
-          λ same.
-              let now : Some marked.mark ≡ Some i = sym (ap (option_map (λ h. h.number)) own-now)
-              ∙ ap (λ k. option_map (λ h. h.number) (lookup (same_node k) fs)) (sym same) ∙ at in
-              let is : i ≡ marked.mark = cc (sym now) in
-              eq-eqb i marked.mark is,
-        )
+      omega (arith, number-of step n x.0 x.1.found, own)
 
   -- ---- n left the ring, in which its entry had this number, and is free
   module _ {n : Node} {number : ℕ} {s : Ring K V} (d : Detached r n number s) where
@@ -200,6 +89,33 @@ module _ {K V : Type 0} {eq : K → K → Bool} {hash : K → ℕ} {r : Ring K V
     taken-out u (Some m) some none =
         subst (λ m. IsPermutation t.nodes (kept number m ∷ u.nodes))
         (sym (only number m (was-kept t u number m some.0) some.1)) some.0
+
+-- two nodes are the same exactly if their keys are equal
+module _ {K V : Type 0} {eq : K → K → Bool} (laws : IsEquivalence eq) {hash : K → ℕ} {r : Ring K V}
+    {t : Contents Node} (step : IsInStep eq hash r t) (m n : Node) (p q : K × V)
+    (at_m : option_map pair_of (lookup (same_node m) r.entries) ≡ Some p)
+    (at_n : option_map pair_of (lookup (same_node n) r.entries) ≡ Some q) where
+  pub same-keyed : eq p.0 q.0 ≡ true → m ≡ n
+  same-keyed equal =
+      let g = from_part pair_of (lookup (same_node m) r.entries) p at_m in
+      let h = from_part pair_of (lookup (same_node n) r.entries) q at_n in
+      let c = Contains-from_lookup eq-same_node m g.0 r.entries g.1 in
+      let d = Contains-from_lookup eq-same_node n h.0 r.entries h.1 in
+      let here = at-element r.entries (m, g.0) c in
+      let there = at-element r.entries (n, h.0) d in
+      let i = place_of_its_key eq laws (pairs_in r.entries) c.0 (pair_of g.0) p.0 step.distinct
+      (pair-at r.entries c.0 m g.0 here) (ap (λ (x : K × V). eq p.0 x.0) g.2 ∙ laws.refl p.0) in
+      let j = place_of_its_key eq laws (pairs_in r.entries) d.0 (pair_of h.0) p.0 step.distinct
+      (pair-at r.entries d.0 n h.0 there) (ap (λ (x : K × V). eq p.0 x.0) h.2 ∙ equal) in
+      let same : c.0 ≡ d.0 = cc (sym i ∙ j) in
+      let both : (m, g.0) ≡ (n, h.0) = cc (sym here ∙ ap (slice_get r.entries) same ∙ there) in
+      ap (λ (x : Node × Entry K V). x.0) both
+
+  pub same-key : m ≡ n → eq p.0 q.0 ≡ true
+  same-key same =
+      let moved = ap (λ k. option_map pair_of (lookup (same_node k) r.entries)) same in
+      let is : p ≡ q = cc (sym at_m ∙ moved ∙ at_n) in
+      ap (λ (x : K × V). eq x.0 q.0) is ∙ laws.refl q.0
 
 -- what a call returned for a node's key
 pub answered-at : {K V : Type 0} (P : K → Type 0) (o : Option (Entry K V)) (key : K) (value : V)

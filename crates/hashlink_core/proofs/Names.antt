@@ -27,7 +27,7 @@ pub use Rattle.hashlink_nodes.specs.Ring.{Holds, IsPlace, MovesAfter, MovesBefor
 pub use Rattle.hashlink_nodes.specs.Ring.{next_place, node_after, node_before, pair_of, prev_place}
 pub use Rattle.hashlink_nodes.specs.{declared.entry.Entry.Entry, Node.{eq-same_node, same_node}}
 pub use Rattle.hashlink_nodes.specs.Node.{same_node_equiv}
-pub use Rattle.hashlink_nodes.specs.Ring.{put_before, ring, with_key, with_number, with_value}
+pub use Rattle.hashlink_nodes.specs.Ring.{put_before, ring, with_key, with_value}
 pub use Rattle.hashlink_nodes.specs.declared.node.Node.{Node}
 pub use Rattle.hashlink_table.specs.Contents.{Contents, Keeps, len_of}
 pub use Rattle.std.proofs.Common.{Bool, Err, List, None, Ok, OnErr, Option, Result, Some, [], ap, ap₂, arith}

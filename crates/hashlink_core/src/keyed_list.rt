@@ -29,9 +29,6 @@ fn short_hash(hash: u64) -> u32
     (hash % (1 << 32)) as u32
 }
 
-// The number of a node that is marked for a moment. No short hash has this value.
-const MARKED: usize = 1 << 32;
-
 /// A list of pairs in a ring of nodes, with a hash table of the nodes to find them. No two keys are equal.
 pub struct KeyedList<K: Eq + Hash, V, S: BuildHasher> {
     nodes: Nodes<K, V>,

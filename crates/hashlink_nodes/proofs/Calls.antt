@@ -5,14 +5,14 @@ use Names.{arith, keys_of, unwrap_or, remove_entry, set_value, option_map, appen
 use Names.{lookup, same_node-refl, Holds, IsDistinct, IsDistinct-head, IsDistinct-tail, List, length-drop}
 use Names.{length-set_value, Node, Inside, same_node, state_of, Ring, ring, Entry, IsRing, IsSound, SoundAt}
 use Names.{ring_of, State, GuardIs, attached, detached, hold, store_next, Adds, Drops, AreThere, IsPlace}
-use Names.{put_before, put_after, held, pair_of, with_number}
+use Names.{put_before, put_after}
 use Rattle.std.proofs.Common.{drop}
 use Rattle.hashlink_nodes.proofs.Rings.{Linked, linked, attach, Entries, detach, held_out, holds_now}
 use Rattle.hashlink_nodes.proofs.Rings.{held_now, added, dropped, spared, take_spare, renew, Taken, guarded}
 use Rattle.hashlink_nodes.proofs.Opening.{length-gap, Leaves, NodeAt, leaves, length-removed, opened, empty}
 use Rattle.hashlink_nodes.{specs.declared.pool.Pool.Pool, proofs.Paths.{head_or, last_or, flip, off_last}}
 use Rattle.hashlink_nodes.proofs.{Cuts.{Gap, before_place, after_place, same_some}, Neighbours.neighbours}
-use Rattle.hashlink_nodes.proofs.{Rings.held_anew, Opening.{known, shrinks, node_in, spare_guard, ring_facts}}
+use Rattle.hashlink_nodes.proofs.Opening.{known, shrinks, node_in, spare_guard, ring_facts}
 use Rattle.hashlink_nodes.proofs.Opening.{written_guard}
 
 module _ {K V : Type 0} where
@@ -92,16 +92,6 @@ module _ {K V : Type 0} where
         (ring (set_value (same_node n) v.entries (change at.cut.value)) v.free v.link_writes)
     renewed change is =
         set_held (change at.cut.value) (is ∙ ap (λ o. hold n (option_map change o) s) at.here.holds)
-
-    -- its pair is taken out, and put back with another number
-    pub renumbered : {s₁ s₂ : State K V} {pair : K × V} (i : ℕ) → s₁ ≡ hold n None s
-        → option_map pair_of (s.held n) ≡ Some pair → s₂ ≡ hold n (Some (held i pair.0 pair.1)) s₁
-        → Leaves s₂ guard first len spare
-        (ring (set_value (same_node n) v.entries (with_number at.cut.value i)) v.free v.link_writes)
-    renumbered i is₁ was is₂ =
-        let e = same_some (ap (option_map pair_of) (sym at.here.holds) ∙ was) in
-        set_held (with_number at.cut.value i)
-        (held_anew _ _ _ s is₁ is₂ ∙ (λ j. hold n (Some (held i (sym e j).0 (sym e j).1)) s))
 
     -- it is taken out of the ring
     pub taken_out : {s₁ : State K V} → s₁ ≡ detached n s

@@ -31,10 +31,11 @@ pub use seplogic.Ra.Ura.{Ura}
 pub use specs.Ownership.{Links, block_lent, block_owns, block_room, block_type, blocks_lent, blocks_own}
 pub use specs.Ownership.{deed_owns, is_small, links_of, links_offset, number_of, number_offset, pair_lent}
 pub use specs.Ring.{Entry, Holds, IsPlace, Ring, held, last_node, next_place, node_after, node_before}
-pub use specs.Ring.{pair_of, prev_place, put_after, put_after_node, put_before, put_before_node, ring, with_key}
+pub use specs.Ring.{pair_of, prev_place, put_after, put_after_node, put_before, put_before_node, ring}
+pub use specs.Ring.{with_key}
 pub use specs.Kept.{Kept, alter, entry_in, kept, number_word, with_entry, with_links, with_pair}
 pub use specs.Node.{eq-same_node, same_node, same_node-refl, same_node_equiv}
-pub use specs.{Ownership.{pair_of as pair_place, pair_offset, pair_owns}, Ring.{with_number, with_value}}
+pub use specs.{Ownership.{pair_of as pair_place, pair_offset, pair_owns}, Ring.with_value}
 pub use specs.Shape.{IsChain, IsLinked, IsRing, IsSound, SoundAt, entry_of, ring_at, ring_of}
 unfoldable pub use specs.Shape.{entries_of, walk}
 pub use specs.State.{Adds, AreThere, Blocks, Differs, Drops, GuardIs, MakesGuard, State, held_in, next_in}

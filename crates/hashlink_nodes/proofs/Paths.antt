@@ -36,11 +36,6 @@ pub set_at_other : {X : Type 0} (f : Node → X) (n m : Node) (x : X) → same_n
     → set_at f n x m ≡ f m
 set_at_other f n m x h = ap (λ y. cond y x (f m)) h
 
-pub set_at_twice : {X : Type 0} (f : Node → X) (n m : Node) (x y : X)
-    → set_at (set_at f n x) n y m ≡ set_at f n y m
-set_at_twice f n m x y =
-    elim (same_node m n) as (λ z. cond z y (cond z x (f m)) ≡ cond z y (f m)) [ true ↦ refl | false ↦ refl ]
-
 -- ---- nodes that are distinct
 module _ {X : Type 0} (P : X → Type 0) where
   pub all_left : (xs ys : List X) → AllByRecursion P (xs ++ ys) → AllByRecursion P xs

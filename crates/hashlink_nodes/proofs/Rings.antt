@@ -6,7 +6,7 @@ use Names.{map-append, IsDistinct-head, IsDistinct-tail, IsDistinct-cons, Node, 
 use Names.{set_at, State, store_next, store_prev, hold, detached, attached, Adds, Differs, Drops, AreThere}
 use Names.{MakesGuard, IsChain, IsLinked, IsRing, Ring, ring, Entry}
 use Rattle.std.proofs.Common.{drop, lit<}
-use Rattle.hashlink_nodes.proofs.Paths.{set_at_twice, head_or, last_or, Off, IsOff, flip, all_left, all_right}
+use Rattle.hashlink_nodes.proofs.Paths.{head_or, last_or, Off, IsOff, flip, all_left, all_right}
 use Rattle.hashlink_nodes.proofs.Paths.{all_middle, all_without, all_with, all_both, all_as, all_zip}
 use Rattle.hashlink_nodes.proofs.Paths.{to_front, from_front, set_at_here, set_at_other, linked_cut}
 use Rattle.hashlink_nodes.proofs.Paths.{linked_at, linked_same, linked_detach, linked_attach, chain_same}
@@ -169,14 +169,6 @@ module _ {K V : Type 0} where
       })
 
   -- ---- what a node holds changes
-  -- of two writes, the second counts
-  pub held_anew : {s₁ s₂ : State K V} (n : Node) (o o' : Option (Entry K V)) (s : State K V) → s₁ ≡ hold n o s
-      → s₂ ≡ hold n o' s₁ → s₂ ≡ hold n o' s
-  unfolding hold
-  held_anew n o o' s is₁ is₂ =
-      is₂ ∙ ap (λ (t : State K V). record t { held = set_at t.held n o' }) is₁
-      ∙ (λ i. record s { held = λ m. set_at_twice s.held n m o o' i })
-
   pub held_now : {s' : State K V} {n : Node} {o : Option (Entry K V)} (s : State K V) → s' ≡ hold n o s
       → s'.held n ≡ o
   unfolding hold

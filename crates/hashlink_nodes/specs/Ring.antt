@@ -95,7 +95,3 @@ module _ {K V : Type 0} where
   -- the same with another key
   abbrev pub with_key : Entry K V → K → Entry K V
   with_key h k = held h.number k h.value
-
-  -- the same with another number
-  abbrev pub with_number : Entry K V → ℕ → Entry K V
-  with_number h i = held i h.key h.value

@@ -1,5 +1,5 @@
 -- What is stored for a group, from bytes and bits to marks.
-use Rattle.hashlink_table.proofs.Names.{◌≡◌, ◌≢◌, ℕ, zero, suc, ◌+◌, ◌-◌, ◌^◌, ◌<◌, ◌≤◌, inl, inr, Bool, true}
+use Rattle.hashlink_table.proofs.Names.{◌≡◌, ◌≢◌, ℕ, zero, suc, ◌-◌, ◌^◌, ◌<◌, inl, inr, Bool, true}
 use Rattle.hashlink_table.proofs.Names.{false, cond}
 use Rattle.hashlink_table.proofs.Names.{eqb, List, map, length, get_or, set, max, refl, sym, ap, ◌∙◌, arith}
 use Rattle.hashlink_table.proofs.Names.{cases_eq}

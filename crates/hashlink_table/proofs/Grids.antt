@@ -1,17 +1,17 @@
 -- The blocks of all groups, from what is stored to what contracts see.
 use Rattle.hashlink_table.proofs.Names
-use Names.{◌≡◌, ◌≢◌, ℕ, zero, suc, ◌+◌, ◌-◌, ◌*◌, ◌/◌, ◌%◌, ◌<◌, ◌≤◌, inl, inr, List, [], ◌∷◌, ◌++◌, map}
+use Names.{◌≡◌, ◌≢◌, ℕ, zero, suc, ◌+◌, ◌-◌, ◌*◌, ◌/◌, ◌%◌, ◌<◌, ◌≤◌, inl, inr, List, [], ◌∷◌, ◌++◌}
 use Names.{length, get_or}
-use Names.{set, replicate, refl, sym, ap, ◌∙◌, subst, arith, cases_eq, cases_lt, All, All-get_or, All-head}
+use Names.{set, replicate, refl, sym, ap, ◌∙◌, arith, cases_eq, cases_lt, All, All-get_or, All-head}
 use Names.{All-set}
 use Names.{All-tail, chunk, get_or-set_same, get_or-set_other, get_or_append_left, get_or-append_right}
-use Names.{get_or_default, get_or-chunk, get_or-map, length-append, length-chunk, length-replicate}
+use Names.{get_or_default, get_or-chunk, get_or-map, length-append, length-chunk}
 use Names.{length-set, length-map, map-set_same}
-use Names.{Block, Cell, Grid, Mark, Rest, AreSlots, IsTagged, cells_in, empty_block, free_mark, grid_in}
+use Names.{Block, Cell, Grid, Mark, Rest, AreSlots, cells_in, empty_block, free_mark, grid_in}
 use Names.{heads_in}
-use Names.{marks_in, no_guests, map-append}
-use Names.{Head, bare_grid, widened, All-append, append_assoc, map-set}
-use Rattle.hashlink_table.proofs.Storing.{AreCells, bare, bare_cells, more_cells, sizes}
+use Names.{marks_in, no_guests}
+use Names.{Head, Hashed, END, Bool, true, false, bare_grid, map-set, tag_of, with_kept, with_guest}
+use Rattle.hashlink_table.proofs.Storing.{AreCells, bare, bare_cells, sizes, put_in, guest_put_in}
 use Rattle.std.proofs.lemmas.{List.{same_lists, replicate-append-replicate}, List.Elements.{All-replicate}}
 
 abbrev pub AreEven : List Block → Type 0
@@ -137,14 +137,6 @@ even-same bs g e b even low at marks =
     (ap length (marks ∙ ap (λ (c : Block). c.marks) at)
     ∙ All-get_or (λ (c : Block). length c.marks ≡ 16) bs g e low even) even
 
--- if all chains are empty
-pub all_heads : (bs : List Block) → ((k : ℕ) → k < length bs → (get_or bs k empty_block).head ≡ no_guests)
-    → heads_in bs ≡ replicate (length bs) no_guests
-all_heads [] none = refl
-all_heads (b ∷ bs) none =
-    let rest = all_heads bs (λ k low. none (suc k) (omega (arith, low))) in
-    let here = none zero (omega arith) in λ i. here i ∷ rest i
-
 -- n groups without nodes
 empty_even : (n : ℕ) → AreEven (replicate n empty_block)
 empty_even n = All-replicate (λ (b : Block). length b.marks ≡ 16) n empty_block refl
@@ -159,10 +151,6 @@ marks-empty (suc n) =
 pub heads-empty : (n : ℕ) → heads_in (replicate n empty_block) ≡ replicate n no_guests
 heads-empty zero = refl
 heads-empty (suc n) = ap (λ hs. no_guests ∷ hs) (heads-empty n)
-
-pub marks-append : (bs cs : List Block) → marks_in (bs ++ cs) ≡ marks_in bs ++ marks_in cs
-marks-append [] cs = refl
-marks-append (b ∷ bs) cs = ap (λ ms. b.marks ++ ms) (marks-append bs cs) ∙ sym (append_assoc b.marks _ _)
 
 -- what is stored, and what contracts see of it
 abbrev pub Stores : {N : Type 0} → List Block → List N → List Rest → Grid N → Type 0
@@ -212,6 +200,14 @@ module _ {N : Type 0} {bs : List Block} {ns : List N} {rs : List Rest} {o : Grid
         heads = ap length (sym heads_are) ∙ length-map bs (λ (b : Block). b.head);
       }
 
+  -- the index of a slot is one of each list, and that of its group one of the groups
+  pub in-lists : (i : ℕ) → i < length o.cells → (i / 16 < length bs) × (i < length ns) × (i < length rs)
+  in-lists i low = let long = slots_long in (
+    omega (arith, low, long.groups),
+    omega (arith, low, long.nodes),
+    omega (arith, low, long.rests),
+  )
+
   -- a mark is set
   pub stores-mark : (i : ℕ) (m : Mark) (e b : Block) {ms : List N} {ds : List Rest} {v : List (Cell N)}
       → i < length o.cells → e ≡ get_or bs (i / 16) e → b ≡ record e { marks = set e.marks (i % 16) m }
@@ -225,6 +221,41 @@ module _ {N : Type 0} {bs : List Block} {ns : List N} {rs : List Rest} {o : Grid
       let marks = ap (λ (c : Block). c.marks) is in
       stores (even-set bs h.even i m e b within marks) (rw (marks-set bs h.even i m e b within marks) stored)
       (map-set_same (λ (c : Block). c.head) bs (i / 16) b e (ap (λ (c : Block). c.head) is) ∙ heads_are)
+
+  -- a node is put into a slot of its group, or as a guest into any slot
+  module _ (i : ℕ) (k : Hashed N) (tag : ℕ) (e b : Block) (low : i < length o.cells)
+      (at : e ≡ get_or bs (i / 16) e) (tagged : tag ≡ tag_of k.hash) where
+    marked : (own guest : Bool) → Mark
+    marked own guest = record { tag = tag_of k.hash; own = own; guest = guest }
+
+    is_marked : (own guest : Bool)
+        → let m : Mark = record { tag = tag; own = own; guest = guest } in
+        b ≡ record e { marks = set e.marks (i % 16) m }
+        → b ≡ record e { marks = set e.marks (i % 16) (marked own guest) }
+    unfolding marked
+    is_marked own guest written =
+        written ∙ ap (λ t. let m : Mark = record { tag = t; own = own; guest = guest } in
+        let d : Block = record e { marks = set e.marks (i % 16) m } in d) tagged
+
+    pub stores-put : (r : Rest)
+        → (let m : Mark = record { tag = tag; own = true; guest = false } in
+        b ≡ record e { marks = set e.marks (i % 16) m })
+        → r ≡ get_or rs i r
+        → Stores (set bs (i / 16) b) (set ns i k.node) (set rs i (record r { hash = k.hash }))
+        (record o { cells = with_kept o.cells i k })
+    unfolding marked
+    stores-put r written read =
+        stores-mark i _ e b low at (is_marked true false written) (put_in h.tagged cells_are i low k r read)
+
+    pub stores-guest : (next : ℕ) → next ≤ END
+        → (let m : Mark = record { tag = tag; own = false; guest = true } in
+        b ≡ record e { marks = set e.marks (i % 16) m })
+        → Stores (set bs (i / 16) b) (set ns i k.node) (set rs i (record { hash = k.hash; link = next }))
+        (record o { cells = with_guest o.cells i k next })
+    unfolding marked
+    stores-guest next small written =
+        stores-mark i _ e b low at (is_marked false true written)
+        (guest_put_in h.tagged cells_are i low k next small)
 
   -- a chain is set
   pub stores-head : (g : ℕ) (x : Head) (e b : Block) → g < length o.heads → e ≡ get_or bs g e
@@ -245,17 +276,6 @@ module _ {N : Type 0} {bs : List Block} {ns : List N} {rs : List Rest} {o : Grid
   pub stores-rest : {ms : List N} {ds : List Rest} {v : List (Cell N)} → AreCells (marks_in bs) ms ds v
       → Stores bs ms ds (record o { cells = v })
   stores-rest stored = stores h.even stored heads_are
-
-  -- more slots after them
-  pub stores-more : (n : ℕ) (cs : List Block) (ms ys : List N) (ds zs : List Rest)
-      → Stores cs ms ds (bare_grid n) → ys ≡ ns ++ ms → zs ≡ rs ++ ds
-      → Stores (bs ++ cs) ys zs (widened o n)
-  stores-more n cs ms ys ds zs (k, seen) nodes rests =
-      stores (All-append (λ (c : Block). length c.marks ≡ 16) bs cs h.even k.even)
-      (rw (marks-append bs cs) (more_cells h.tagged cells_are (marks_in cs) _ ms ys ds zs _
-      (k.tagged, ap (λ (c : Grid N). c.cells) seen) refl nodes rests))
-      (map-append (λ (c : Block). c.head) bs cs
-      ∙ (λ i. heads_are i ++ ap (λ (c : Grid N). c.heads) seen i))
 
   -- the mark of a slot, as it is read
   pub mark_is : (i : ℕ) (e : Block) (m : Mark) → i < length o.cells → e ≡ get_or bs (i / 16) e

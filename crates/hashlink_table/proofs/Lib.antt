@@ -1,6 +1,5 @@
 pub mod Names
 pub mod Blocks
-pub mod Doubling
 pub mod Grids
 pub mod Groups
 pub mod Linking

@@ -1,6 +1,6 @@
 -- The chains of a table after a write to the slots, after an insert of a guest and after a removal.
 use Rattle.hashlink_table.proofs.Names
-use Names.{◌≡◌, ◌≢◌, ℕ, ◌<◌, ◌≤◌, ◌%◌, ◌/◌, inl, inr, List, map, IsSome, Option, Some, None, length, get_or}
+use Names.{◌≡◌, ◌≢◌, ℕ, ◌<◌, ◌≤◌, ◌%◌, ◌/◌, inl, inr, List, IsSome, Option, Some, None, length, get_or}
 use Names.{set, refl, sym}
 use Names.{ap, ◌∙◌, subst, arith, cases_eq, cases_lt, false≢true, false, true, Bool, cond, get_or-set_same}
 use Names.{get_or-set_other}
@@ -8,7 +8,7 @@ use Names.{get_or_past, get_or-map, length-map, length-set, map-set, Cell, Head,
 use Names.{own_at, own_of, guest_at, guest_of, chain_of, chain_at, bare_cell, pow_pos, IsPowerOfTwo, END}
 use Names.{links_of}
 use Names.{first_at, IsThreaded, IsLinked, IsLinkedBut, SameNodes, stored_in}
-use Rattle.hashlink_table.proofs.Threads.{SameBut, take_first, take_next, put_first}
+use Rattle.hashlink_table.proofs.Threads.{take_first, take_next, put_first}
 use Rattle.std.proofs.Math.ListN as by_index
 
 -- a power of two is above 0

@@ -1,8 +1,8 @@
 -- The bits of a mask, one for each cell of a group that passes a test.
 use Rattle.hashlink_table.proofs.Names
-use Names.{◌≡◌, ◌≢◌, ℕ, zero, suc, ◌+◌, ◌-◌, ◌*◌, ◌/◌, ◌^◌, ◌<◌, ◌≤◌, Bool, true, false, cond, not, List, []}
+use Names.{◌≡◌, ℕ, zero, suc, ◌+◌, ◌-◌, ◌*◌, ◌/◌, ◌^◌, ◌<◌, ◌≤◌, Bool, true, false, cond, not, List, []}
 use Names.{◌∷◌, map, length, drop, get_or, count_by, None, Some, IsSome, Option, refl, sym, ap, ◌∙◌, subst}
-use Names.{arith, is_none, prefix_len, eq-eqb, eqb-true, not-false, true≢false, drop-drop, get_or-drop}
+use Names.{arith, is_none, prefix_len, true≢false, drop-drop, get_or-drop}
 use Names.{length-drop, take_all, sum_by-cons, length-chunk, get_or-chunk, trailing_mask_l}
 use Names.{none_from_empty_mask, one-add, count_trailing_zeros, mask_l, shr-shr, Cell, kept_at}
 use Names.{bare_cell, lanes_of}

@@ -1,18 +1,18 @@
 -- The nodes stay where a search looks for them: a node is put into a slot or taken out of one, as a guest or
 -- not.
 use Rattle.hashlink_table.proofs.Names
-use Names.{◌≡◌, ◌≢◌, ℕ, ◌+◌, ◌*◌, ◌%◌, ◌/◌, ◌^◌, ◌<◌, ◌≤◌, inl, inr, List, ◌∷◌, length, get_or, set, IsSome}
+use Names.{◌≡◌, ◌≢◌, ℕ, ◌%◌, ◌/◌, ◌^◌, ◌<◌, ◌≤◌, inl, inr, List, length, get_or, set, IsSome}
 use Names.{Option}
-use Names.{None, Some, false, refl, sym, ap, ◌∙◌, subst, arith, max, IsPermutation, cases_eq, length-map}
+use Names.{None, Some, false, refl, sym, ap, ◌∙◌, subst, arith, IsPermutation, cases_eq, length-map}
 use Names.{length-set, get_or-set_same, get_or-set_other, same_Some, bit_at, Hashed, Cell, Head, END, kept_at}
-use Names.{next_at, own_at, own_of, guest_at, guest_of, chain_at, chain_of, first_at, links_of, mask_at}
+use Names.{next_at, own_at, own_of, guest_at, guest_of, chain_at, chain_of, first_at, mask_at}
 use Names.{nodes_in}
-use Names.{with_node, AreGrouped, IsArranged, IsLinkedBut, IsCovered, SameNodes, SameMasks, bare_cell}
+use Names.{with_node, AreGrouped, IsArranged, IsLinkedBut, SameNodes, SameMasks}
 use Names.{no_guests}
 use Names.{mask_bit_of, with_guest_in, true}
 use Rattle.hashlink_table.proofs.Linking.{at-set, at-set_other, linked-same, linked-put, linked-freed}
 use Rattle.hashlink_table.proofs.Linking.{none_guest}
-use Rattle.hashlink_table.proofs.Linking.{guest_kept, within_kept, stored-same, guest-same, own-same}
+use Rattle.hashlink_table.proofs.Linking.{guest-same, own-same}
 use Rattle.hashlink_table.proofs.Linking.{same_length}
 use Rattle.hashlink_table.proofs.{Nodes.{nodes_in-set, nodes_in-full}, Threads.begun}
 use Rattle.std.specs.Prelude.{bit_or}

@@ -1,12 +1,11 @@
 -- The nodes of a list of cells: after a write, one by one, and in a loop that inserts them.
 use Rattle.hashlink_table.proofs.Names
 use Names.{◌≡◌, ℕ, zero, suc, ◌+◌, ◌<◌, ◌≤◌, List, [], ◌∷◌, ◌++◌, length, get_or, set, replicate, take, drop}
-use Names.{true, Bool, guest_at, guest_of, guests_in, Option, Some, None, is_some, refl, sym, ap, ◌∙◌, subst}
-use Names.{arith, append_assoc, Contains}
+use Names.{true, Bool, Option, Some, None, is_some, refl, sym, ap, ◌∙◌, subst}
+use Names.{arith, Contains}
 use Names.{IsPermutation, take_more, take-append-drop, length-append, IsPermutation-refl, IsPermutation-trans}
 use Names.{IsPermutation-cons, IsPermutation-middle, IsPermutation-to_front, Hashed, Cell, kept_at, stored_in}
-use Names.{with_node, nodes_in, SameNodes, bare_cell, append-nil, length_push, length_permutation, Contents}
-use Names.{len_of}
+use Names.{with_node, nodes_in, SameNodes, bare_cell, append-nil}
 
 module _ {N : Type 0} where
   -- two nodes may change places
@@ -70,29 +69,12 @@ module _ {N : Type 0} where
       (drop i cells) in
       omega (arith, ap length all, length-append (nodes_in (take i cells)) (nodes_in (drop i cells)))
 
-  -- the guests of the first cells and of one more
-  guests_in-append : (cells more : List (Cell N)) → guests_in (cells ++ more)
-      ≡ guests_in cells ++ guests_in more
-  guests_in-append [] more = refl
-  guests_in-append (x ∷ xs) more =
-      let rest = guests_in-append xs more in
-      elim (guest_of x) as
-      (λ k. with_node k (guests_in (xs ++ more)) ≡ with_node k (guests_in xs) ++ guests_in more)
-      [ None ↦ rest | Some k ↦ ap (λ ks. k ∷ ks) rest ]
-
-  pub guests_in-more_at : (cells : List (Cell N)) (i : ℕ) → i < length cells
-      → guests_in (take (i + 1) cells) ≡ guests_in (take i cells) ++ with_node (guest_at cells i) []
-  guests_in-more_at cells i h =
-      ap guests_in (take_more cells i bare_cell h)
-      ∙ guests_in-append (take i cells) (get_or cells i bare_cell ∷ [])
-
-  -- a node was inserted after others
-  pub inserted-more : (old done now later : List (Hashed N)) (k : Hashed N) → IsPermutation (old ++ done) now
-      → IsPermutation (k ∷ now) later
-      → IsPermutation (old ++ (done ++ k ∷ [])) later
-  inserted-more old done now later k before step =
-      subst (λ ks. IsPermutation ks later) (append_assoc old done (k ∷ []))
-      (IsPermutation-trans _ _ _ (IsPermutation-to_front (old ++ done) k)
+  -- one more node was put
+  pub put_on : (done more now later : List (Hashed N)) (k : Hashed N) → more ≡ done ++ k ∷ []
+      → IsPermutation done now → IsPermutation (k ∷ now) later → IsPermutation more later
+  put_on done more now later k next before step =
+      subst (λ ks. IsPermutation ks later) (sym next)
+      (IsPermutation-trans _ _ _ (IsPermutation-to_front done k)
       (IsPermutation-trans _ _ _ (IsPermutation-cons k _ _ before) step))
 
   -- bare cells have no nodes
@@ -134,39 +116,6 @@ module _ {N : Type 0} where
       by rest (Some j) is (zero, h, e) = (zero, is ∙ ap Some e)
       by rest (Some j) is (suc n, h, e) = let r = rest (n, omega arith, e) in (suc r.0, r.1)
 
--- the nodes `done` were inserted
-pub record IsCopied {N : Type 0} (old : Contents N) (done : List (Hashed N)) (now : Contents N) : Type 0 where
-  pub inserted : IsPermutation (old.nodes ++ done) now.nodes
-  pub room : now.room ≡ old.room
-
-module _ {N : Type 0} (old : Contents N) where
-  -- one more node
-  module _ (done more : List (Hashed N)) (k : Hashed N) (next : more ≡ done ++ k ∷ []) (now : Contents N)
-      (copied : IsCopied old done now) where
-    -- there is room for it, and it is inserted
-    pub has_room : (all : List (Hashed N)) → length more ≤ length all → len_of old + length all ≤ old.room
-        → len_of now < now.room
-    has_room all part enough =
-        omega (
-          arith,
-          part,
-          enough,
-          length_permutation _ _ copied.inserted,
-          length-append old.nodes done,
-          ap length next,
-          length_push done k,
-          copied.room,
-        )
-
-    pub one_copied : (put : Contents N) → IsPermutation (k ∷ now.nodes) put.nodes → put.room ≡ now.room
-        → IsCopied old more put
-    one_copied put nodes room = record {
-      inserted =
-          subst (λ ks. IsPermutation (old.nodes ++ ks) put.nodes) (sym next)
-          (inserted-more old.nodes done now.nodes put.nodes k copied.inserted nodes);
-      room = room ∙ copied.room;
-    }
-
 -- the nodes of the first cells and of one more, whose node, if any, is the last
 module _ {N : Type 0} (cells : List (Cell N)) (count : ℕ) (low : count < length cells) (o : Option (Hashed N))
     (is : o ≡ kept_at cells count) where
@@ -181,11 +130,3 @@ module _ {N : Type 0} (cells : List (Cell N)) (count : ℕ) (low : count < lengt
 
   pub next_none : o ≡ None → nodes_in (take (count + 1) cells) ≡ nodes_in (take count cells)
   next_none e = next_in None e ∙ append-nil (nodes_in (take count cells))
-
--- the guests of the first cells and of one more, whose guest, if any, is the last
-pub next_guest : {N : Type 0} (cells : List (Cell N)) (count : ℕ) (o p : Option (Hashed N)) → count < length
-    cells
-    → o ≡ guest_at cells count → o ≡ p
-    → guests_in (take (count + 1) cells) ≡ guests_in (take count cells) ++ with_node p []
-next_guest cells count o p low at e =
-    guests_in-more_at cells count low ∙ ap (λ q. guests_in (take count cells) ++ with_node q []) (sym at ∙ e)

@@ -1,9 +1,9 @@
 -- The fields of a table agree.
 use Rattle.hashlink_table.proofs.Names
-use Names.{◌≡◌, ◌≢◌, ℕ, zero, suc, ◌+◌, ◌-◌, ◌*◌, ◌/◌, ◌%◌, ◌<◌, ◌≤◌, List, [], ◌∷◌, ◌++◌, length, max}
+use Names.{◌≡◌, ℕ, zero, suc, ◌+◌, ◌-◌, ◌/◌, ◌<◌, ◌≤◌, List, [], ◌∷◌, length}
 use Names.{get_or}
-use Names.{replicate, Option, Some, None, refl, sym, ap, ◌∙◌, arith, IsPermutation, length-append}
-use Names.{length-replicate, length-map, length_permutation, Hashed, Cell, Head, END, kept_at, next_at}
+use Names.{replicate, None, refl, sym, ap, ◌∙◌, arith, IsPermutation}
+use Names.{length-replicate, length-map, length_permutation, Hashed, Cell, Head, END}
 use Names.{guest_at}
 use Names.{own_of, guest_of, chain_of, chain_at, links_of, first_at, nodes_in, contents, AreSizes, IsArranged}
 use Names.{IsSound}
@@ -49,24 +49,41 @@ module _ {N : Type 0} where
         linked = λ i e. absurd (off i e);
       }
 
-  -- a table without nodes
-  pub sound-bare : (n h room : ℕ) → h ≡ n / 16 → AreSizes n room
-      → IsSound (replicate n (bare_cell {N = N})) (replicate h no_guests) 0 room
-  sound-bare n h room paired sizes =
+  -- slots without nodes
+  pub arranged-bare : (n h : ℕ) → h ≡ n / 16
+      → IsArranged (replicate n (bare_cell {N = N})) (replicate h no_guests)
+  arranged-bare n h paired =
       let long = length-replicate n (bare_cell {N = N}) in
       record {
-        arranged = record {
-          linked =
-              linked-none (replicate n bare_cell) h (omega (arith, long, paired))
-              (λ i. rw (bare_read N n i) refl);
-          in_place = λ at k is. absurd (cc (sym (ap (λ (c : Cell N). own_of c) (bare_read N n at)) ∙ is));
-          covered = λ at k is. absurd (cc (sym (ap (λ (c : Cell N). guest_of c) (bare_read N n at)) ∙ is));
-          paired = omega (arith, length-replicate h no_guests, long, paired);
-        };
-        sizes = rw long sizes;
-        counted = rw (nodes_in-bare {N = N} n) refl;
-        held = omega arith;
+        linked =
+            linked-none (replicate n bare_cell) h (omega (arith, long, paired))
+            (λ i. rw (bare_read N n i) refl);
+        in_place = λ at k is. absurd (cc (sym (ap (λ (c : Cell N). own_of c) (bare_read N n at)) ∙ is));
+        covered = λ at k is. absurd (cc (sym (ap (λ (c : Cell N). guest_of c) (bare_read N n at)) ∙ is));
+        paired = omega (arith, length-replicate h no_guests, long, paired);
       }
+
+  pub sound-bare : (n h room : ℕ) → h ≡ n / 16 → AreSizes n room
+      → IsSound (replicate n (bare_cell {N = N})) (replicate h no_guests) 0 room
+  sound-bare n h room paired sizes = record {
+    arranged = arranged-bare n h paired;
+    sizes = rw (length-replicate n (bare_cell {N = N})) sizes;
+    counted = rw (nodes_in-bare {N = N} n) refl;
+    held = omega arith;
+  }
+
+  -- the same nodes in other slots, with another room
+  pub sound-resized : {slots : List (Cell N)} {heads : List Head} {len room : ℕ} (later : List (Cell N))
+      (other : List Head) (more : ℕ)
+      → IsSound slots heads len room → AreSizes (length later) more → len ≤ more → IsArranged later other
+      → IsPermutation (nodes_in slots) (nodes_in later)
+      → IsSound later other len more
+  sound-resized later other more s sizes held arranged nodes = record {
+    arranged = arranged;
+    sizes = sizes;
+    counted = s.counted ∙ sym (length_permutation _ _ nodes);
+    held = held;
+  }
 
   -- one more node
   pub sound-put : {slots : List (Cell N)} {heads : List Head} {len room : ℕ} (later : List (Cell N))
@@ -92,20 +109,6 @@ module _ {N : Type 0} where
     sizes = rw long s.sizes;
     counted = omega (arith, s.counted, length_permutation _ _ nodes);
     held = omega (arith, s.held);
-  }
-
-  -- the slots were doubled, and the guests were taken out
-  pub sound-doubled : {slots : List (Cell N)} {heads : List Head} {len room : ℕ} (later : List (Cell N))
-      (less : List Head) (taken : List (Hashed N)) (count more : ℕ)
-      → IsSound slots heads len room → AreSizes (length later) more → room ≤ more → IsArranged later less
-      → count ≡ length taken → IsPermutation (nodes_in slots) (nodes_in later ++ taken)
-      → IsSound later less (len - count) more
-  sound-doubled later less taken count more s sizes grown arranged counted nodes = record {
-    arranged = arranged;
-    sizes = sizes;
-    counted =
-        omega (arith, s.counted, counted, length_permutation _ _ nodes, length-append (nodes_in later) taken);
-    held = omega (arith, s.held, grown);
   }
 
 -- a contract sees no nodes of it

@@ -1,10 +1,10 @@
 -- The slots, from what is stored to what contracts see.
 use Rattle.hashlink_table.proofs.Names
-use Names.{◌≡◌, ℕ, zero, suc, ◌<◌, ◌≤◌, inl, inr, Bool, true, false, cond, ◌++◌, ◌∷◌, eqb, List, [], length}
+use Names.{◌≡◌, ℕ, zero, suc, ◌<◌, ◌≤◌, Bool, true, false, cond, ◌∷◌, eqb, List, [], length}
 use Names.{map, take, drop, get_or, set, replicate, Some, None, refl, sym, ap, ◌∙◌, subst, arith, is_none}
-use Names.{is_some, IfSome, All, chunk, false≢true, true≢false, get_or-map, length-map, map-append, map-id}
+use Names.{is_some, IfSome, All, chunk, false≢true, get_or-map, length-map, map-id}
 use Names.{map-set}
-use Names.{set-get_or, take-map, drop-map, All-append, All-get_or, All-head, All-map, All-set, All-tail}
+use Names.{set-get_or, take-map, drop-map, All-get_or, All-head, All-map, All-set, All-tail}
 use Names.{map-map, splat_is_map, Hashed, Cell, END, Rest, kept_at, next_at, own_at, own_of, guest_at}
 use Names.{guest_of}
 use Names.{bare_cell, tag_of, slot, cells_in, may_be, kept_may_be, with_guest, with_kept, with_next}
@@ -145,23 +145,6 @@ module _ {N : Type 0} {ts : List Mark} {ns : List N} {rs : List Rest} {v : List 
     where
       long : {X : Type 0} (f : Row N → X) (xs : List X) → xs ≡ map f h.rows → length xs ≡ length v
       long f xs is = ap length is ∙ length-map h.rows f ∙ sym (ap length cells ∙ length-map h.rows slot)
-
-  -- more cells after them
-  pub more_cells : (us xs : List Mark) (ms ys : List N) (ds zs : List Rest) (w : List (Cell N))
-      → AreCells us ms ds w → xs ≡ ts ++ us → ys ≡ ns ++ ms → zs ≡ rs ++ ds
-      → AreCells xs ys zs (v ++ w)
-  more_cells us xs ms ys ds zs w (k, seen) tags nodes rests =
-      let later : w ≡ map slot k.rows
-      = sym seen ∙ (by_rows k.rows us ms ds _ k.stored k.marks k.nodes k.rests refl).1 in
-      by_rows (h.rows ++ k.rows) xs ys zs _ (All-append IsStored h.rows k.rows h.stored k.stored)
-      (both (λ row. row.mark) ts us xs h.marks k.marks tags)
-      (both (λ row. row.node) ns ms ys h.nodes k.nodes nodes)
-      (both (λ row. row.rest) rs ds zs h.rests k.rests rests) (both slot v w _ cells later refl)
-    where
-      both : {X : Type 0} (f : Row N → X) (xs ys zs : List X) → xs ≡ map f h.rows → ys ≡ map f k.rows
-          → zs ≡ xs ++ ys
-          → zs ≡ map f (h.rows ++ k.rows)
-      both f xs ys zs is are all = cc (map-append f h.rows k.rows)
 
   -- the results of a test of the sixteen marks from `base` on are those of a test of the cells
   pub group_tests : (p : Mark → Bool) (q : Cell N → Bool)

@@ -194,7 +194,3 @@ module _ {N : Type 0} where
           goes_on = omega (arith, s.goes_on, grows);
           cost = omega (arith, s.cost, looks-on low small ne, few);
         })
-
-    -- a search that has ended
-    pub search_ends : at ≡ END → (j : ℕ) → chain_at m cells j ≡ b → IsOther j
-    search_ends e j on = s.none j on (passed s.walk.all s.walk.link e j on)

@@ -1,5 +1,5 @@
 -- What is stored for a group.
-use Rattle.std.specs.Prelude.{◌≡◌, ℕ, ◌==◌, Bool, false, true, cond, List, [], ◌∷◌, ◌++◌, map, slice_index}
+use Rattle.std.specs.Prelude.{ℕ, ◌==◌, Bool, false, true, cond, List, [], ◌∷◌, ◌++◌, map, slice_index}
 use Rattle.std.specs.{Int.{bit_at}, List.{range_with_len}}
 use Rattle.hashlink_table.specs.declared.store.{head.Head.Head, mark.Mark.Mark}
 

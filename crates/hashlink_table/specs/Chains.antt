@@ -1,5 +1,5 @@
 -- How a `Table` keeps nodes in its slots, and chains guests. No public clause uses this module.
-use Rattle.std.specs.Prelude.{◌≡◌, ◌≢◌, ℕ, ◌+◌, ◌*◌, ◌/◌, ◌%◌, ◌^◌, ◌<◌, ◌≤◌, Bool, cond, List, [], ◌∷◌, map}
+use Rattle.std.specs.Prelude.{◌≡◌, ◌≢◌, ℕ, ◌*◌, ◌/◌, ◌%◌, ◌^◌, ◌<◌, ◌≤◌, Bool, cond, List, [], ◌∷◌, map}
 use Rattle.std.specs.Prelude.{length, max, Option, Some, None, slice_index_or}
 use Rattle.std.specs.Int.{IsPowerOfTwo, bit_at}
 use Rattle.hashlink_table.specs.{Contents.Contents, declared.hashed.Hashed.Hashed}
@@ -44,14 +44,10 @@ module _ {N : Type 0} where
   with_node None ks = ks
   with_node (Some k) ks = k ∷ ks
 
-  -- the nodes of these cells, and those of their guests
+  -- the nodes of these cells
   abbrev pub nodes_in : List (Cell N) → List (Hashed N)
   nodes_in [] = []
   nodes_in (c ∷ cs) = with_node c.kept (nodes_in cs)
-
-  abbrev pub guests_in : List (Cell N) → List (Hashed N)
-  guests_in [] = []
-  guests_in (c ∷ cs) = with_node (guest_of c) (guests_in cs)
 
   -- a table with these slots, as a contract sees it
   abbrev pub contents : List (Cell N) → ℕ → Contents N

@@ -1,5 +1,5 @@
 -- The slots, as they are stored and as contracts see them.
-use Rattle.std.specs.Prelude.{◌≡◌, ℕ, ◌+◌, ◌*◌, ◌%◌, ◌≤◌, ◌==◌, Bool, false, true, cond, ltb, List, ◌++◌, ◌/◌}
+use Rattle.std.specs.Prelude.{◌≡◌, ℕ, ◌≤◌, ◌==◌, Bool, false, true, cond, List, ◌/◌}
 use Rattle.std.specs.Prelude.{map, replicate}
 use Rattle.std.specs.{Prelude.{slice_index_or, slice_set, length, Option, None, Some}, List.{zip, All}}
 use Rattle.std.specs.Simd.Lanes.{chunk}
@@ -82,41 +82,9 @@ module _ {N : Type 0} where
   abbrev pub with_next : List (Cell N) → ℕ → ℕ → List (Cell N)
   with_next cells at to = slice_set cells at (record (slice_index_or cells at bare_cell) { next = to })
 
-  -- if `count` buckets are doubled: the node that a cell has in the lower half, and the one in the upper half
-  abbrev pub low_kept : ℕ → Option (Hashed N) → Option (Hashed N)
-  low_kept count None = None
-  low_kept count (Some k) = cond (ltb (k.hash % (2 * count)) count) (Some k) None
-
-  abbrev pub high_kept : ℕ → Option (Hashed N) → Option (Hashed N)
-  high_kept count None = None
-  high_kept count (Some k) = cond (ltb (k.hash % (2 * count)) count) None (Some k)
-
-  -- if `count` buckets are doubled: the cell in the lower half, and the one in the upper half. A guest
-  -- is left out
-  abbrev pub low_half : ℕ → Cell N → Cell N
-  low_half count c = record { kept = low_kept count (own_of c); guest = false; next = END }
-
-  abbrev pub high_half : ℕ → Cell N → Cell N
-  high_half count c = record { kept = high_kept count (own_of c); guest = false; next = END }
-
-  abbrev pub doubled : List (Cell N) → List (Cell N)
-  doubled cells = map (low_half (length cells)) cells ++ map (high_half (length cells)) cells
-
-  -- the cells, if only the one at `at` is doubled
-  abbrev pub parted : List (Cell N) → ℕ → ℕ → List (Cell N)
-  parted cells at count =
-      slice_set (slice_set cells at (low_half count (slice_index_or cells at bare_cell))) (at + count)
-      (high_half count (slice_index_or cells at bare_cell))
-
-  -- n slots without nodes, and n more slots
+  -- n slots without nodes
   abbrev pub bare_grid : ℕ → Grid N
   bare_grid n = record { cells = replicate n bare_cell; heads = replicate (n / 16) no_guests }
-
-  abbrev pub widened : Grid N → ℕ → Grid N
-  widened o n = record {
-    cells = o.cells ++ replicate n bare_cell;
-    heads = o.heads ++ replicate (n / 16) no_guests;
-  }
 
 -- a group without nodes
 abbrev pub empty_block : Block

@@ -65,48 +65,45 @@ fn seek_slots<N: Copy, F: Fn(N) -> bool, L: Ledger>(
     None
 }
 
-// Returns the first guest of the hash's group that has this hash and matches, by its slot and its node. It
-// takes a step for each guest at which it looks: those of the hash's bucket.
+// Returns the first guest of the hash's group that has this hash and matches. `at` is the slot of the group's
+// first guest, and then that of the guest that is returned. It takes a step for each guest at which it looks:
+// those of the hash's bucket.
 #[cold]
 #[inline(never)]
 fn seek_guests<N: Copy, F: Fn(N) -> bool, L: Ledger>(
     slots: &Slots<N>,
-    first: usize,
+    at: &mut usize,
     hash: u32,
-    is_match: &F,
+    is_match: F,
     steps: &mut Steps<L>,
-) -> Option<FoundNode<N>>
+) -> Option<N>
     requires masked { IsPowerOfTwo (length slots.now.cells) }
     requires whole { length slots.now.cells % LANES ≡ 0 }
     requires group { hash % length slots.now.cells / LANES < length slots.now.heads }
     requires few { length slots.now.heads ≤ length slots.now.cells }
-    requires first { first ≡ first_at slots.now.heads (hash % length slots.now.cells / LANES) }
+    requires first { at.old ≡ first_at slots.now.heads (hash % length slots.now.cells / LANES) }
     requires linked { IsLinked slots.now.cells slots.now.heads }
     requires callable { (at : ℕ) (node : N) → guest_at slots.now.cells at ≡ Some
         (record { hash = hash; node = node })
-        → F.pre is_match.now node }
+        → F.pre is_match node }
     ensures found { IfSome result
-        (λ f. (guest_at slots.now.cells f.at ≡ Some (record { hash = hash; node = f.node }))
-        × F.post is_match.now f.node true) }
+        (λ node. (guest_at slots.now.cells at.new ≡ Some (record { hash = hash; node = node }))
+        × F.post is_match node true) }
     ensures none { IfNone result
         ((at : ℕ) (node : N) → guest_at slots.now.cells at ≡ Some (record { hash = hash; node = node })
-        → F.post is_match.now node false) }
+        → F.post is_match node false) }
     ensures goes_on { steps.old ≤ steps.new }
     ensures cost { let m = length slots.now.cells in let b = hash % m in steps.new
         ≤ steps.old + count_by (λ c. bucket_in m (guest_of c) == b) slots.now.cells }
 {
-    let mut at = first;
-    while at != END {
-        if slots.may_have_guest(at, hash) {
-            let kept = slots.look_at_guest(at, steps);
+    while *at != END {
+        if slots.may_have_guest(*at, hash) {
+            let kept = slots.look_at_guest(*at, steps);
             if kept.hash == hash && is_match(kept.node) {
-                return Some(FoundNode {
-                    at,
-                    node: kept.node,
-                });
+                return Some(kept.node);
             }
         }
-        at = slots.next(at);
+        *at = slots.next(*at);
     }
     None
 }
@@ -117,7 +114,7 @@ fn seek_guests<N: Copy, F: Fn(N) -> bool, L: Ledger>(
 pub fn seek<N: Copy, F: Fn(N) -> bool, L: Ledger>(
     slots: &Slots<N>,
     hash: u32,
-    is_match: &F,
+    is_match: F,
     steps: &mut Steps<L>,
 ) -> Option<FoundNode<N>>
     requires masked { IsPowerOfTwo (length slots.now.cells) }
@@ -126,27 +123,31 @@ pub fn seek<N: Copy, F: Fn(N) -> bool, L: Ledger>(
     requires callable { (h : ℕ) (node : N)
         → Contains (nodes_in slots.now.cells) (record { hash = h; node = node })
         → h % length slots.now.cells ≡ hash % length slots.now.cells
-        → F.pre is_match.now node }
+        → F.pre is_match node }
     requires telling { (h : ℕ) (node : N)
         → Contains (nodes_in slots.now.cells) (record { hash = h; node = node })
-        → F.post is_match.now node true → h ≡ hash }
+        → F.post is_match node true → h ≡ hash }
     ensures found { IfSome result
         (λ f. (kept_at slots.now.cells f.at ≡ Some (record { hash = hash; node = f.node }))
-        × F.post is_match.now f.node true) }
+        × F.post is_match f.node true) }
     ensures none { IfNone result ((node : N)
         → Contains (nodes_in slots.now.cells) (record { hash = hash; node = node })
-        → F.post is_match.now node false) }
+        → F.post is_match node false) }
     ensures goes_on { steps.old ≤ steps.new }
     ensures cost { let m = length slots.now.cells in steps.new
         ≤ steps.old + count_by (λ k. k.hash % m == hash % m) (nodes_in slots.now.cells) }
 {
     let base = base_of(hash, slots.len());
-    if let Some(found) = seek_slots(slots, base, hash, is_match, steps) {
+    if let Some(found) = seek_slots(slots, base, hash, &is_match, steps) {
         return Some(found);
     }
     let head = slots.head(base / LANES);
     if !head.may_have(hash) {
         return None; // no guest of the group has the hash
     }
-    seek_guests(slots, head.first as usize, hash, is_match, steps)
+    let mut at = head.first as usize;
+    match seek_guests(slots, &mut at, hash, is_match, steps) {
+        None => None,
+        Some(node) => Some(FoundNode { at, node }),
+    }
 }

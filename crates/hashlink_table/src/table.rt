@@ -100,27 +100,6 @@ impl<N: Copy> Table<N> {
         Ok(table)
     }
 
-    // Creates an empty table with `count` slots.
-    fn with_slots(alloc: Global, filler: N, count: usize, room: usize) -> Result<Self, AllocError>
-        requires power { IsPowerOfTwo count }
-        requires small { count ≤ 2 ^ 31 }
-        requires some { 0 < room }
-        requires headed { 8 * room ≤ 7 * count }
-        requires bounded { count ≤ 4 * max 8 room }
-        requires whole { count % LANES ≡ 0 }
-        ensures { IfOk result (λ t. t ≡ record { nodes = []; room = room }) }
-    {
-        let slots = Slots::with_cells(alloc, filler, count)?;
-        Ok(Table {
-            slots,
-            alloc,
-            cursor: 0,
-            len: 0,
-            room,
-            filler,
-        })
-    }
-
     /// Returns the number of nodes.
     #[inline]
     pub fn len(&self) -> usize
@@ -218,7 +197,7 @@ impl<N: Copy> Table<N> {
         if self.len == 0 {
             return None;
         }
-        match search::seek(&self.slots, hash, &is_match, steps) {
+        match search::seek(&self.slots, hash, is_match, steps) {
             None => None,
             Some(found) => {
                 removal::take(&mut self.slots, found.at);
@@ -250,7 +229,7 @@ impl<N: Copy> Table<N> {
         if self.len == 0 {
             return None;
         }
-        match search::seek(&self.slots, hash, &is_match, steps) {
+        match search::seek(&self.slots, hash, is_match, steps) {
             None => None,
             Some(found) => Some(found.node),
         }
@@ -324,7 +303,7 @@ impl<N: Copy> Table<N> {
         let needed = self.len + additional;
         let count = slots_for(needed);
         let room = (2 * needed.max(MIN_ROOM)).min(count / 8 * 7);
-        self.grow(count, room)?;
+        self.resize(count, room)?;
         Ok(())
     }
 
@@ -341,48 +320,13 @@ impl<N: Copy> Table<N> {
             *self = Table::new(alloc, self.filler);
             return Ok(());
         }
-        let len = self.len;
-        let count = slots_for(len);
-        if count == self.slots.len() {
-            self.room = len;
-            return Ok(());
-        }
-        self.rebuild(count, len)
+        self.resize(slots_for(self.len), self.len)
     }
 
-    // Grows to `count` slots and this room. If the number of slots stays, only the room changes. If it
-    // doubles, the nodes in their groups move without a search. Else a new table is made. If it fails, it
-    // changes no node and no room, but may keep memory that it requested.
+    // Changes the number of slots to `count`, and the room. If the number of slots stays, only the room
+    // changes. Else the nodes move to new slots. If it fails, it changes nothing.
     #[cold]
-    fn grow(&mut self, count: usize, room: usize) -> Result<(), AllocError>
-        requires power { IsPowerOfTwo count }
-        requires more { self.old.room ≤ room }
-        requires some { 0 < room }
-        requires headed { 8 * room ≤ 7 * count }
-        requires bounded { count ≤ 4 * max 8 room }
-        requires whole { count % LANES ≡ 0 }
-        ensures nodes { IsPermutation self.old.nodes self.new.nodes }
-        ensures ok { OnOk result (self.new.room ≡ room) }
-        ensures unchanged { OnErr result (self.new ≡ self.old) }
-    {
-        let now = self.slots.len();
-        if count == now {
-            self.room = room;
-            return Ok(());
-        }
-        if count != 2 * now || count > MAX_SLOTS {
-            return self.rebuild(count, room);
-        }
-        let guests = growth::double(self.alloc, &mut self.slots, self.filler)?;
-        self.len -= guests.len();
-        self.room = room;
-        self.insert_guests(&guests);
-        Ok(())
-    }
-
-    // Moves the nodes to a new table with `count` slots and this room. If it fails, it changes nothing.
-    #[cold]
-    fn rebuild(&mut self, count: usize, room: usize) -> Result<(), AllocError>
+    fn resize(&mut self, count: usize, room: usize) -> Result<(), AllocError>
         requires power { IsPowerOfTwo count }
         requires held { len_of self.old ≤ room }
         requires some { 0 < room }
@@ -393,13 +337,16 @@ impl<N: Copy> Table<N> {
         ensures ok { OnOk result (self.new.room ≡ room) }
         ensures unchanged { OnErr result (self.new ≡ self.old) }
     {
+        if count == self.slots.len() {
+            self.room = room;
+            return Ok(());
+        }
         if count > MAX_SLOTS {
             return Err(AllocError);
         }
-        let alloc = self.alloc;
-        let mut table = Table::with_slots(alloc, self.filler, count, room)?;
-        table.insert_slots(&self.slots);
-        *self = table;
+        let moved = growth::moved(self.alloc, self.filler, &self.slots, count)?;
+        self.slots = moved;
+        self.room = room;
         Ok(())
     }
 }

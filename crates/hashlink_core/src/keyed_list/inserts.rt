@@ -4,42 +4,24 @@ ghost use Rattle.hashlink_model.specs.{MapState.Inserts, Steps.Replaces};
 ghost use Rattle.hashlink_core.specs.{Keyed.{entries_of, state_of, IsKeyed}, Steps.KeepsPlace};
 ghost use Rattle.hashlink_core.specs.Places.{Node, Holds, IsPlace, place_number};
 
-use super::{KeyedList, MARKED};
+use super::KeyedList;
 use hashlink_nodes::Node;
 use std::hash::{BuildHasher, Hash};
 
 impl<K: Eq + Hash, V, S: BuildHasher> KeyedList<K, V, S> {
-    // Returns whether the two nodes are the same. Nodes cannot be compared, and no key is compared. If both
-    // nodes have the same number, one is marked for a moment and the other's number is read.
+    // Returns whether the place is the node's. Nodes cannot be compared, but no two keys of the list are
+    // equal. Keys are compared only if their short hashes are equal.
     #[inline]
-    fn is_same(&mut self, a: Node, b: Node) -> bool
-        requires a { Holds self.old.nodes a }
-        requires b { Holds self.old.nodes b }
-        ensures value { IsTrue result ↔ (a ≡ b) }
-        ensures unchanged { self.new ≡ self.old }
+    fn is_at(&self, node: Node, place: Option<Node>) -> bool
+        requires node { Holds self.now.nodes node }
+        requires place { IsPlace self.now.nodes place }
+        ensures { IsTrue result ↔ (place ≡ Some node) }
     {
-        let number = self.nodes.number(b);
-        if self.nodes.number(a) != number {
+        let Some(at) = place else {
             return false;
-        }
-        self.nodes.set_number(b, MARKED);
-        let is_same = self.nodes.number(a) == MARKED;
-        self.nodes.set_number(b, number);
-        is_same
-    }
-
-    // Returns whether the place is the node's.
-    #[inline]
-    fn is_at(&mut self, node: Node, place: Option<Node>) -> bool
-        requires node { Holds self.old.nodes node }
-        requires place { IsPlace self.old.nodes place }
-        ensures value { IsTrue result ↔ (place ≡ Some node) }
-        ensures unchanged { self.new ≡ self.old }
-    {
-        match place {
-            Some(at) => self.is_same(at, node),
-            None => false,
-        }
+        };
+        self.nodes.number(at) == self.nodes.number(node)
+            && self.nodes.entry(at).0 == self.nodes.entry(node).0
     }
 
     /// Inserts the pair directly before the place, and returns the old value of its key. If the key is

@@ -1,8 +1,8 @@
 //! Changes of an entry that stays at its place.
-ghost use Rattle.std.specs.{Prelude.{◌≡◌, ◌^◌, ◌<◌, Some, IfSome}, Option.option_map, Borrow.sem};
+ghost use Rattle.std.specs.{Prelude.{◌≡◌, Some, IfSome}, Option.option_map, Borrow.sem};
 ghost use Rattle.std.specs.Map.{lookup, set_value};
 ghost use Rattle.hashlink_nodes.specs.Node.{same_node};
-ghost use Rattle.hashlink_nodes.specs.Ring.{pair_of, with_value, with_key, with_number, Holds};
+ghost use Rattle.hashlink_nodes.specs.Ring.{pair_of, with_value, with_key, Holds};
 
 use super::Nodes;
 use crate::node::Node;
@@ -10,19 +10,6 @@ use std::mem;
 
 impl<K, V> Nodes<K, V> {
     ghost use Rattle.hashlink_nodes.specs.NodesLends.{LendsValueAt};
-
-    /// Sets the number of the node's entry.
-    pub fn set_number(&mut self, node: Node, number: usize)
-        requires node { Holds self.old.entries node }
-        requires small { number < 2 ^ 48 }
-        ensures entries { IfSome (lookup (same_node node) self.old.entries)
-            (λ h. self.new.entries ≡ set_value (same_node node) self.old.entries (with_number h number)) }
-        ensures free { self.new.free ≡ self.old.free }
-        ensures link_writes { self.new.link_writes ≡ self.old.link_writes }
-    {
-        let (key, value) = self.pool.take(node);
-        self.pool.fill(node, number, key, value);
-    }
 
     /// Replaces the value of the node's entry, and returns the old one.
     pub fn replace_value(&mut self, node: Node, value: V) -> V

@@ -1,26 +1,20 @@
 //! The slots, in groups.
-ghost use Rattle.std.specs.Prelude.{◌≡◌, ◌+◌, ◌*◌, ◌%◌, ◌/◌, ◌^◌, ◌<◌, ◌≤◌, ◌++◌, ◌==◌, [], IfOk, IfSome};
-ghost use Rattle.std.specs.Prelude.{IsSome};
-ghost use Rattle.std.specs.Prelude.{IsTrue, OnErr, OnOk, Some, length, map, replicate, is_none, is_some};
-ghost use Rattle.std.specs.Prelude.{slice_index_or};
+ghost use Rattle.std.specs.Prelude.{◌≡◌, ◌+◌, ◌%◌, ◌/◌, ◌^◌, ◌<◌, ◌≤◌, ◌++◌, [], IfOk, IfSome, IsSome};
+ghost use Rattle.std.specs.Prelude.{IsTrue, Some, is_none, is_some, length, map, replicate, slice_index_or};
 ghost use Rattle.std.specs.Prelude.{slice_set, vec_capacity, vec_len, ℕ};
-ghost use Rattle.std.specs.Int.{IsPowerOfTwo};
-ghost use Rattle.std.specs.List.{All};
 ghost use Rattle.std.specs.Simd.Lanes.{mask_l};
-ghost use Rattle.hashlink_table.specs.Slots.{kept_may_be, lanes_of, may_be, with_guest, with_kept, with_next};
-ghost use Rattle.hashlink_table.specs.Slots.{without_kept, bare_grid, cells_in, doubled, empty_block, parted};
-ghost use Rattle.hashlink_table.specs.Slots.{widened, IsTagged};
+ghost use Rattle.hashlink_table.specs.Slots.{bare_grid, empty_block, kept_may_be, lanes_of, may_be};
+ghost use Rattle.hashlink_table.specs.Slots.{with_guest, with_kept, with_next, without_kept};
 ghost use Rattle.hashlink_table.specs.Chains.{guest_at, kept_at, next_at, own_at};
-ghost use Rattle.hashlink_table.specs.Blocks.{has_guest, heads_in, is_guest, is_taken, marks_in};
+ghost use Rattle.hashlink_table.specs.Blocks.{has_guest, is_guest, is_taken};
 ghost use Rattle.hashlink_table.specs.Stored.{bare_cell, no_guests, tag_of};
 
-use super::bucket::bucket_of;
 use super::cell::END;
 use super::group::Group;
-use super::head::{Head, NO_GUESTS};
+use super::head::Head;
 use super::lanes::LANES;
 use super::mark::{FREE, Mark};
-use super::repeated::{add_repeated, repeated};
+use super::repeated::repeated;
 use crate::hashed::Hashed;
 use crate::steps::Steps;
 use std::alloc::{AllocError, Global};
@@ -96,45 +90,6 @@ fn has_guest_with(mark: Mark, tag: u8) -> bool
     has_any_guest(mark) && mark.tag == tag
 }
 
-// Makes two slots of one: itself and the one at `at + count`. Its node stays, or moves to the other one if
-// its bucket, among twice as many, is in the upper half. A guest is left out. The code chooses values and
-// writes both slots, since a branch would be mispredicted half the time.
-#[inline]
-fn part<N: Copy>(groups: &mut [Group], nodes: &mut [N], rests: &mut [Rest], at: usize, count: usize)
-    requires power { IsPowerOfTwo (2 * count) }
-    requires small { 2 * count < 2 ^ 64 }
-    requires within { at + count < length (marks_in groups.old) }
-    requires even { All (λ b. length b.marks ≡ LANES) groups.old }
-    requires tagged { IsTagged (marks_in groups.old) nodes.old rests.old }
-    ensures tagged { IsTagged (marks_in groups.new) nodes.new rests.new }
-    ensures even { All (λ b. length b.marks ≡ LANES) groups.new }
-    ensures heads { heads_in groups.new ≡ heads_in groups.old }
-    ensures parted { cells_in (marks_in groups.new) nodes.new rests.new
-        ≡ parted (cells_in (marks_in groups.old) nodes.old rests.old) at count }
-{
-    let rest = Rest {
-        hash: rests[at].hash,
-        link: END as u32,
-    };
-    let mark = groups[at / LANES].mark(at % LANES);
-    let stays = bucket_of(rest.hash, 2 * count) < count;
-    let low = Mark {
-        tag: mark.tag,
-        own: mark.own & stays,
-        guest: false,
-    };
-    let high = Mark {
-        tag: mark.tag,
-        own: mark.own & !stays,
-        guest: false,
-    };
-    groups[at / LANES].set_mark(at % LANES, low);
-    groups[(at + count) / LANES].set_mark((at + count) % LANES, high);
-    nodes[at + count] = nodes[at];
-    rests[at] = rest;
-    rests[at + count] = rest;
-}
-
 // Adds groups without nodes. There has to be room for them.
 fn add_groups(groups: &mut Vec<Group>, count: usize)
     requires roomy { vec_len groups.old + count ≤ vec_capacity groups.old }
@@ -142,18 +97,6 @@ fn add_groups(groups: &mut Vec<Group>, count: usize)
 {
     for added in 0..count {
         groups.push_reserved(Group::new());
-    }
-}
-
-// Ends the chain of each group.
-fn clear_heads(groups: &mut [Group])
-    requires { All (λ b. length b.marks ≡ LANES) groups.old }
-    ensures even { All (λ b. length b.marks ≡ LANES) groups.new }
-    ensures marks { marks_in groups.new ≡ marks_in groups.old }
-    ensures heads { heads_in groups.new ≡ replicate (length groups.old) no_guests }
-{
-    for group in groups.iter_mut() {
-        group.set_head(NO_GUESTS);
     }
 }
 
@@ -183,45 +126,6 @@ impl<N: Copy> Slots<N> {
             nodes,
             rests,
         })
-    }
-
-    /// Doubles the slots. A node in its group stays, or moves to the same place in the upper half if its
-    /// bucket is there now. Guests are left out, and all chains are empty. If it fails, it changes nothing.
-    pub fn double(&mut self, filler: N) -> Result<(), AllocError>
-        requires power { IsPowerOfTwo (length self.old.cells) }
-        requires whole { length self.old.cells % LANES ≡ 0 }
-        requires small { length self.old.cells ≤ 2 ^ 30 }
-        ensures cells { OnOk result (self.new.cells ≡ doubled self.old.cells) }
-        ensures heads { OnOk result
-            (self.new.heads ≡ replicate (2 * (length self.old.cells / LANES)) no_guests) }
-        ensures unchanged { OnErr result (self.new ≡ self.old) }
-    {
-        let count = self.len();
-        self.widen(count, filler)?;
-        let groups = self.groups.as_mut_slice();
-        let nodes = self.nodes.as_mut_slice();
-        let rests = self.rests.as_mut_slice();
-        for at in 0..count {
-            part(groups, nodes, rests, at, count);
-        }
-        clear_heads(groups);
-        Ok(())
-    }
-
-    // Adds `count` slots without nodes. It reserves all memory first, so it changes nothing if it fails.
-    fn widen(&mut self, count: usize, filler: N) -> Result<(), AllocError>
-        requires small { length self.old.cells + count < 2 ^ 64 }
-        requires whole { count % LANES ≡ 0 }
-        ensures ok { OnOk result (self.new ≡ widened self.old count) }
-        ensures unchanged { OnErr result (self.new ≡ self.old) }
-    {
-        self.rests.reserve_exact(count)?;
-        self.nodes.reserve_exact(count)?;
-        self.groups.reserve_exact(count / LANES)?;
-        add_repeated(&mut self.rests, BARE_REST, count);
-        add_repeated(&mut self.nodes, filler, count);
-        add_groups(&mut self.groups, count / LANES);
-        Ok(())
     }
 
     /// Returns the number of slots.
@@ -342,19 +246,6 @@ impl<N: Copy> Slots<N> {
         ensures { result ≡ kept_at self.now.cells at }
     {
         if has_node(self.mark(at)) {
-            Some(self.known(at))
-        } else {
-            None
-        }
-    }
-
-    /// Returns the hash and the node of a slot, if there is a guest, for a move of the node.
-    #[inline]
-    pub(super) fn guest(&self, at: usize) -> Option<Hashed<N>>
-        requires { at < length self.now.cells }
-        ensures { result ≡ guest_at self.now.cells at }
-    {
-        if self.is_guest(at) {
             Some(self.known(at))
         } else {
             None

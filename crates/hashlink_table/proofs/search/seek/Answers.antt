@@ -1,14 +1,13 @@
-use Rattle.hashlink_table.proofs.Names.{ℕ, ◌+◌, ◌-◌, ◌%◌, ◌/◌, ◌<◌, ◌≤◌, ◌≡◌, count_by, eqb, false, true}
+use Rattle.hashlink_table.proofs.Names.{ℕ, ◌+◌, ◌-◌, ◌%◌, ◌/◌, ◌<◌, ◌≤◌, ◌≡◌, count_by, eqb, false}
 use Rattle.hashlink_table.proofs.Names.{length}
-use Rattle.hashlink_table.proofs.Names.{Option, None, Some, refl, sym, ap, ◌∙◌, arith, eq-eqb, eqb-true}
-use Rattle.hashlink_table.proofs.Names.{true≢false, get_or}
-use Rattle.hashlink_table.proofs.Names.{false≢true, bucket_in, own_at, guest_at, guest_of, nodes_in}
+use Rattle.hashlink_table.proofs.Names.{Some, refl, sym, ap, ◌∙◌, arith, eq-eqb, eqb-true}
+use Rattle.hashlink_table.proofs.Names.{get_or}
+use Rattle.hashlink_table.proofs.Names.{false≢true, bucket_in, own_at, guest_of, nodes_in}
 use Rattle.hashlink_table.proofs.Names.{lanes_of, may_be, tag_of, mask_bit_of, mask_at, bit_at, no_guests}
 use Rattle.hashlink_table.proofs.Names.{Head}
 use Rattle.hashlink_table.proofs.Linking.{first_read, guest_kept, own_kept, positive_by_power}
 use Rattle.hashlink_table.proofs.{Groups.{from_base, grouped_in, to_base}, Nodes.contains-at}
 use Rattle.hashlink_table.proofs.Views.{looked_at, none_left, tag_agrees}
-use Rattle.std.specs.Prelude.{IfNone}
 use Rattle.hashlink_table.proofs.search.seek.Given as given
 use Rattle.hashlink_table.proofs.search.seek.Goals.{After-base_of-base, In_default}
 use Rattle.hashlink_table.proofs.search.seek.Goals as goal
@@ -70,7 +69,7 @@ seek_guests-requires-clause-callable g c at node is =
 -- if no slot of the group has the node, it is a guest
 none_in_slots : (g : given.Over) (c : In_default g) (at : ℕ) (node : g.row.N.Denot)
     → own_at c.args.slots.now.cells at ≡ Some (record { hash = c.args.hash; node = node })
-    → g.F.Fn.post c.args.is_match.now (node, tt) false
+    → g.F.Fn.post c.args.is_match (node, tt) false
 none_in_slots g c at node kept =
     let b = c.args.hash % length c.args.slots.now.cells in
     let first = c.base_of-base.ensures ∙ ap (λ k. c.args.hash % k - c.args.hash % k % 16) c.len.ensures in
@@ -93,16 +92,10 @@ returns-then-not-may_have-clause-none g c =
     = ap (λ n. bit_at n (mask_bit_of c.args.hash)) read ∙ c.requires.arranged.covered at _ is in
     absurd (false≢true (sym c.if-not-may_have.true ∙ c.may_have.ensures.1 bit)))
 
--- a fact of an empty option
-if_none : {X P Q : Type 0} (o : Option X) → IfNone o P → (P → Q) → IfNone o Q
-if_none None p f = f p
-if_none (Some x) p f = tt
-
-pub returns-clause-none : goal.returns-clause-none
-returns-clause-none g c =
-    if_none c.seek_guests.result c.seek_guests.ensures.none
-    (none_left c.args.slots.now.cells c.args.hash _
-    (none_in_slots g (goal.at.returns-clause-none g c).In_default))
+pub returns-in-None-clause-none : goal.returns-in-None-clause-none
+returns-in-None-clause-none g c =
+    none_left c.args.slots.now.cells c.args.hash _
+    (none_in_slots g (goal.at.returns-in-None-clause-none g c).In_default) c.in-None.ensures.none
 
 pub returns-in-Some-clause-cost : goal.returns-in-Some-clause-cost
 returns-in-Some-clause-cost g c =
@@ -112,5 +105,10 @@ pub returns-then-not-may_have-clause-cost : goal.returns-then-not-may_have-claus
 returns-then-not-may_have-clause-cost g c =
     omega (arith, looked g (goal.at.returns-then-not-may_have-clause-cost g c).After-base_of-base)
 
-pub returns-clause-cost : goal.returns-clause-cost
-returns-clause-cost g c = omega (arith, looked g (goal.at.returns-clause-cost g c).After-base_of-base)
+pub returns-in-Some-seek_guests-clause-cost : goal.returns-in-Some-seek_guests-clause-cost
+returns-in-Some-seek_guests-clause-cost g c =
+    omega (arith, looked g (goal.at.returns-in-Some-seek_guests-clause-cost g c).After-base_of-base)
+
+pub returns-in-None-clause-cost : goal.returns-in-None-clause-cost
+returns-in-None-clause-cost g c =
+    omega (arith, looked g (goal.at.returns-in-None-clause-cost g c).After-base_of-base)

@@ -1,6 +1,6 @@
-use Rattle.hashlink_table.proofs.Names.{◌≡◌, ◌<◌, ◌%◌, ◌/◌, ◌+◌, true, false, length, refl, sym, ap, ◌∙◌}
-use Rattle.hashlink_table.proofs.Names.{Some, subst, arith}
-use Rattle.hashlink_table.proofs.Names.{cond, eq-eqb, same_Some, true≢false, Hashed, next_at, guest_at}
+use Rattle.hashlink_table.proofs.Names.{◌≡◌, ◌<◌, ◌%◌, ◌/◌, true, false, length, refl, sym, ap, ◌∙◌}
+use Rattle.hashlink_table.proofs.Names.{subst, arith}
+use Rattle.hashlink_table.proofs.Names.{eq-eqb, same_Some, true≢false, Hashed, next_at, guest_at}
 use Rattle.hashlink_table.proofs.Names.{kept_may_be, tag_of}
 use Rattle.hashlink_table.proofs.{Linking.positive_by_power, Views.guest_agrees}
 use Rattle.hashlink_table.proofs.Walks.{looks-on, on_bucket, search_start, search_on, steps_left}
@@ -47,7 +47,7 @@ loop-at-smaller g c =
     subst
     (λ n. steps_left (next_at slots) (length slots) n < steps_left (next_at slots) (length slots)
     c.loop-at.at)
-    (sym c.next-at.ensures.value)
+    (sym c.next.ensures.value)
     (steps_left-falls c.loop-at.invariant.walk (group g s) c.loop-at-test.true)
 
 pub loop-at-preserved : goal.loop-at-preserved
@@ -64,13 +64,13 @@ loop-at-preserved g c =
           search_on v (group g s) (bucket g s) c.loop-at-test.true
           (λ node sought.
           let same = same_Some _ _ (sym w.look_at_guest-kept.ensures.value ∙ sought) in
-          elim w.else-kept-hash.branch as (λ _. g.F.Fn.post c.args.is_match.now (node, tt) false) [
+          elim w.else-kept-hash.branch as (λ _. g.F.Fn.post c.args.is_match (node, tt) false) [
             | else-kept-hash-via-then-kept-hash+else-is_match w' ↦
-                subst (λ (k : Hashed g.row.N.Denot). g.F.Fn.post c.args.is_match.now (k.node, tt) false) same
+                subst (λ (k : Hashed g.row.N.Denot). g.F.Fn.post c.args.is_match (k.node, tt) false) same
                 w'.if-is_match.ensures
             | else-kept-hash-via-else-kept-hash w' ↦
                 absurd (w'.if-kept-hash.false (ap (λ (k : Hashed g.row.N.Denot). k.hash) same))
-          ]) _ _ (sym c.next-at.ensures.value)
+          ]) _ _ (sym c.next.ensures.value)
           (omega (arith, w.steps-is, w.look_at_guest-kept.ensures.step))
           (rw here (omega (arith, w.steps-is, w.look_at_guest-kept.ensures.step)))
       | else-may_have_guest w ↦
@@ -79,5 +79,5 @@ loop-at-preserved g c =
           let may : kept_may_be c.args.hash (guest_at slots at) ≡ true
           = rw sought (eq-eqb (tag_of c.args.hash) (tag_of c.args.hash) refl) in
           absurd (true≢false (sym may ∙ sym c.may_have_guest.ensures ∙ w.if-may_have_guest.false)))
-          _ _ (sym c.next-at.ensures.value) (omega (arith, w.steps-is)) (omega (arith, w.steps-is))
+          _ _ (sym c.next.ensures.value) (omega (arith, w.steps-is)) (omega (arith, w.steps-is))
     ]

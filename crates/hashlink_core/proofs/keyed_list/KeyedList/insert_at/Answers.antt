@@ -1,10 +1,8 @@
 use Rattle.hashlink_core.proofs.Keeping.{keeps-place, keys-added, keys-grown, keys-moved, keys-place}
-use Rattle.hashlink_core.proofs.Names.{◌≡◌, Some, refl, rules, state_of, IsKeyed, place_number, WritesNode}
+use Rattle.hashlink_core.proofs.Names.{◌≡◌, Some, refl, rules, state_of, place_number}
 use Rattle.hashlink_core.proofs.{AtKey.stays-key, Keeping.{keys-written, keys_twice, left-place}}
 use Rattle.hashlink_core.proofs.AtKeyNode.{written-number, written-holds, put, added, refused, passed-on}
-use Rattle.hashlink_core.proofs.keyed_list.KeyedList.insert_at.Goals.{After-is_at}
 use Rattle.hashlink_model.specs.MapState.{Inserts}
-use Rattle.hashlink_core.proofs.keyed_list.KeyedList.insert_at.Given as given
 use Rattle.hashlink_core.proofs.keyed_list.KeyedList.insert_at.Goals as goal
 
 -- ---- an absent key
@@ -51,49 +49,42 @@ is_at-requires-clause-place g c =
     keys-place c.args.self.now new (keys-written c.args.self.now new c.replace_value-old.ensures.written)
     c.args.place c.requires
 
--- the list is as `replace_value` left it
-written : (g : given.Over) (c : After-is_at g)
-    → WritesNode c.args.self.now c.is_at.new.self (place_number c.args.self.now.nodes (Some c.in-Some.node))
-    c.args.value × IsKeyed g.K.PartialEq.eq c.is_at.new.self
-written g c =
-    rw c.is_at.ensures.unchanged (c.replace_value-old.ensures.written, c.replace_value-old.ensures.sound)
-
 pub returns-then-is_at-clause-inserts : goal.returns-then-is_at-clause-inserts
 returns-then-is_at-clause-inserts g c =
-    let w = (written g (goal.at.returns-then-is_at-clause-inserts g c).After-is_at).0 in
-    let at : c.args.place ≡ Some c.in-Some.node = c.is_at.ensures.value.0 (search rules) in
-    rw at (stays-key g.K.PartialEq.eq (state_of c.args.self.now) (state_of c.is_at.new.self) c.args.key _
-    c.in-Some.ensures.found.place c.args.value c.replace_value-old.result
-    (record { answer = c.replace_value-old.ensures.value; step = w.state }))
+    let w = c.replace_value-old in
+    let at : c.args.place ≡ Some c.in-Some.node = c.is_at.ensures.0 (search rules) in
+    rw at (stays-key g.K.PartialEq.eq (state_of c.args.self.now) (state_of w.new.self) c.args.key _
+    c.in-Some.ensures.found.place c.args.value w.result
+    (record { answer = w.ensures.value; step = w.ensures.written.state }))
 
 pub returns-then-is_at-clause-keeps : goal.returns-then-is_at-clause-keeps
 returns-then-is_at-clause-keeps g c =
-    let w = written g (goal.at.returns-then-is_at-clause-keeps g c).After-is_at in
-    keeps-place c.args.self.now _ g.met.K.Eq.laws w.1 (keys-written c.args.self.now _ w.0)
+    let w = c.replace_value-old.ensures in
+    keeps-place c.args.self.now _ g.met.K.Eq.laws w.sound (keys-written c.args.self.now _ w.written)
 
 pub move_before-requires-clause-node : goal.move_before-requires-clause-node
 move_before-requires-clause-node g c =
-    let w = (written g (goal.at.move_before-requires-clause-node g c).After-is_at).0 in
-    written-holds w c.in-Some.node c.in-Some.ensures.found.within
+    written-holds c.replace_value-old.ensures.written c.in-Some.node c.in-Some.ensures.found.within
 
 pub move_before-requires-clause-place : goal.move_before-requires-clause-place
 move_before-requires-clause-place g c =
-    let w = written g (goal.at.move_before-requires-clause-place g c).After-is_at in
-    left-place c.is_at.new.self.nodes w.1.apart c.in-Some.node c.args.place (λ same. search rules)
-    (keys-place c.args.self.now c.is_at.new.self (keys-written c.args.self.now _ w.0) c.args.place c.requires)
+    let new = c.replace_value-old.new.self in let w = c.replace_value-old.ensures in
+    left-place new.nodes w.sound.apart c.in-Some.node c.args.place (λ same. search rules)
+    (keys-place c.args.self.now new (keys-written c.args.self.now _ w.written) c.args.place c.requires)
 
 pub returns-clause-inserts : goal.returns-clause-inserts
 returns-clause-inserts g c =
-    let w = (written g (goal.at.returns-clause-inserts g c).After-is_at).0 in
+    let w = c.replace_value-old in
     put g.K.PartialEq.eq c.args.self.now c.move_before.new.self c.args.key c.in-Some.node
-    c.in-Some.ensures.found c.is_at.new.self c.args.value c.replace_value-old.result _ _
-    (written-number w c.args.place) c.replace_value-old.ensures.value w c.move_before.ensures.moved
+    c.in-Some.ensures.found w.new.self c.args.value w.result _ _
+    (written-number w.ensures.written c.args.place) w.ensures.value w.ensures.written
+    c.move_before.ensures.moved
 
 pub returns-clause-keeps : goal.returns-clause-keeps
 returns-clause-keeps g c =
-    let w = written g (goal.at.returns-clause-keeps g c).After-is_at in
+    let new = c.replace_value-old.new.self in let w = c.replace_value-old.ensures in
     let t = c.move_before in
-    let held = written-holds w.0 c.in-Some.node c.in-Some.ensures.found.within in
+    let held = written-holds w.written c.in-Some.node c.in-Some.ensures.found.within in
     keeps-place c.args.self.now t.new.self g.met.K.Eq.laws t.ensures.sound
-    (keys_twice c.args.self.now c.is_at.new.self t.new.self (keys-written c.args.self.now _ w.0)
-    (keys-moved c.is_at.new.self t.new.self w.1.apart c.in-Some.node held t.ensures.moved))
+    (keys_twice c.args.self.now new t.new.self (keys-written c.args.self.now _ w.written)
+    (keys-moved new t.new.self w.sound.apart c.in-Some.node held t.ensures.moved))

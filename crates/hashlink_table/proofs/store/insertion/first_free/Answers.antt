@@ -1,4 +1,4 @@
-use Rattle.hashlink_table.proofs.Names.{◌≡◌, ℕ, ◌+◌, ◌<◌, ◌≤◌, length, inl, inr, sym, ◌∙◌, arith, cases_lt}
+use Rattle.hashlink_table.proofs.Names.{◌≡◌, ◌+◌, ◌≤◌, length, inl, inr, sym, ◌∙◌, arith, cases_lt}
 use Rattle.hashlink_table.proofs.Names.{IsSome}
 use Rattle.hashlink_table.proofs.Names.{count_trailing_zeros, kept_at}
 use Rattle.hashlink_table.proofs.{Masks.{all_taken, first_free, IsFree}}

@@ -1,6 +1,5 @@
-use Rattle.hashlink_table.proofs.Names.{◌≡◌, ◌<◌, ◌/◌, ℕ, length, None, Some, true, refl, ap, ◌∙◌, arith}
-use Rattle.hashlink_table.proofs.Names.{get_or}
-use Rattle.hashlink_table.proofs.Names.{get_or_default, Cell, Head, no_guests, with_guest_in}
+use Rattle.hashlink_table.proofs.Names.{◌<◌, ◌/◌, ℕ, length, None, Some, true, refl, ap, ◌∙◌, arith}
+use Rattle.hashlink_table.proofs.Names.{Cell, Head, no_guests, with_guest_in}
 use Rattle.hashlink_table.proofs.{Linking.first_read, Moving.{arranged-lodged, nodes-written}}
 use Rattle.hashlink_table.proofs.store.insertion.lodge.Given as given
 use Rattle.hashlink_table.proofs.store.insertion.lodge.Goals.{Start}

@@ -1,4 +1,4 @@
-use Rattle.hashlink_table.proofs.Names.{length, inl, inr, arith, cases_lt, IsSome, kept_at}
+use Rattle.hashlink_table.proofs.Names.{inl, inr, arith, cases_lt, IsSome, kept_at}
 use Rattle.hashlink_table.proofs.Moving.{not_full}
 use Rattle.hashlink_table.proofs.store.insertion.lodging.Goals as goal
 

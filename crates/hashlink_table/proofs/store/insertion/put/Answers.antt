@@ -1,7 +1,6 @@
 use Rattle.hashlink_table.proofs.Names.{◌≡◌, ◌+◌, ◌-◌, ◌/◌, ◌%◌, ◌<◌, ◌≤◌, length, None, Some, refl, sym, ap}
 use Rattle.hashlink_table.proofs.Names.{◌∙◌}
-use Rattle.hashlink_table.proofs.Names.{arith, is_none, same_Some, count_trailing_zeros, mask_l, map, Hashed}
-use Rattle.hashlink_table.proofs.Names.{lanes_of}
+use Rattle.hashlink_table.proofs.Names.{arith, same_Some, count_trailing_zeros, Hashed}
 use Rattle.hashlink_table.proofs.Groups.{group_within, grouped_in}
 use Rattle.hashlink_table.proofs.{Linking.{none_guest, positive_by_power}, Masks.{first_free, IsFree}}
 use Rattle.hashlink_table.proofs.Moving.{arranged-set, nodes-written}

@@ -1,8 +1,8 @@
-use Rattle.hashlink_table.proofs.Names.{◌≡◌, ◌≢◌, ◌<◌, ◌%◌, ◌/◌, cond, length, inl, inr, IsSome, Option, None}
+use Rattle.hashlink_table.proofs.Names.{◌≡◌, ◌≢◌, ◌<◌, ◌%◌, ◌/◌, cond, length, Option, None}
 use Rattle.hashlink_table.proofs.Names.{Some}
-use Rattle.hashlink_table.proofs.Names.{refl, sym, ap, ◌∙◌, subst, arith, same_Some, IsPermutation-trans}
+use Rattle.hashlink_table.proofs.Names.{refl, sym, ap, ◌∙◌, arith, same_Some, IsPermutation-trans}
 use Rattle.hashlink_table.proofs.Names.{IfSome}
-use Rattle.hashlink_table.proofs.Names.{Bool, Hashed, END, chain_at, guest_at, kept_at, first_at, Head}
+use Rattle.hashlink_table.proofs.Names.{Bool, Hashed, END, chain_at, guest_at, first_at, Head}
 use Rattle.hashlink_table.proofs.Names.{no_guests}
 use Rattle.hashlink_table.proofs.Linking.{first_read, guest_kept, no_guest, on_chain, within_by_kept}
 use Rattle.hashlink_table.proofs.{Moving.{arranged-set, nodes-written}, Walks.walk_of}
@@ -38,6 +38,18 @@ module _ (g : given.Over) (c : After-head-first g) where
   on ne = (walk_of c.args.slots.now.cells c.args.slots.now.heads (c.args.at / 16) c.requires.arranged.linked
       group).link.on ne
 
+  -- the first guest of the group, in another slot
+  module _ (some : c.head-first.result.first ≢ END) where
+    guest : (k : Hashed g.row.N.Denot)
+        × (guest_at c.args.slots.now.cells (first_at c.args.slots.now.heads (c.args.at / 16)) ≡ Some k)
+        × (k.hash % length c.args.slots.now.cells / 16 ≡ c.args.at / 16)
+    guest =
+        on_chain _ c.args.slots.now.cells _ (c.args.at / 16) (on (rw first at some))
+        (omega (arith, group, c.requires.arranged.paired))
+
+    apart : c.args.at ≢ c.head-first.result.first
+    apart = λ e. absurd (cc (sym free ∙ ap (guest_at c.args.slots.now.cells) (e ∙ first) ∙ guest.1))
+
 pub returns-then-first-eq-END-clause-arranged : goal.returns-then-first-eq-END-clause-arranged
 returns-then-first-eq-END-clause-arranged g c =
     let s = (goal.at.returns-then-first-eq-END-clause-arranged g c).After-head-first in
@@ -57,36 +69,22 @@ take_out-follower-requires-clause-on_chain g c =
 
 pub returns-clause-arranged : goal.returns-clause-arranged
 returns-clause-arranged g c =
-    let s = (goal.at.returns-clause-arranged g c).After-head-first in
-    let t = c.take_out-follower in let at = c.args.at in let slots = c.args.slots.now.cells in
-    let m = length slots in
-    let guest = on_chain m slots (first_at c.args.slots.now.heads (at / 16)) (at / 16)
-    (on g s (rw (first g s) at c.if-first-eq-END.false))
-    (omega (arith, group g s, c.requires.arranged.paired)) in
-    let apart : at ≢ first_at c.args.slots.now.heads (at / 16)
-    = λ e. absurd (cc (sym (free g s) ∙ ap (guest_at slots) e ∙ guest.1)) in
-    let same = t.ensures.others at (λ e. apart (e ∙ first g s)) in
-    let taken = same_Some _ _ (sym (guest_kept slots _ guest.0 guest.1) ∙ (rw (first g s) at t.ensures.kept))
-    in
+    let s = (goal.at.returns-clause-arranged g c).After-head-first in let some = c.if-first-eq-END.false in
+    let t = c.take_out-follower in let slots = c.args.slots.now.cells in let m = length slots in
+    let own = guest g s some in let same = t.ensures.others c.args.at (apart g s some) in
+    let taken = same_Some _ _ (sym (guest_kept slots _ own.0 own.1) ∙ (rw (first g s) at t.ensures.kept)) in
     rw c.put.ensures
-    (arranged-set t.ensures.arranged at _ (omega (arith, low g s, t.ensures.len)) refl refl
+    (arranged-set t.ensures.arranged c.args.at _ (omega (arith, low g s, t.ensures.len)) refl refl
     (ap (λ (w : Option (Hashed g.row.N.Denot) × Bool). cond w.1 w.0 None) same ∙ free g s)
     (λ k is. rw t.ensures.len
-    (ap (λ (j : Hashed g.row.N.Denot). j.hash % m / 16) (sym (taken ∙ same_Some _ _ is)) ∙ guest.2)))
+    (ap (λ (j : Hashed g.row.N.Denot). j.hash % m / 16) (sym (taken ∙ same_Some _ _ is)) ∙ own.2)))
 
 pub returns-clause-nodes : goal.returns-clause-nodes
 returns-clause-nodes g c =
-    let s = (goal.at.returns-clause-nodes g c).After-head-first in
-    let t = c.take_out-follower in let at = c.args.at in let slots = c.args.slots.now.cells in
-    let m = length slots in
-    let guest = on_chain m slots (first_at c.args.slots.now.heads (at / 16)) (at / 16)
-    (on g s (rw (first g s) at c.if-first-eq-END.false))
-    (omega (arith, group g s, c.requires.arranged.paired)) in
-    let apart : at ≢ first_at c.args.slots.now.heads (at / 16)
-    = λ e. absurd (cc (sym (free g s) ∙ ap (guest_at slots) e ∙ guest.1)) in
-    let same = t.ensures.others at (λ e. apart (e ∙ first g s)) in
+    let s = (goal.at.returns-clause-nodes g c).After-head-first in let t = c.take_out-follower in
+    let same = t.ensures.others c.args.at (apart g s c.if-first-eq-END.false) in
     rw c.put.ensures
     (if_kept _ _ (λ kept is. IsPermutation-trans _ _ _ t.ensures.nodes
-    (nodes-written t.new.slots.cells at _ (Some t.result) (Some kept) (omega (arith, low g s, t.ensures.len))
-    refl
+    (nodes-written t.new.slots.cells c.args.at _ (Some t.result) (Some kept)
+    (omega (arith, low g s, t.ensures.len)) refl
     (ap (λ (w : Option (Hashed g.row.N.Denot) × Bool). w.0) same ∙ is))))

@@ -1,4 +1,4 @@
-use Rattle.hashlink_table.proofs.Names.{◌≡◌, ◌<◌, ◌+◌, IsSome, None, Some, length, refl, sym, ap, ◌∙◌, subst}
+use Rattle.hashlink_table.proofs.Names.{◌≡◌, ◌<◌, None, Some, length, refl, sym, ◌∙◌}
 use Rattle.hashlink_table.proofs.Names.{arith, Hashed}
 use Rattle.hashlink_table.proofs.Names.{kept_at, guest_at, stored_in, ◌%◌, ◌/◌}
 use Rattle.hashlink_table.proofs.Linking.{at-set_other, guest_kept, kept-same, on_chain, same_length}

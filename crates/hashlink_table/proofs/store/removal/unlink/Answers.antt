@@ -1,6 +1,5 @@
 use Rattle.hashlink_table.proofs.Names.{◌≡◌, ◌<◌, length, sym, ap, ◌∙◌, subst, inl, inr, arith, map-set_same}
-use Rattle.hashlink_table.proofs.Names.{Cell}
-use Rattle.hashlink_table.proofs.Names.{refl, bare_cell, guest_of, next_at, stored_in, first_at, Head}
+use Rattle.hashlink_table.proofs.Names.{refl, bare_cell, next_at, stored_in, first_at, Head}
 use Rattle.hashlink_table.proofs.Names.{no_guests}
 use Rattle.hashlink_table.proofs.Linking.{first_read, unlinked_first, unlinked_next, within_by_chain}
 use Rattle.hashlink_table.proofs.Walks.{IsWalk, rank, to_come, walk_of, walk_on, walk_goes, steps_left}

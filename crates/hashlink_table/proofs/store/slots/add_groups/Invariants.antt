@@ -1,4 +1,4 @@
-use Rattle.hashlink_table.proofs.Names.{◌≡◌, ◌+◌, ◌≤◌, ◌++◌, replicate, vec_capacity, vec_len, empty_block}
+use Rattle.hashlink_table.proofs.Names.{◌≡◌, ◌+◌, ◌++◌, replicate, vec_capacity, vec_len, empty_block}
 use Rattle.hashlink_table.proofs.store.slots.add_groups.Given as goal
 
 -- so many groups were pushed

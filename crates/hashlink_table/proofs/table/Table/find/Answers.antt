@@ -19,16 +19,16 @@ pub returns-in-None-clause-cost : goal.returns-in-None-clause-cost
 returns-in-None-clause-cost g c =
     search_cost c.self.invariant c.self.view_is c.args.hash _ _ c.if-self-eq0.false c.seek.ensures.cost
 
-pub returns-clause-found : goal.returns-clause-found
-returns-clause-found g c =
+pub returns-in-Some-clause-found : goal.returns-in-Some-clause-found
+returns-in-Some-clause-found g c =
     let found = c.in-Some.ensures.found in (
       rw (← c.self.view_is) (contains-at c.self.inside.slots.cells
           c.in-Some.found.at _ found.0),
       found.1,
     )
 
-pub returns-clause-cost : goal.returns-clause-cost
-returns-clause-cost g c =
+pub returns-in-Some-clause-cost : goal.returns-in-Some-clause-cost
+returns-in-Some-clause-cost g c =
     search_cost c.self.invariant c.self.view_is c.args.hash _ _ c.if-self-eq0.false c.seek.ensures.cost
 
 pub returns-then-self-eq0-clause-cost : goal.returns-then-self-eq0-clause-cost

@@ -36,17 +36,17 @@ invariant_of-self g c =
     sound-take c.take.new.slots.cells c.take.new.slots.heads _ c.self.invariant c.take.ensures.len
     c.take.ensures.arranged (gone g (goal.at.invariant_of-self g c).After-take)
 
-pub returns-clause-removed : goal.returns-clause-removed
-returns-clause-removed g c = (
+pub returns-in-Some-clause-removed : goal.returns-in-Some-clause-removed
+returns-in-Some-clause-removed g c = (
   subst (λ (u : Contents g.row.N.Denot). IsPermutation u.nodes
       (record { hash = c.args.hash; node = c.in-Some.found.node } ∷ nodes_in c.take.new.slots.cells))
       c.self.view_is
-      (gone g (goal.at.returns-clause-removed g c).After-take),
+      (gone g (goal.at.returns-in-Some-clause-removed g c).After-take),
   c.in-Some.ensures.found.1,
 )
 
-pub returns-clause-cost : goal.returns-clause-cost
-returns-clause-cost g c =
+pub returns-in-Some-clause-cost : goal.returns-in-Some-clause-cost
+returns-in-Some-clause-cost g c =
     search_cost c.self.invariant c.self.view_is c.args.hash _ _ c.if-self-eq0.false c.seek.ensures.cost
 
 pub returns-then-self-eq0-clause-cost : goal.returns-then-self-eq0-clause-cost

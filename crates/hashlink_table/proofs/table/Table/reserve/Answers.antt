@@ -1,4 +1,4 @@
-use Rattle.hashlink_table.proofs.Names.{ap, arith, Contents, len_of, ℕ, ◌*◌, ◌%◌, ◌/◌, ◌≡◌, ◌≤◌, ◌+◌, ◌∙◌}
+use Rattle.hashlink_table.proofs.Names.{ap, arith, Contents, len_of, ℕ, ◌*◌, ◌%◌, ◌/◌, ◌≡◌, ◌+◌, ◌∙◌}
 use Rattle.std.proofs.Common.{⊎_elim, inl, inr, max, min}
 use Rattle.std.{specs.Int.IsPowerOfTwo, proofs.lemmas.Bool.cases_lt}
 use Rattle.hashlink_table.specs.Contents.{IsAmple}
@@ -29,5 +29,5 @@ returns-clause-ample g c = λ _.
     = omega (arith, c.self.invariant.counted, ap (λ (u : Contents g.row.N.Denot). len_of u) c.self.view_is) in
     let count = c.slots_for-count.result in
     ample _ count _ c.slots_for-count.ensures.power c.slots_for-count.ensures.grouped
-    (c.in_ok-grow.ensures.ok ∙ c.min-room.ensures
+    (c.in_ok-resize.ensures.ok ∙ c.min-room.ensures
     ∙ ap (λ m. min (2 * m) (count / 8 * 7)) (c.max.ensures ∙ ap (λ n. max n 4) long))

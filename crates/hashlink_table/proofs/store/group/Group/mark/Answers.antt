@@ -1,4 +1,4 @@
-use Rattle.hashlink_table.proofs.Names.{ap, sym, ◌∙◌, eqb, get_or}
+use Rattle.hashlink_table.proofs.Names.{ap, sym, ◌∙◌, get_or}
 use Rattle.hashlink_table.proofs.Blocks.{mark_read}
 use Rattle.hashlink_table.specs.{Blocks.{Block, free_mark}}
 use Rattle.std.proofs.lemmas.Nat.Bits.{shr_and_one}

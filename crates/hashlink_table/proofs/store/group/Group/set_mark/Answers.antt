@@ -1,4 +1,4 @@
-use Rattle.hashlink_table.proofs.Names.{List, ap, ◌∙◌, sym, set}
+use Rattle.hashlink_table.proofs.Names.{List, ap, ◌∙◌, set}
 use Rattle.hashlink_table.proofs.Blocks.{marks-set}
 use Rattle.hashlink_table.specs.{Blocks.Block, declared.store.head.Head.Head, declared.store.mark.Mark.Mark}
 use Rattle.hashlink_table.proofs.store.group.Group.set_mark.Goals as goal

@@ -1,6 +1,6 @@
 use Rattle.hashlink_table.proofs.Names.{◌≡◌, ◌++◌, ◌/◌, List, length, ap, arith, ◌∙◌, replicate, Block}
 use Rattle.hashlink_table.proofs.Names.{empty_block, bare_grid}
-use Rattle.hashlink_table.proofs.{Grids.{slots_long, stores-bare, Stores}, Storing.bare}
+use Rattle.hashlink_table.proofs.{Grids.{slots_long, stores-bare, Stores}}
 use Rattle.hashlink_table.proofs.store.slots.Slots.clear.Given as given
 use Rattle.hashlink_table.proofs.store.slots.Slots.clear.Goals.{After-fill}
 use Rattle.hashlink_table.proofs.store.slots.Slots.clear.Goals as goal

@@ -1,70 +1,39 @@
-use Rattle.hashlink_table.proofs.Names.{arith, ap, ◌∙◌, ◌%◌, set, true, false, Block, Mark}
-use Rattle.hashlink_table.proofs.{Grids.{cells_are, slots_long, stores-mark}, Storing.guest_put_in}
+use Rattle.hashlink_table.proofs.Names.{arith}
+use Rattle.hashlink_table.proofs.Grids.{in-lists, stores-guest}
 use Rattle.hashlink_table.proofs.store.slots.Slots.put_guest.Goals as goal
 
 pub index_mut-requires : goal.index_mut-requires
 index_mut-requires g c =
     omega (
       arith,
-      slots_long c.self.invariant c.self.view_is,
+      in-lists c.self.invariant c.self.view_is c.args.at c.requires.within,
       c.self.inside.groups.ok.0,
-      c.self.inside.nodes.ok.0,
-      c.self.inside.rests.ok.0,
-      c.requires.within,
     )
 
 pub index_mut-requires-2 : goal.index_mut-requires-2
 index_mut-requires-2 g c =
     omega (
       arith,
-      slots_long c.self.invariant c.self.view_is,
-      c.self.inside.groups.ok.0,
+      in-lists c.self.invariant c.self.view_is c.args.at c.requires.within,
       c.self.inside.nodes.ok.0,
-      c.self.inside.rests.ok.0,
-      c.requires.within,
     )
 
 pub index_mut-requires-3 : goal.index_mut-requires-3
 index_mut-requires-3 g c =
     omega (
       arith,
-      slots_long c.self.invariant c.self.view_is,
-      c.self.inside.groups.ok.0,
-      c.self.inside.nodes.ok.0,
+      in-lists c.self.invariant c.self.view_is c.args.at c.requires.within,
       c.self.inside.rests.ok.0,
-      c.requires.within,
     )
 
 pub invariant_of-self : goal.invariant_of-self
 invariant_of-self g c =
-    (stores-mark c.self.invariant c.self.view_is c.args.at _ c.index_mut.result.now _ c.requires.within
-    c.index_mut.ensures.value (c.set_mark.ensures ∙ (ap (λ t. let m : Mark = record {
-      tag = t;
-      own = false;
-      guest = true;
-    } in
-    let d : Block = record c.index_mut.result.now {
-      marks = set c.index_mut.result.now.marks (c.args.at % 16)
-          m;
-    } in d)
-    c.tag.ensures))
-    (guest_put_in c.self.invariant.tagged
-    (cells_are c.self.invariant c.self.view_is) c.args.at c.requires.within c.args.kept c.args.next
-    c.requires.small)).0
+    (stores-guest c.self.invariant c.self.view_is c.args.at c.args.kept _ c.index_mut.result.now _
+    c.requires.within c.index_mut.ensures.value c.tag.ensures c.args.next c.requires.small
+    c.set_mark.ensures).0
 
 pub returns : goal.returns
 returns g c =
-    (stores-mark c.self.invariant c.self.view_is c.args.at _ c.index_mut.result.now _ c.requires.within
-    c.index_mut.ensures.value (c.set_mark.ensures ∙ (ap (λ t. let m : Mark = record {
-      tag = t;
-      own = false;
-      guest = true;
-    } in
-    let d : Block = record c.index_mut.result.now {
-      marks = set c.index_mut.result.now.marks (c.args.at % 16)
-          m;
-    } in d)
-    c.tag.ensures))
-    (guest_put_in c.self.invariant.tagged
-    (cells_are c.self.invariant c.self.view_is) c.args.at c.requires.within c.args.kept c.args.next
-    c.requires.small)).1
+    (stores-guest c.self.invariant c.self.view_is c.args.at c.args.kept _ c.index_mut.result.now _
+    c.requires.within c.index_mut.ensures.value c.tag.ensures c.args.next c.requires.small
+    c.set_mark.ensures).1

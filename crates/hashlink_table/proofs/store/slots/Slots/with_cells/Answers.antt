@@ -1,6 +1,6 @@
 use Rattle.hashlink_table.proofs.Names.{◌++◌, ◌/◌, List, length, ap, refl, ◌∙◌, length-replicate, replicate}
 use Rattle.hashlink_table.proofs.Names.{Block, empty_block}
-use Rattle.hashlink_table.proofs.Grids.{stores-bare, Stores}
+use Rattle.hashlink_table.proofs.Grids.{stores-bare}
 use Rattle.hashlink_table.proofs.store.slots.Slots.with_cells.Goals as goal
 
 pub invariant_of-result : goal.invariant_of-result
