@@ -28,7 +28,7 @@ module _ {X : Type 0} where
   before_last_of-pushed xs x = ap (λ n. take n (xs ++ x ∷ [])) (one-less xs x) ∙ take-append_seam xs (x ∷ [])
 
 module _ {K V : Type 0} where
-  pairs-mapped : (es : List (Node × Entry K V)) → map (λ e. pair_of e.1) es ≡ pairs_in es
+  pub pairs-mapped : (es : List (Node × Entry K V)) → map (λ e. pair_of e.1) es ≡ pairs_in es
   pairs-mapped [] = refl
   pairs-mapped (e ∷ es) = ap (λ ps. pair_of e.1 ∷ ps) (pairs-mapped es)
 

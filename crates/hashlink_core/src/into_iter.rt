@@ -2,8 +2,7 @@
 ghost use Rattle.std.specs.{Prelude.{◌≡◌, Some, IfSome, length}, Iterator.{at_most, UpTo}};
 ghost use Rattle.std.specs.{Iterator.SizeHint.IsWithinCount, Map.Iter.{TakesFirst, TakesLast}};
 
-use crate::iter::Iter;
-use hashlink_nodes::Nodes;
+use hashlink_nodes::{Chain, Nodes};
 use std::fmt;
 use std::iter::FusedIterator;
 use std::marker::Model;
@@ -12,17 +11,16 @@ use std::marker::Model;
 /// step releases its entry's node. The drop of the iterator drops the pairs left and releases every node.
 #[derive(Drop)]
 pub struct IntoIter<K, V> {
-    // The table was dropped before the first step.
-    nodes: Nodes<K, V>,
+    // The table, the guard and the free nodes were released before the first step.
+    chain: Chain<K, V>,
 }
 
 impl<K, V> Model for IntoIter<K, V> {
     ghost use Rattle.std.specs.Prelude.{List};
-    ghost use Rattle.hashlink_core.specs.Keyed.{pairs_in};
 
     ghost Value = { List (K × V) };
 
-    ghost view = { λ i. pairs_in i.nodes.entries };
+    ghost view = { λ i. i.chain };
 }
 
 impl<K, V> IntoIter<K, V> {
@@ -32,7 +30,9 @@ impl<K, V> IntoIter<K, V> {
     pub(crate) fn new(nodes: Nodes<K, V>) -> Self
         ensures { result ≡ pairs_in nodes.entries }
     {
-        IntoIter { nodes }
+        IntoIter {
+            chain: nodes.into_chain(),
+        }
     }
 }
 
@@ -45,11 +45,7 @@ impl<K: Drop, V: Drop> Iterator for IntoIter<K, V> {
 
     #[inline(always)]
     fn next(&mut self) -> Option<(K, V)> {
-        if self.nodes.len() == 0 {
-            return None;
-        }
-        let held = self.nodes.release_first();
-        Some((held.key, held.value))
+        self.chain.release_first()
     }
 
     fn size_hint(&self) -> (usize, Option<usize>)
@@ -57,7 +53,7 @@ impl<K: Drop, V: Drop> Iterator for IntoIter<K, V> {
         ensures upper { IfSome result.1 (UpTo (at_most (length self.now))) }
         ensures exact { result ≡ (length self.now, Some (length self.now)) }
     {
-        let left = self.nodes.len();
+        let left = self.chain.len();
         (left, Some(left))
     }
 }
@@ -67,17 +63,13 @@ impl<K: Drop, V: Drop> DoubleEndedIterator for IntoIter<K, V> {
 
     #[inline(always)]
     fn next_back(&mut self) -> Option<(K, V)> {
-        if self.nodes.len() == 0 {
-            return None;
-        }
-        let held = self.nodes.release_last();
-        Some((held.key, held.value))
+        self.chain.release_last()
     }
 }
 
 impl<K: Drop, V: Drop> ExactSizeIterator for IntoIter<K, V> {
     fn len(&self) -> usize {
-        self.nodes.len()
+        self.chain.len()
     }
 }
 
@@ -85,6 +77,6 @@ impl<K: Drop, V: Drop> FusedIterator for IntoIter<K, V> {}
 
 impl<K: fmt::Debug, V: fmt::Debug> fmt::Debug for IntoIter<K, V> {
     fn fmt<W: fmt::Write>(&self, f: &mut fmt::Formatter<W>) -> fmt::Result {
-        Iter::new(&self.nodes).fmt(f)
+        self.chain.fmt(f)
     }
 }

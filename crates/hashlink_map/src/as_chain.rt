@@ -23,7 +23,8 @@ impl<K, V> AsChain<K, V> for Chain<K, V> {
     ghost pairs = { λ c. c };
 
     fn take(&mut self) -> Chain<K, V> {
-        mem::replace(self, Chain::new())
+        let none = Chain::new(self.allocator());
+        mem::replace(self, none)
     }
 
     fn end(self) {

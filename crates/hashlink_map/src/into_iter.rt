@@ -8,8 +8,8 @@ use crate::map::LinkedHashMap;
 use hashlink_core::{IntoIter, Iter};
 use std::hash::{BuildHasher, Hash};
 
-/// Turns the map into an owning iterator over its entries, from front to back. It frees the table, takes
-/// constant time and does not allocate.
+/// Turns the map into an owning iterator over its entries, from front to back. It frees the table and
+/// the free nodes, in linear time in the number of free nodes, and does not allocate.
 impl<K: Eq + Hash + Drop, V: Drop, S: BuildHasher + Drop> IntoIterator for LinkedHashMap<K, V, S> {
     type Item = (K, V);
 

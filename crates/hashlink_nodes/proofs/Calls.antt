@@ -1,8 +1,8 @@
 -- Lemmas for the calls of a ring, each from the ring as it is opened to the ring as it is closed.
 use Rattle.hashlink_nodes.proofs.Names
 use Names.{◌≡◌, ℕ, ◌+◌, ◌-◌, ◌^◌, ◌<◌, [], ◌∷◌, ◌++◌, length, Option, Some, None, refl, sym, ap, ◌∙◌, subst}
-use Names.{arith, keys_of, unwrap_or, remove_entry, set_value, option_map, append-nil, is_some, IsSome, true}
-use Names.{lookup, same_node-refl, Holds, IsDistinct, IsDistinct-head, IsDistinct-tail, List, length-drop}
+use Names.{arith, keys_of, unwrap_or, remove_entry, set_value, option_map, is_some, IsSome, true}
+use Names.{Holds, length-drop}
 use Names.{length-set_value, Node, Inside, same_node, state_of, Ring, ring, Entry, IsRing, IsSound, SoundAt}
 use Names.{ring_of, State, GuardIs, attached, detached, hold, store_next, Adds, Drops, AreThere, IsPlace}
 use Names.{put_before, put_after}
@@ -10,8 +10,8 @@ use Rattle.std.proofs.Common.{drop}
 use Rattle.hashlink_nodes.proofs.Rings.{Linked, linked, attach, Entries, detach, held_out, holds_now}
 use Rattle.hashlink_nodes.proofs.Rings.{held_now, added, dropped, spared, take_spare, renew, Taken, guarded}
 use Rattle.hashlink_nodes.proofs.Opening.{length-gap, Leaves, NodeAt, leaves, length-removed, opened, empty}
-use Rattle.hashlink_nodes.{specs.declared.pool.Pool.Pool, proofs.Paths.{head_or, last_or, flip, off_last}}
-use Rattle.hashlink_nodes.proofs.{Cuts.{Gap, before_place, after_place, same_some}, Neighbours.neighbours}
+use Rattle.hashlink_nodes.{specs.declared.pool.Pool.Pool, proofs.Paths.{head_or, last_or}}
+use Rattle.hashlink_nodes.proofs.{Cuts.{Gap, before_place, after_place}, Neighbours.neighbours}
 use Rattle.hashlink_nodes.proofs.Opening.{known, shrinks, node_in, spare_guard, ring_facts}
 use Rattle.hashlink_nodes.proofs.Opening.{written_guard}
 
@@ -107,13 +107,6 @@ module _ {K V : Type 0} where
     removed {s₁} is₁ is₂ is₃ =
         leaves at.is (spared (holds_now (taken_out is₁) None is₂) (held_now s₁ is₂) is₃)
         (omega (arith, length-removed v.entries at.cut, at.facts.is_len)) (omega (arith, at.facts.is_spare))
-
-    -- or its block is freed
-    pub gone : {s₁ s₂ s₃ : State K V} → s₁ ≡ detached n s → s₂ ≡ hold n None s₁ → Drops n s₂ s₃
-        → Leaves s₃ guard first (len - 1) spare (ring rest v.free (v.link_writes + 2))
-    gone is₁ is₂ drops =
-        leaves at.is (dropped (holds_now (taken_out is₁) None is₂) drops)
-        (omega (arith, length-removed v.entries at.cut, at.facts.is_len)) at.facts.is_spare
 
     -- or it can be inserted elsewhere
     pub ready_moved : {s₁ : State K V} → s₁ ≡ detached n s
@@ -239,70 +232,6 @@ module _ {K V : Type 0} where
       leaves g.1 (spared (added (opened sound view g.1) a few) a.bare is) k.is_len
       (omega (arith, k.is_spare))
 
-  -- ---- the ends of the ring
-  -- the node has an entry, and `join` puts this entry back among the others
-  pub record IsEnd (join : Node × Entry K V → Entries K V → Entries K V) (n : Node) (es : Entries K V) :
-      Type 0 where
-    pub value : Entry K V
-    pub looked : lookup (same_node n) es ≡ Some value
-    pub is : es ≡ join (n, value) (remove_entry (same_node n) es)
-
-  -- what is left without the entry, and the entry put back
-  joined : {join : Node × Entry K V → Entries K V → Entries K V} {n : Node} {es rest : Entries K V}
-      {h : Entry K V} → IsEnd join n es → lookup (same_node n) es ≡ Some h
-      → rest ≡ remove_entry (same_node n) es → es ≡ join (n, h) rest
-  joined {join} {n} e found left = e.is ∙ (λ i. join (n, same_some (sym e.looked ∙ found) i) (sym left i))
-
-  -- the two ways to put it back
-  abbrev in_front : Node × Entry K V → Entries K V → Entries K V
-  in_front e es = e ∷ es
-
-  abbrev behind : Node × Entry K V → Entries K V → Entries K V
-  behind e es = es ++ e ∷ []
-
-  first_of : (a : Node) (es : Entries K V) → 0 < length es → IsEnd in_front (head_or a (keys_of es)) es
-  first_of a [] some = absurd (omega (arith, some))
-  first_of a (e ∷ es) some = let here = same_node-refl e.0 in
-      record { value = e.1; looked = rw here; is = rw here }
-
-  last_of : (a : Node) (es : Entries K V) (fs : List Node) → IsDistinct same_node (keys_of es ++ fs)
-      → 0 < length es → IsEnd behind (last_or a (keys_of es)) es
-  last_of a [] fs d some = absurd (omega (arith, some))
-  last_of a (e ∷ []) fs d some = let here = same_node-refl e.0 in
-      record { value = e.1; looked = rw here; is = rw here }
-  last_of a (e ∷ x ∷ es) fs d some =
-      let rest = last_of e.0 (x ∷ es) fs (IsDistinct-tail same_node e.0 _ d) (omega arith) in
-      let off = flip e.0 _ (off_last e.0 x.0 (keys_of es) fs (IsDistinct-head same_node e.0 _ d)) in
-      record { value = rest.value; looked = rw off rest.looked; is = rw off (ap (λ l. e ∷ l) rest.is) }
-
-  module _ {n : Inside K V} (sound : IsSound n) {v : Ring K V} (view : ring_of n ≡ v) {g m : Node}
-      (is : n.guard ≡ Some g) (some : 0 < length v.entries) where
-    -- the nodes on both sides of the guard
-    first : m ≡ (state_of n.pool).next g → IsEnd in_front m v.entries
-    first is_m =
-        subst (λ k. IsEnd in_front k v.entries)
-        (sym (is_m ∙ (linked (opened sound view is) [] v.entries refl).on)) (first_of g v.entries some)
-
-    last : m ≡ (state_of n.pool).prev g → IsEnd behind m v.entries
-    last is_m =
-        let l = linked (opened sound view is) v.entries [] (sym (append-nil v.entries)) in
-        subst (λ k. IsEnd behind k v.entries) (sym (is_m ∙ l.back))
-        (last_of g v.entries v.free (known sound view).differ some)
-
-    pub first_held : m ≡ (state_of n.pool).next g → Holds v.entries m
-    first_held is_m = ap is_some (first is_m).looked
-
-    pub last_held : m ≡ (state_of n.pool).prev g → Holds v.entries m
-    last_held is_m = ap is_some (last is_m).looked
-
-    module _ {h : Entry K V} {rest : Entries K V} (found : lookup (same_node m) v.entries ≡ Some h)
-        (left : rest ≡ remove_entry (same_node m) v.entries) where
-      pub first_left : m ≡ (state_of n.pool).next g → (k : Node) × (v.entries ≡ (k, h) ∷ rest)
-      first_left is_m = (m, joined (first is_m) found left)
-
-      pub last_left : m ≡ (state_of n.pool).prev g → (k : Node) × (v.entries ≡ rest ++ (k, h) ∷ [])
-      last_left is_m = (m, joined (last is_m) found left)
-
   -- the guard's block is freed last
   pub guard_gone : {n : Inside K V} → IsSound n → {v : Ring K V} → ring_of n ≡ v → v.entries ≡ []
       → v.free ≡ [] → {g : Node} → n.guard ≡ Some g → (p : Pool K V) → Drops g (state_of n.pool) (state_of p)
@@ -312,7 +241,7 @@ module _ {K V : Type 0} where
 
 pub ruleset at_nodes = (holds_out, has_out, bare_now, has_yet, spare_has, spare_bare)
 
-pub ruleset at_ends = (first_held, last_held, shrinks, guard_gone)
+pub ruleset at_ends = (shrinks, guard_gone)
 
 -- a goal of a call that no answer proves is first tried by these lemmas
 pub ruleset ring_calls = (ring_facts, neighbours, at_nodes, at_ends)

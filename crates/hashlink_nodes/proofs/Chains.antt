@@ -10,7 +10,8 @@ use Names.{walk}
 use Names.{entries_of, append-nil, IsRing, Ring, ring, store_next, store_prev}
 use Names.{Inside, IsSound, ring_of, state_of, nil_from_length, option_map, pair_of, IsSome}
 use Rattle.hashlink_nodes.specs.Blocks.{AreFound, with_block, blocks_of, without}
-use Rattle.hashlink_nodes.specs.Parting.{Agree, Parts, backwards, IsPath, IsWhole, entries_from}
+use Rattle.std.proofs.lemmas.List.{length-map}
+use Rattle.hashlink_nodes.specs.Parting.{Agree, Parts, backwards, IsPath, IsWhole, entries_from, pairs_from}
 use Rattle.hashlink_nodes.proofs.Paths.{IsOff, flip, all_left, all_right, all_both, all_as, all_zip}
 use Rattle.hashlink_nodes.proofs.Paths.{chain_same}
 use Rattle.hashlink_nodes.proofs.Paths.{Off, all_middle, to_front, from_front, walk-chain, set_at_here}
@@ -231,6 +232,12 @@ module _ {K V : Type 0} where
         }) (keys_of rest) off) p) (omega arith) (omega (arith, d.size));
   }
 
+  -- a contract sees the entry, so it is there
+  some_left : {s : State K V} {first last : Node} {len : ℕ} {ps : List (K × V)} → IsWhole s first last len
+      → pairs_from s first len ≡ ps → 0 < length ps → 0 < len
+  some_left {s} {first} {len = len} w is some =
+      omega (arith, some, ap length is, length-map (entries_from s first len) (λ e. pair_of e.1), w.is_len)
+
   -- at the front; m is the next node
   pub record Front (s : State K V) (first m last : Node) (len : ℕ) : Type 0 where
     pub entry : Entry K V
@@ -257,10 +264,11 @@ module _ {K V : Type 0} where
         }));
   }
 
-  pub at_front : {s : State K V} {first m last : Node} {len : ℕ} → IsWhole s first last len → 0 < len
-      → m ≡ s.next first → Front s first m last len
-  at_front {s} {first} {last = last} {len} w some is =
-      subst (λ k. Front s first k last len) (sym is) (front_of _ refl w.path w.is_len w.size some)
+  pub at_front : {s : State K V} {first m last : Node} {len : ℕ} {ps : List (K × V)} → IsWhole s first last len
+      → pairs_from s first len ≡ ps → 0 < length ps → m ≡ s.next first → Front s first m last len
+  at_front {s} {first} {last = last} {len} w is some is_m =
+      subst (λ k. Front s first k last len) (sym is_m)
+      (front_of _ refl w.path w.is_len w.size (some_left w is some))
 
   -- at the back; m is the previous node
   pub record Back (s : State K V) (first m last : Node) (len : ℕ) : Type 0 where
@@ -308,11 +316,11 @@ module _ {K V : Type 0} where
             }));
       }
 
-  pub at_back : {s : State K V} {first m last : Node} {len : ℕ} → IsWhole s first last len → 0 < len
-      → m ≡ s.prev last → Back s first m last len
-  at_back {s} {first} {last = last} {len} w some is =
-      let p = pushed (entries_from s first len) (omega (arith, some, w.is_len)) in
-      subst (λ k. Back s first k last len) (sym is)
+  pub at_back : {s : State K V} {first m last : Node} {len : ℕ} {ps : List (K × V)} → IsWhole s first last len
+      → pairs_from s first len ≡ ps → 0 < length ps → m ≡ s.prev last → Back s first m last len
+  at_back {s} {first} {last = last} {len} w is some is_m =
+      let p = pushed (entries_from s first len) (omega (arith, some_left w is some, w.is_len)) in
+      subst (λ k. Back s first k last len) (sym is_m)
       (back_of p.before p.last p.is (subst (IsPath s first last) p.is w.path)
       (ap length (sym p.is) ∙ w.is_len) w.size)
 

@@ -1,6 +1,6 @@
 -- Paths along links, and their parts that a change of one link leaves.
 use Rattle.hashlink_nodes.proofs.Names
-use Names.{true, ◌≡◌, ℕ, zero, suc, false, cond, List, [], ◌∷◌, ◌++◌, length, refl, sym, ap, ◌∙◌, subst}
+use Names.{◌≡◌, ℕ, zero, suc, false, cond, List, [], ◌∷◌, ◌++◌, length, refl, sym, ap, ◌∙◌, subst}
 use Names.{IsDistinct-head, IsDistinct-tail, IsDistinct-cons, IsDistinct-IsPermutation, AllByRecursion}
 use Names.{IsDistinct, Node, same_node, same_node_equiv, same_node-refl, set_at, IsLinked, IsChain, walk}
 use Rattle.std.proofs.lemmas.List.Sorted.{IsPermutation-middle, IsPermutation-sym}

@@ -1,21 +1,26 @@
 //! Entries that were taken out of a ring.
-ghost use Rattle.std.specs.Prelude.{◌≡◌, []};
+ghost use Rattle.std.specs.Prelude.{◌≡◌, ◌<◌, [], ◌∷◌, ◌++◌};
+ghost use Rattle.std.specs.Map.Iter.{TakesFirst, TakesLast};
 ghost use Rattle.hashlink_nodes.specs.ChainSteps.{CanTake, TakesFront, TakesBack};
 
+use crate::arena::Block;
 use crate::node::Node;
 use crate::nodes::Nodes;
 use crate::pool::Pool;
+use std::alloc::Global;
 use std::fmt;
 use std::marker::Model;
+use std_alloc::room::Vacant;
 
 /// The entries that were taken out of a ring, in order, each in its node. Contracts see the pairs. It has no
-/// guard and no free node. It is not `Drop`: code that has one must take every entry out, and then end it.
+/// guard and no free node. No step stores a link in it.
 pub struct Chain<K, V> {
     pub(crate) pool: Pool<K, V>,
     // The first and the last node. If there is none, they mean nothing.
     pub(crate) first: Node,
     pub(crate) last: Node,
     pub(crate) len: usize,
+    pub(crate) alloc: Global,
 }
 
 impl<K, V> Model for Chain<K, V> {
@@ -34,7 +39,7 @@ impl<K, V> Chain<K, V> {
     ghost use Rattle.std.specs.Prelude.{length};
 
     /// Creates a chain without entries.
-    pub fn new() -> Self
+    pub fn new(alloc: Global) -> Self
         ensures { result ≡ [] }
     {
         Chain {
@@ -42,6 +47,7 @@ impl<K, V> Chain<K, V> {
             first: Node::nowhere(),
             last: Node::nowhere(),
             len: 0,
+            alloc,
         }
     }
 
@@ -53,6 +59,39 @@ impl<K, V> Chain<K, V> {
         self.len
     }
 
+    /// Returns the allocator of the blocks.
+    pub fn allocator(&self) -> Global {
+        self.alloc
+    }
+
+    /// Removes the first entry, and returns it with its block.
+    #[inline(always)]
+    fn take_first(&mut self) -> ((K, V), Vacant<Block<(K, V)>, Global>)
+        requires { 0 < length self.old }
+        ensures { self.old ≡ result.0 ∷ self.new }
+    {
+        let node = self.first;
+        self.first = self.pool.next(node);
+        let pair = self.pool.take(node);
+        let vacant = self.pool.vacate(node, self.alloc);
+        self.len -= 1;
+        (pair, vacant)
+    }
+
+    /// Removes the last entry, and returns it with its block.
+    #[inline(always)]
+    fn take_last(&mut self) -> ((K, V), Vacant<Block<(K, V)>, Global>)
+        requires { 0 < length self.old }
+        ensures { self.old ≡ self.new ++ result.0 ∷ [] }
+    {
+        let node = self.last;
+        self.last = self.pool.prev(node);
+        let pair = self.pool.take(node);
+        let vacant = self.pool.vacate(node, self.alloc);
+        self.len -= 1;
+        (pair, vacant)
+    }
+
     /// Removes the first entry and returns it, or returns `None` if there is none. Its node is the first free
     /// node of the ring then. It stores one link.
     #[inline(always)]
@@ -60,14 +99,10 @@ impl<K, V> Chain<K, V> {
         requires { CanTake self.old nodes.old }
         ensures { TakesFront self.old self.new nodes.old nodes.new result }
     {
-        if self.len == 0 {
+        if self.len() == 0 {
             return None;
         }
-        let node = self.first;
-        self.first = self.pool.next(node);
-        let pair = self.pool.take(node);
-        let vacant = self.pool.vacate(node, nodes.allocator());
-        self.len -= 1;
+        let (pair, vacant) = self.take_first();
         nodes.keep_free(vacant);
         Some(pair)
     }
@@ -79,15 +114,37 @@ impl<K, V> Chain<K, V> {
         requires { CanTake self.old nodes.old }
         ensures { TakesBack self.old self.new nodes.old nodes.new result }
     {
-        if self.len == 0 {
+        if self.len() == 0 {
             return None;
         }
-        let node = self.last;
-        self.last = self.pool.prev(node);
-        let pair = self.pool.take(node);
-        let vacant = self.pool.vacate(node, nodes.allocator());
-        self.len -= 1;
+        let (pair, vacant) = self.take_last();
         nodes.keep_free(vacant);
+        Some(pair)
+    }
+
+    /// Removes the first entry, frees its block and returns it, or returns `None` if there is none.
+    #[inline(always)]
+    pub fn release_first(&mut self) -> Option<(K, V)>
+        ensures { TakesFirst (λ p. p) self.old result self.new }
+    {
+        if self.len() == 0 {
+            return None;
+        }
+        let (pair, vacant) = self.take_first();
+        vacant.free();
+        Some(pair)
+    }
+
+    /// Removes the last entry, frees its block and returns it, or returns `None` if there is none.
+    #[inline(always)]
+    pub fn release_last(&mut self) -> Option<(K, V)>
+        ensures { TakesLast (λ p. p) self.old result self.new }
+    {
+        if self.len() == 0 {
+            return None;
+        }
+        let (pair, vacant) = self.take_last();
+        vacant.free();
         Some(pair)
     }
 
@@ -100,8 +157,17 @@ impl<K, V> Chain<K, V> {
             first: _,
             last: _,
             len: _,
+            alloc: _,
         } = self;
         pool.end();
+    }
+}
+
+/// Drops the entries, and frees their blocks.
+impl<K: Drop, V: Drop> Drop for Chain<K, V> {
+    fn drop(mut self) {
+        while let Some(_pair) = self.release_first() {}
+        self.end();
     }
 }
 

@@ -175,12 +175,12 @@ impl<K, V> Nodes<K, V> {
         ensures few { length self.old.entries + length self.old.free < 2 ^ 63 }
     {
         if self.len == 0 {
-            return Chain::new();
+            return Chain::new(self.alloc);
         }
         let guard = self.guard.unwrap();
         let first = self.pool.next(guard);
         let last = self.pool.prev(guard);
-        let chain = self.pool.part(first, last, self.len);
+        let chain = self.pool.part(first, last, self.len, self.alloc);
         self.pool.store_next(guard, guard);
         self.pool.store_prev(guard, guard);
         self.len = 0;
@@ -203,10 +203,8 @@ impl<K, V> Nodes<K, V> {
 
 /// Drops the entries, and frees the block of every node.
 impl<K: Drop, V: Drop> Drop for Nodes<K, V> {
-    fn drop(mut self) {
-        self.release_all();
-        self.release_free();
-        self.end();
+    fn drop(self) {
+        let _entries = self.into_chain();
     }
 }
 

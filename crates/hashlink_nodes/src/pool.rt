@@ -137,7 +137,7 @@ impl<K, V> Pool<K, V> {
     }
 
     /// Takes the nodes of a path out, with their entries and blocks.
-    pub(crate) fn part(&mut self, first: Node, last: Node, len: usize) -> Chain<K, V>
+    pub(crate) fn part(&mut self, first: Node, last: Node, len: usize, alloc: Global) -> Chain<K, V>
         ghost entries: { List (Node × Entry K V) }
         requires path { IsPath (state_of self.old) first last entries }
         requires len { length entries ≡ len }
@@ -153,6 +153,7 @@ impl<K, V> Pool<K, V> {
             first,
             last,
             len,
+            alloc,
         }
     }
 

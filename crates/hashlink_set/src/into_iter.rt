@@ -67,8 +67,8 @@ impl<T: Drop> ExactSizeIterator for IntoIter<T> {
 
 impl<T: Drop> FusedIterator for IntoIter<T> {}
 
-/// Turns the set into an owning iterator over its elements, from front to back. It frees the table, takes
-/// constant time and does not allocate.
+/// Turns the set into an owning iterator over its elements, from front to back. It frees the table and
+/// the free nodes, in linear time in the number of free nodes, and does not allocate.
 impl<T: Eq + Hash + Drop, S: BuildHasher + Drop> IntoIterator for LinkedHashSet<T, S> {
     type Item = T;
 

@@ -63,8 +63,8 @@ impl<K: Eq + Hash, V, S: BuildHasher> LruCache<K, V, S> {
     }
 }
 
-/// Turns the cache into an owning iterator over its entries, from front to back. It frees the table, takes
-/// constant time and does not allocate.
+/// Turns the cache into an owning iterator over its entries, from front to back. It frees the table and
+/// the free nodes, in linear time in the number of free nodes, and does not allocate.
 impl<K: Eq + Hash + Drop, V: Drop, S: BuildHasher + Drop> IntoIterator for LruCache<K, V, S> {
     type Item = (K, V);
 

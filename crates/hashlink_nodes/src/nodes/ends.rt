@@ -1,11 +1,9 @@
-//! Calls that free blocks, and that remove entries at the ends.
-ghost use Rattle.std.specs.Prelude.{◌≡◌, ◌+◌, ◌*◌, ◌<◌, [], ◌∷◌, ◌++◌, length, drop, Some};
-ghost use Rattle.std.specs.Map.{lookup, remove_entry};
-ghost use Rattle.hashlink_nodes.specs.{Node.same_node, Ring.Holds, declared.node.Node.Node};
+//! Calls that free blocks.
+ghost use Rattle.std.specs.Prelude.{◌≡◌, ◌+◌, ◌<◌, [], length, map, drop};
+ghost use Rattle.hashlink_nodes.specs.Ring.{pair_of};
 
 use super::Nodes;
-use crate::entry::Entry;
-use crate::node::Node;
+use crate::chain::Chain;
 
 impl<K, V> Nodes<K, V> {
     /// Frees the blocks of the free nodes.
@@ -32,61 +30,28 @@ impl<K, V> Nodes<K, V> {
         self.spare -= 1;
     }
 
-    /// Drops the entries and frees their blocks. The free nodes stay. It stores two links for each entry.
+    /// Drops the entries and frees their blocks. The free nodes stay. It stores two links, none if there is no
+    /// entry.
     pub fn release_all(&mut self)
     where
         K: Drop,
         V: Drop,
         ensures entries { self.new.entries ≡ [] }
         ensures free { self.new.free ≡ self.old.free }
-        ensures link_writes { self.new.link_writes ≡ self.old.link_writes + 2 * length self.old.entries }
+        ensures unchanged { length self.old.entries ≡ 0 → self.new ≡ self.old }
+        ensures link_writes { 0 < length self.old.entries → self.new.link_writes ≡ self.old.link_writes + 2 }
     {
-        while self.len() > 0 {
-            let _held = self.release_last();
-        }
+        let _entries = self.take_entries();
     }
 
-    /// Removes the first entry, frees its block and returns what it held. It stores two links.
-    #[inline]
-    pub fn release_first(&mut self) -> Entry<K, V>
-        requires { 0 < length self.old.entries }
-        ensures first { (node : Node) × (self.old.entries ≡ (node, result) ∷ self.new.entries) }
-        ensures free { self.new.free ≡ self.old.free }
-        ensures link_writes { self.new.link_writes ≡ self.old.link_writes + 2 }
+    /// Takes all entries out, and frees the blocks of the guard and of the free nodes.
+    pub fn into_chain(mut self) -> Chain<K, V>
+        ensures { result ≡ map (λ e. pair_of e.1) self.entries }
     {
-        let guard = self.guard.unwrap();
-        let node = self.pool.next(guard);
-        self.release(node)
-    }
-
-    /// Removes the last entry, frees its block and returns what it held. It stores two links.
-    #[inline]
-    pub fn release_last(&mut self) -> Entry<K, V>
-        requires { 0 < length self.old.entries }
-        ensures last { (node : Node) × (self.old.entries ≡ self.new.entries ++ (node, result) ∷ []) }
-        ensures free { self.new.free ≡ self.old.free }
-        ensures link_writes { self.new.link_writes ≡ self.old.link_writes + 2 }
-    {
-        let guard = self.guard.unwrap();
-        let node = self.pool.prev(guard);
-        self.release(node)
-    }
-
-    /// Removes the node's entry, frees its block and returns what it held. It stores two links.
-    #[inline]
-    fn release(&mut self, node: Node) -> Entry<K, V>
-        requires { Holds self.old.entries node }
-        ensures held { lookup (same_node node) self.old.entries ≡ Some result }
-        ensures entries { self.new.entries ≡ remove_entry (same_node node) self.old.entries }
-        ensures free { self.new.free ≡ self.old.free }
-        ensures link_writes { self.new.link_writes ≡ self.old.link_writes + 2 }
-    {
-        self.pool.detach(node);
-        let number = self.pool.number(node);
-        let (key, value) = self.pool.take(node);
-        self.pool.release(node, self.alloc);
-        self.len -= 1;
-        Entry { number, key, value }
+        let chain = self.take_entries();
+        self.release_free();
+        self.end();
+        chain
     }
 
     /// Ends a ring that has no nodes, and frees the guard's block.
