@@ -46,16 +46,20 @@ def made_of(name):
     return CRATES / name / (f"out/{name}" if is_program(name) else f"out/statements/{name}.rlib")
 
 
-def proof_words(name, stands_on, kit):
-    """The words by which a crate is proved from the statements of the crates below it."""
+def crate_words(name, stands_on, kit):
+    """The words that name a crate, the crates below it by their statements, and the program logic."""
     words = ["--crate-name", name, "src/main.rt" if is_program(name) else "src/lib.rt"]
     words += ["--extern", f"std={kit}/rlibs/std.rlib", "-L", f"dependency={kit}/rlibs"]
     for it in below(name, lines_of(TOP / "crates.txt")):
         words += ["--extern", f"{it}={made_of(it) if it in stands_on else f'{kit}/rlibs/{it}.rlib'}"]
     for it in all_below(name, stands_on)[:-1]:
         words += ["-L", f"dependency={made_of(it).parent}"]
-    words += ["--antt-project", f"{kit}/rattle/logic/antt-project.json"]
-    return [*words, "--logic-built", f"{kit}/logic_built", "--links", f"{name}="]
+    return [*words, "--antt-project", f"{kit}/rattle/logic/antt-project.json", "--links", f"{name}="]
+
+
+def proof_words(name, stands_on, kit, jobs):
+    """The words by which a crate is proved by so many processors."""
+    return [*crate_words(name, stands_on, kit), "--logic-built", f"{kit}/logic_built", "--jobs", str(jobs)]
 
 
 def toolchain():

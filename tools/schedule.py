@@ -19,6 +19,7 @@ from repository import all_below
 
 CODE = re.compile(rb"^(?!ghost use|use|pub use|\{\}).*[;{}]$", re.M)
 SPLIT = 1.5  # times the processor time
+HALF_MINUTE = 30
 
 
 class Schedule:
@@ -96,11 +97,11 @@ class Log:
 
 class Progress:
     """The progress on standard error: at a terminal in one line that is kept up to date, else in a line as
-    each crate begins and ends."""
+    each crate begins and ends, and at least every half minute."""
 
     def __init__(self, who, schedule):
         self.who, self.schedule = who, schedule
-        self.started = time.monotonic()
+        self.started = self.shown = time.monotonic()
         self.is_terminal = sys.stderr.isatty()
 
     def line(self, text):
@@ -110,32 +111,44 @@ class Progress:
 
     def show(self, text):
         """A line that stays, except at a terminal."""
+        self.shown = time.monotonic()
         if not self.is_terminal:
             print(self.line(text), file=sys.stderr, flush=True)
 
-    def keep_up(self):
+    def keep_up(self, runs):
+        """Tells what is being proved, and how many of its functions are."""
+        if time.monotonic() < self.shown + (1 if self.is_terminal else HALF_MINUTE):
+            return
+        text = f"proving {', '.join(map(how_far, runs.values()))}"
+        self.show(text)
         if self.is_terminal:
-            line = self.line(f"proving {', '.join(self.schedule.running)}")
-            print(f"\r{line[:118]:118}", end="", file=sys.stderr, flush=True)
+            print(f"\r{self.line(text)[:118]:118}", end="", file=sys.stderr, flush=True)
 
     def end(self):
         if self.is_terminal:
             print(f"\r{'':118}\r", end="", file=sys.stderr, flush=True)
 
 
+def how_far(run):
+    """The name of the run's crate, and how many of its functions are proved, if that is known."""
+    done, functions = run.functions()
+    return f"{run.name} ({done} of {functions} functions)" if functions else run.name
+
+
 def prove_all(who, schedule, begin):
     """Proves the crates of the schedule, and returns whether all are proved. `begin` begins a crate, by its
-    name and its number of processors. It returns an object with a process; after that has ended, `ends_well`
-    returns whether the crate is proved, and the log has the output."""
+    name and its number of processors. It returns an object with the name and a process. Until it `has_ended`,
+    `functions` returns how many functions are proved and how many there are, or zeros if that is not known.
+    Then `ends_well` returns whether the crate is proved, and the log has the output."""
     progress, runs = Progress(who, schedule), {}
     try:
         while schedule.waiting or runs:
             for name, jobs in schedule.begin().items():
                 runs[name] = begin(name, jobs)
                 progress.show(f"proving {name}, on {jobs} processors" if jobs > 1 else f"proving {name}")
-            progress.keep_up()
+            progress.keep_up(runs)
             time.sleep(0.2)
-            for name in [it for it in runs if runs[it].process.poll() is not None]:
+            for name in [it for it in runs if runs[it].has_ended()]:
                 run = runs.pop(name)
                 schedule.end(name)
                 if not run.ends_well():

@@ -223,7 +223,7 @@ where
 {
     map.retain(
         |key, value|
-            requires { CallableAt G.Fn keep.now key.now value.old }
+            requires callable { CallableAt G.Fn keep.now key.now value.old }
             ensures says { ClosureSays G.Fn keep.entry.now key.now value.old result }
             ensures unchanged { (value.new ≡ value.old) × (keep.exit ≡ keep.entry) }
         { keep(key, value) },
