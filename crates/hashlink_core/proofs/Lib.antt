@@ -13,7 +13,6 @@ pub mod Keeping
 pub mod Mapped
 pub mod Neighbours
 pub mod Places
-pub mod Retaining
 pub mod Stepping
 pub mod Steps
 pub mod Walk

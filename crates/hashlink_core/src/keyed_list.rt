@@ -6,13 +6,10 @@ ghost use Rattle.hashlink_table.specs.declared.error.TryReserveError.TheVariants
 ghost use Rattle.hashlink_table.specs.declared.table.TheConstants.{MAX_ROOM};
 
 mod drains;
-mod extend;
 mod growth;
-mod inserts;
 mod moves;
 mod reads;
 mod removals;
-mod retains;
 mod values;
 
 use hashlink_nodes::{Node, Nodes};

@@ -8,6 +8,7 @@ pub mod EnterAndLend
 pub mod EntryUpdates
 pub mod Extending
 pub mod Indexing
+pub mod Inserted
 pub mod LastMoved
 pub mod MovedLent
 pub mod Outcomes
@@ -18,6 +19,7 @@ pub mod PairSteps
 pub mod PairTies
 pub mod PairValues
 pub mod PutLast
+pub mod Retaining
 pub mod Taken
 pub mod Taking
 pub mod WalkPairs

@@ -1,8 +1,15 @@
 -- A step that takes an entry out of a map, as a step of an iterator.
-use Rattle.hashlink_map.proofs.Names.{Option, None, Some, ap, sym, subst, ◌∙◌, TakesFirst, TakesLast}
+use Rattle.hashlink_map.proofs.Names
+use Names.{◌≡◌, ℕ, zero, suc, ◌-◌, Bool, List, [], ◌∷◌, length, refl, arith, slice_get, remove, take, IsEquivalence}
+use Names.{Keyed, Node, IsPlaceAt, IsKeyed, IsEntries, entries_of, state_of, place_number, length-values_of}
+use Names.{Option, None, Some, ap, sym, subst, ◌∙◌, TakesFirst, TakesLast}
 use Rattle.hashlink_map.proofs.Names.{GivesInOrder, GivesInReverse, as_is, as_is_back, in-order, in-reverse}
 use Rattle.hashlink_map.proofs.Names.{MapState, PopsFront, PopsBack, after_first_of, before_last_of}
 use Rattle.hashlink_model.{specs.Steps.KeepsOnly, proofs.Walks.{takes_first, takes_last}}
+use Rattle.hashlink_model.specs.{MapState.Removes, Lookups.UpdatesPopped}
+use Rattle.hashlink_model.proofs.Updates.{updates-pop_front, updates-pop_back}
+use Rattle.hashlink_core.specs.Steps.{RemovesNode}
+use Rattle.std.proofs.{Common.drop, lemmas.Option.{slice_get_past, slice_get_within}}
 
 module _ {K V S : Type 0} (old new : MapState K V S) where
   pub pop-takes_first : (r : Option (K × V)) → PopsFront old new r
@@ -26,6 +33,92 @@ module _ {K V S : Type 0} (old new : MapState K V S) where
       subst (TakesLast (λ x. x) old.entries (Some e)) (sym p.step.entries)
       (subst (λ o. TakesLast (λ x. x) old.entries o (before_last_of old.entries)) (sym p.answer)
       (takes_last old.entries))
+
+-- ---- a pop: the node at an end was removed, or there is none
+
+module _ {X : Type 0} where
+  remove-first : (xs : List X) → remove xs 0 ≡ drop 1 xs
+  remove-first [] = refl
+  remove-first (x ∷ xs) = refl
+
+  remove-last : (xs : List X) (i : ℕ) → suc i ≡ length xs → remove xs i ≡ take i xs
+  remove-last [] i n = absurd (omega (arith, n))
+  remove-last (x ∷ []) zero n = refl
+  remove-last (x ∷ y ∷ xs) zero n = absurd (omega (arith, n))
+  remove-last (x ∷ xs) (suc i) n = ap (λ l. x ∷ l) (remove-last xs i (omega (arith, n)))
+
+module _ {K V S : Type 0} (before after : Keyed K V S) where
+  module _ (n : Node) (e : K × V)
+      (pair : slice_get (entries_of before) (place_number before.nodes (Some n)) ≡ Some e)
+      (removed : RemovesNode before after (place_number before.nodes (Some n))) where
+    pub pops-first : IsPlaceAt before.nodes (Some n) 0
+        → PopsFront (state_of before) (state_of after) (Some e)
+    pops-first at = record {
+      answer = sym pair ∙ ap (slice_get (entries_of before)) at.number;
+      step = subst (Removes (state_of before) (state_of after))
+          (ap (remove (entries_of before)) at.number ∙ remove-first (entries_of before)) removed.state;
+    }
+
+    pub pops-last : IsPlaceAt before.nodes (Some n) (length before.nodes - 1)
+        → PopsBack (state_of before) (state_of after) (Some e)
+    pops-last at =
+        let es = entries_of before in
+        let last : place_number before.nodes (Some n) ≡ length es - 1 =
+        omega (arith, at.number, length-values_of before.nodes) in
+        let some = slice_get_within es (place_number before.nodes (Some n)) e pair in
+        record {
+          answer = sym pair ∙ ap (slice_get es) last;
+          step = subst (Removes (state_of before) (state_of after))
+              (ap (remove es) last ∙ remove-last es (length es - 1) (omega (arith, last, some)))
+              removed.state;
+        }
+
+  -- there is no entry
+  module _ (none : length before.nodes ≡ 0) where
+    past : (i : ℕ) → None ≡ slice_get (entries_of before) i
+    past i = sym (slice_get_past (entries_of before) i (omega (arith, none, length-values_of before.nodes)))
+
+    pub pops-none : PopsFront (state_of before) (state_of before) None
+        × PopsBack (state_of before) (state_of before) None
+    pops-none = (
+      record { answer = past 0; step = refl },
+      record { answer = past (length (entries_of before) - 1); step = refl },
+    )
+
+  -- the clauses
+  module _ {eq : K → K → Bool} (laws : IsEquivalence eq) (was_sound : IsKeyed eq before)
+      (sound : IsKeyed eq after) (r : Option (K × V)) where
+    pub popped_front : PopsFront (state_of before) (state_of after) r
+        → record {
+          pops : PopsFront (state_of before) (state_of after) r;
+          entries : TakesFirst (λ e. e) (entries_of before) r (entries_of after);
+          updates : UpdatesPopped eq (entries_of before) (entries_of after) r;
+          distinct : IsEntries eq (entries_of after);
+        }
+    popped_front pops =
+        let takes = pop-takes_first _ _ r pops in
+        record {
+          pops = pops;
+          entries = takes;
+          updates = updates-pop_front eq laws r _ _ was_sound.distinct takes;
+          distinct = sound.distinct;
+        }
+
+    pub popped_back : PopsBack (state_of before) (state_of after) r
+        → record {
+          pops : PopsBack (state_of before) (state_of after) r;
+          entries : TakesLast (λ e. e) (entries_of before) r (entries_of after);
+          updates : UpdatesPopped eq (entries_of before) (entries_of after) r;
+          distinct : IsEntries eq (entries_of after);
+        }
+    popped_back pops =
+        let takes = pop-takes_last _ _ r pops in
+        record {
+          pops = pops;
+          entries = takes;
+          updates = updates-pop_back eq laws r _ _ was_sound.distinct takes;
+          distinct = sound.distinct;
+        }
 
 -- what the steps of a drain leave
 module _ {K V S : Type 0} where

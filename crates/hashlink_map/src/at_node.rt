@@ -1,5 +1,5 @@
 //! Calls at a node of a map, for the methods of entries.
-ghost use Rattle.std.specs.{Prelude.{◌≡◌, ◌+◌, ◌-◌, ◌<◌, length, slice_get, None, Some, IfOk}, Borrow.sem};
+ghost use Rattle.std.specs.{Prelude.{◌≡◌, ◌-◌, length, slice_get, None, Some, IfOk}, Borrow.sem};
 ghost use Rattle.std.specs.Map.Iter.{deref_pair};
 ghost use Rattle.hashlink_model.specs.Entry.{key_at, value_at, InsertsValue, InsertsEntry, ReplacesEntry};
 ghost use Rattle.hashlink_model.specs.{Entries.{place_of, IsEntries}, Lookups.Updates, MapState.MovesAt};
@@ -23,26 +23,6 @@ impl<K: Eq + Hash, V, S: BuildHasher> LinkedHashMap<K, V, S> {
             ≡ Some (deref_pair result) }
     {
         self.list.entry(node)
-    }
-
-    /// Returns the node after this one. After the last node it returns one that the map does not have.
-    #[inline]
-    pub(crate) fn node_after(&self, node: Node) -> Node
-        requires { Holds self.now.nodes node }
-        ensures { place_number self.now.nodes (Some result)
-            ≡ place_number self.now.nodes (Some node) + 1 }
-    {
-        self.list.after(node)
-    }
-
-    /// Returns the node before this one. Before the first node it returns any node.
-    #[inline]
-    pub(crate) fn node_before(&self, node: Node) -> Node
-        requires { Holds self.now.nodes node }
-        ensures { 0 < place_number self.now.nodes (Some node)
-            → place_number self.now.nodes (Some result) + 1 ≡ place_number self.now.nodes (Some node) }
-    {
-        self.list.before(node)
     }
 
     /// Returns the key of the node and a mutable reference to its value.

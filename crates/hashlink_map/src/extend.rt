@@ -46,7 +46,14 @@ impl<K: Eq + Hash + Drop, V: Drop, S: BuildHasher> LinkedHashMap<K, V, S> {
         ensures stopped { IfErr result (λ e. GivesSome I.next_gives iter.old iter.new (λ items.
             StopsAt (InsertsPair K.eq) (state_of self.old) items (state_of self.new) e.taken e.pair [])) }
     {
-        self.list.extend_from(iter)
+        let mut taken = 0u64;
+        while let Some((key, value)) = iter.next() {
+            if let Err(pair) = self.insert(key, value) {
+                return Err(ExtendError { taken, pair });
+            }
+            taken = taken.saturating_add(1);
+        }
+        Ok(())
     }
 }
 

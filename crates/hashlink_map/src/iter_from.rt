@@ -63,8 +63,8 @@ impl<'a, K: Eq + Hash, V, S: BuildHasher> Iterator for IterFrom<'a, K, V, S> {
     fn next(&mut self) -> Option<(&'a K, &'a V)> {
         let map = self.map;
         let node = self.place?;
-        self.place = map.place_after(Some(node));
-        Some(map.pair_at(node))
+        self.place = map.list.next(Some(node));
+        Some(map.list.entry(node))
     }
 
     fn size_hint(&self) -> (usize, Option<usize>)

@@ -49,7 +49,7 @@ impl PlacesLeft {
             return None;
         }
         let node = self.first;
-        self.first = map.node_after(node);
+        self.first = map.list.after(node);
         self.left -= 1;
         Some(node)
     }
@@ -70,7 +70,7 @@ impl PlacesLeft {
             return None;
         }
         let node = self.last;
-        self.last = map.node_before(node);
+        self.last = map.list.before(node);
         self.left -= 1;
         Some(node)
     }

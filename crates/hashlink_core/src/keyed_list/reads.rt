@@ -1,5 +1,6 @@
 //! Reads of a keyed list.
-ghost use Rattle.std.specs.Prelude.{◌≡◌, ◌+◌, ◌-◌, ◌<◌, ◌^◌, length, slice_get, None, Some, IfSome};
+ghost use Rattle.std.specs.Prelude.{◌≡◌, ◌+◌, ◌-◌, ◌<◌, ◌^◌, ◌↔◌, length, slice_get, None, Some, IfSome};
+ghost use Rattle.std.specs.Prelude.{IsTrue};
 ghost use Rattle.std.specs.{Prelude.MatchOption, Map.Iter.{ShowsInOrder, ShowsInReverse, deref, deref_pair}};
 ghost use Rattle.std.specs.{Borrow.Bor, Fn.FnReturnsAt, Map.{lookup, keys_of, values_of}, Option.ForSome};
 ghost use Rattle.hashlink_model.specs.{Cursor.{following_place, preceding_place}, Entries.place_of};
@@ -93,7 +94,7 @@ impl<K: Eq + Hash, V, S: BuildHasher> KeyedList<K, V, S> {
     pub fn next(&self, place: Option<Node>) -> Option<Node>
         requires { IsPlace self.now.nodes place }
         ensures { IsPlaceAt self.now.nodes result
-            (following_place (length self.now.nodes) (place_number self.now.nodes place)) }
+            (following_place (length (entries_of self.now)) (place_number self.now.nodes place)) }
     {
         self.nodes.next(place)
     }
@@ -103,7 +104,7 @@ impl<K: Eq + Hash, V, S: BuildHasher> KeyedList<K, V, S> {
     pub fn prev(&self, place: Option<Node>) -> Option<Node>
         requires { IsPlace self.now.nodes place }
         ensures { IsPlaceAt self.now.nodes result
-            (preceding_place (length self.now.nodes) (place_number self.now.nodes place)) }
+            (preceding_place (length (entries_of self.now)) (place_number self.now.nodes place)) }
     {
         self.nodes.prev(place)
     }
@@ -138,6 +139,21 @@ impl<K: Eq + Hash, V, S: BuildHasher> KeyedList<K, V, S> {
             ≡ Some (deref_pair result) }
     {
         self.nodes.entry(node)
+    }
+
+    /// Returns whether the place is the node's. It compares the keys, if their short hashes are equal.
+    // Nodes cannot be compared, but no two keys of the list are equal.
+    #[inline]
+    pub fn is_at(&self, node: Node, place: Option<Node>) -> bool
+        requires node { Holds self.now.nodes node }
+        requires place { IsPlace self.now.nodes place }
+        ensures { IsTrue result ↔ (place ≡ Some node) }
+    {
+        let Some(at) = place else {
+            return false;
+        };
+        self.nodes.number(at) == self.nodes.number(node)
+            && self.nodes.entry(at).0 == self.nodes.entry(node).0
     }
 
     /// Returns an iterator over the entries, front to back. It does not allocate; a step takes constant time.

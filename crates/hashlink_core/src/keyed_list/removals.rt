@@ -1,8 +1,7 @@
-//! Removals by key and at the ends, and the owning iterator. The other entries keep their order. Each removal
-//! leaves a free node, which the next insert of an absent key uses. No call allocates.
+//! The search that removes what it finds, and the owning iterator. No call allocates.
 ghost use Rattle.std.specs.{Prelude.{◌≡◌, IfSome}, Map.lookup};
 ghost use Rattle.hashlink_nodes.specs.{Node.same_node, Ring.Holds};
-ghost use Rattle.hashlink_model.specs.Steps.{RemovesMatch, PopsFront, PopsBack};
+ghost use Rattle.hashlink_model.specs.Steps.{RemovesMatch};
 ghost use Rattle.hashlink_core.specs.Keyed.{state_of, entries_of, IsKeyed};
 
 use super::{KeyedList, short_hash};
@@ -29,28 +28,6 @@ impl<K: Eq + Hash, V, S: BuildHasher> KeyedList<K, V, S> {
         { key.equivalent(nodes.entry(node).0) };
         let node = self.table.remove(hash, holds_match)?;
         Some(self.nodes.detach_into_free(node))
-    }
-
-    /// Removes the first entry and returns it. It takes constant time, hashes nothing, and stores at most
-    /// three links.
-    pub fn pop_front(&mut self) -> Option<(K, V)>
-        ensures pops { PopsFront (state_of self.old) (state_of self.new) result }
-        ensures was_sound { IsKeyed K.eq self.old }
-        ensures sound { IsKeyed K.eq self.new }
-    {
-        let node = self.front()?;
-        Some(self.remove(node))
-    }
-
-    /// Removes the last entry and returns it. It takes constant time, hashes nothing, and stores at most
-    /// three links.
-    pub fn pop_back(&mut self) -> Option<(K, V)>
-        ensures pops { PopsBack (state_of self.old) (state_of self.new) result }
-        ensures was_sound { IsKeyed K.eq self.old }
-        ensures sound { IsKeyed K.eq self.new }
-    {
-        let node = self.back()?;
-        Some(self.remove(node))
     }
 
     /// Turns the list into an owning iterator over its entries, front to back. It frees the table and the free

@@ -216,7 +216,6 @@ impl<'a, K: Eq + Hash, V, S: BuildHasher> CursorMut<'a, K, V, S> {
     /// It allocates only if the key is absent and no node is free. A full table then grows first, in linear
     /// time in the new capacity. If an allocation fails, it returns the pair in `Err` and changes no entry;
     /// the room may have grown.
-    #[inline(always)]
     pub fn insert_before(&mut self, key: K, value: V) -> Result<Option<V>, (K, V)>
     where
         K: Drop,
@@ -233,7 +232,6 @@ impl<'a, K: Eq + Hash, V, S: BuildHasher> CursorMut<'a, K, V, S> {
     /// Inserts the pair directly after the cursor, as `insert_before` does before it, and at the same cost.
     /// At the guard, the pair goes to the front. If an allocation fails, it returns the pair in `Err` and
     /// changes no entry; the room may have grown.
-    #[inline(always)]
     pub fn insert_after(&mut self, key: K, value: V) -> Result<Option<V>, (K, V)>
     where
         K: Drop,

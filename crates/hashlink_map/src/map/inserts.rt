@@ -1,15 +1,51 @@
 //! Inserts. Each of them hashes the key once, and looks it up as `get` does.
-ghost use Rattle.std.specs.Prelude.{◌≡◌, [], ◌∷◌, ◌++◌, None, Some, IfOk, IfErr, IsOk, IsSome, OnOk, length};
+ghost use Rattle.std.specs.Prelude.{◌≡◌, [], ◌∷◌, ◌++◌, Option, None, Some, IfOk, IfErr, IsOk, IsSome, OnOk, length};
 ghost use Rattle.std.specs.{Borrow.sem, Map.lookup, Option.UnwrapsOrElse};
 ghost use Rattle.hashlink_model.specs.{Entries.{IsEntries, place_or_end, put}, MapState.Inserts};
 ghost use Rattle.hashlink_model.specs.{Lookups.{Updates, UpdatesLast}, Steps.Replaces};
-ghost use Rattle.hashlink_core.specs.Keyed.{state_of, entries_of};
+ghost use Rattle.hashlink_core.specs.{Keyed.{state_of, entries_of}, Steps.KeepsPlace};
+ghost use Rattle.hashlink_core.specs.Places.{Node, IsPlace, place_number};
 
 use super::LinkedHashMap;
+use hashlink_core::Node;
 use std::hash::{BuildHasher, Hash};
 
 impl<K: Eq + Hash, V, S: BuildHasher> LinkedHashMap<K, V, S> {
     ghost use Rattle.hashlink_map.specs.InsertLends.{LendsPutLast};
+
+    /// Inserts the pair directly before the place, and returns the old value of the key if there was one. If
+    /// the key is present, its entry keeps the stored key, takes the new value and moves directly before the
+    /// place, unless the place is its own. Each place stays on its entry.
+    // It is inlined, as a lookup is. Only the work for an absent key is a call.
+    #[inline(always)]
+    pub(crate) fn insert_at(
+        &mut self,
+        place: Option<Node>,
+        key: K,
+        value: V,
+    ) -> Result<Option<V>, (K, V)>
+    where
+        K: Drop,
+        requires within { IsPlace self.old.nodes place }
+        ensures inserts { Inserts K.eq (state_of self.old) (state_of self.new) key value
+            (place_number self.old.nodes place) result }
+        ensures updates { OnOk result
+            (Updates K.eq (entries_of self.old) (entries_of self.new) key (Some value)) }
+        ensures keeps { (p : Option Node) → IsPlace self.old.nodes p → KeepsPlace K.eq self.old self.new p }
+        ensures distinct { IsEntries K.eq (entries_of self.new) }
+    {
+        let hash = self.list.hash_of(&key);
+        let Some(node) = self.list.find(hash, &key) else {
+            self.list.insert_before(place, hash, key, value)?;
+            return Ok(None);
+        };
+        let old = self.list.replace_value(node, value);
+        if self.list.is_at(node, place) {
+            return Ok(Some(old));
+        }
+        self.list.move_before(node, place);
+        Ok(Some(old))
+    }
 
     /// Inserts the pair at the back, and returns the old value of the key if there was one. If the key is
     /// present, its entry keeps the stored key, takes the new value and moves to the back. It hashes the key
@@ -34,7 +70,7 @@ impl<K: Eq + Hash, V, S: BuildHasher> LinkedHashMap<K, V, S> {
         ensures there { IsSome (lookup (K.eq key) (entries_of self.old)) → IsOk result }
         ensures distinct { IsEntries K.eq (entries_of self.new) }
     {
-        self.list.insert(key, value)
+        self.insert_at(None, key, value)
     }
 
     /// Inserts the pair at the front, and returns the old value of the key if there was one. If the key is
@@ -57,7 +93,8 @@ impl<K: Eq + Hash, V, S: BuildHasher> LinkedHashMap<K, V, S> {
         ensures there { IsSome (lookup (K.eq key) (entries_of self.old)) → IsOk result }
         ensures distinct { IsEntries K.eq (entries_of self.new) }
     {
-        self.list.insert_front(key, value)
+        let first = self.first_node();
+        self.insert_at(first, key, value)
     }
 
     /// Sets the value of the key, and returns the old one if there was one. If the key is present, its entry
@@ -80,7 +117,12 @@ impl<K: Eq + Hash, V, S: BuildHasher> LinkedHashMap<K, V, S> {
         ensures there { IsSome (lookup (K.eq key) (entries_of self.old)) → IsOk result }
         ensures distinct { IsEntries K.eq (entries_of self.new) }
     {
-        self.list.replace(key, value)
+        let hash = self.list.hash_of(&key);
+        if let Some(node) = self.list.find(hash, &key) {
+            return Ok(Some(self.list.replace_value(node, value)));
+        }
+        self.list.insert_before(None, hash, key, value)?;
+        Ok(None)
     }
 
     /// Returns a mutable reference to the value of the key. If the key is present, its entry moves to the

@@ -51,7 +51,8 @@ impl<K: Eq + Hash, V, S: BuildHasher> LinkedHashMap<K, V, S> {
         ensures updates { UpdatesPopped K.eq (entries_of self.old) (entries_of self.new) result }
         ensures distinct { IsEntries K.eq (entries_of self.new) }
     {
-        self.list.pop_front()
+        let node = self.list.front()?;
+        Some(self.list.remove(node))
     }
 
     /// Removes the entry at the back, and returns it, or `None` if the map is empty. It takes constant time,
@@ -63,7 +64,8 @@ impl<K: Eq + Hash, V, S: BuildHasher> LinkedHashMap<K, V, S> {
         ensures updates { UpdatesPopped K.eq (entries_of self.old) (entries_of self.new) result }
         ensures distinct { IsEntries K.eq (entries_of self.new) }
     {
-        self.list.pop_back()
+        let node = self.list.back()?;
+        Some(self.list.remove(node))
     }
 
     /// Drops every entry and releases its node. The nodes that were free before and the room stay. It takes

@@ -61,6 +61,14 @@ impl<K: Eq + Hash, V, S: BuildHasher> LinkedHashMap<K, V, S> {
             (entries_of self.new) }
         ensures distinct { IsEntries K.eq (entries_of self.new) }
     {
-        self.list.retain_in_order(keep);
+        let list = &mut self.list;
+        let mut place = list.front();
+        while let Some(node) = place {
+            place = list.next(place);
+            let (key, value) = list.entry_mut(node);
+            if !keep(key, value) {
+                list.remove(node);
+            }
+        }
     }
 }

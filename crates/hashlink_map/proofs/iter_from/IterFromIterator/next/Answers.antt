@@ -16,8 +16,8 @@ pub returns-clause-steps : goal.returns-clause-steps
 returns-clause-steps g c =
     let i = c.self.inside in let ns = i.map.now.nodes in
     sym c.self.view_is ∙ ap (λ p. drop (place_number ns p) (entries_of i.map.now)) c.in_ok-node.was
-    ∙ from-following (entries_of i.map.now) _ _ (deref_pair c.pair_at.result) c.pair_at.ensures
-    c.place_after-self-inside.ensures.number
+    ∙ from-following (entries_of i.map.now) _ _ (deref_pair c.entry.result)
+    (rw c.map.view_is at c.entry.ensures) (rw c.map.view_is at c.next-self-inside.ensures.number)
 
 pub returns-clause-goes : goal.returns-clause-goes
 returns-clause-goes g c =

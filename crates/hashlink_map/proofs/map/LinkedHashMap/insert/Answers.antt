@@ -1,18 +1,17 @@
-use Rattle.hashlink_model.proofs.Updates.{updates-inserted}
-use Rattle.hashlink_map.proofs.Outcomes.{inserts_outcome, inserts_added}
+use Rattle.hashlink_map.proofs.{Names.guard-number, Outcomes.{inserts_outcome, inserts_added}}
 use Rattle.hashlink_map.proofs.map.LinkedHashMap.insert.Goals as goal
 
 pub returns : goal.returns
 returns g c =
-    let e = c.insert.ensures in
-    let outcome = inserts_outcome _ _ _ _ _ _ _ e.inserts in
-    rw (← c.self.view_is) (record {
-      inserts = e.inserts;
+    let e = c.insert_at.ensures in
+    let inserts = rw (guard-number c.args.self.now) at e.inserts in
+    let outcome = inserts_outcome _ _ _ _ _ _ _ inserts in
+    record {
+      inserts = inserts;
       entries = outcome.0;
-      updates = updates-inserted g.K.PartialEq.eq g.met.K.Eq.laws c.insert.result _ _ c.args.key
-          c.args.value _ e.was_sound.distinct outcome.0;
-      added = inserts_added _ _ _ _ _ _ e.inserts;
+      updates = e.updates;
+      added = inserts_added _ _ _ _ _ _ inserts;
       old = outcome.1;
       there = outcome.2;
-      distinct = e.sound.distinct;
-    })
+      distinct = e.distinct;
+    }

@@ -1,14 +1,16 @@
-use Rattle.hashlink_model.proofs.Updates.{updates-pop_back}
-use Rattle.hashlink_map.proofs.Taking.{pop-takes_last}
+use Rattle.hashlink_map.proofs.Names.{None, Some, arith}
+use Rattle.hashlink_map.proofs.Taking.{pops-last, pops-none, popped_back}
 use Rattle.hashlink_map.proofs.map.LinkedHashMap.pop_back.Goals as goal
+
+pub returns-in_err-node : goal.returns-in_err-node
+returns-in_err-node g c =
+    let m = c.self.inside.list in let e = c.in_err-node.ensures in
+    rw (c.from_residual.ensures, ← c.self.view_is) (popped_back m m g.met.K.Eq.laws e.sound e.sound None
+    (pops-none m m (omega (arith, e.place.number))).1)
 
 pub returns : goal.returns
 returns g c =
-    let e = c.pop_back.ensures in let takes = pop-takes_last _ _ _ e.pops in
-    rw (← c.self.view_is) (record {
-      pops = e.pops;
-      entries = takes;
-      updates = updates-pop_back g.K.PartialEq.eq g.met.K.Eq.laws c.pop_back.result _ _ e.was_sound.distinct
-          takes;
-      distinct = e.sound.distinct;
-    })
+    let m = c.self.inside.list in let e = c.remove.ensures in
+    rw (← c.self.view_is) (popped_back m c.remove.new.self g.met.K.Eq.laws e.was_sound e.sound
+    (Some c.remove.result) (pops-last m c.remove.new.self c.in_ok-node.node c.remove.result e.pair e.removed
+    c.in_ok-node.ensures.place))

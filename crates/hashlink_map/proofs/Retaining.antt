@@ -118,7 +118,7 @@ module _ {F K V S : Type 0} {eq : K → K → Bool} {T : F → K → V → Bool 
       -- the closure was called, and q is the place after n
       module _ {b : Bool} {w : V} {f' : F} {q : Option Node} (call : T f k v b w f')
           (next : IsPlaceAt m.nodes q
-          (following_place (length m.nodes) (place_number m.nodes (Some n)))) where
+          (following_place (length (entries_of m)) (place_number m.nodes (Some n)))) where
         callable-after : CallableOnEachPair T Q f' rest.0
         callable-after = record {
           at = λ before after g k' v' is folds. callable-here.at ((k, v) ∷ before) after g k' v'
@@ -150,8 +150,10 @@ module _ {F K V S : Type 0} {eq : K → K → Bool} {T : F → K → V → Bool 
           length-append found.done ((k, w) ∷ rest.0),
         )
 
-        inside : place_number m.nodes (Some n) < length m.nodes
-        inside = (node-at m.nodes n (subst (IsPlace m.nodes) here found.within)).1.within
+        inside : place_number m.nodes (Some n) < length (entries_of m)
+        inside =
+            let held = node-at m.nodes n (subst (IsPlace m.nodes) here found.within) in
+            omega (arith, held.1.within, length-values_of m.nodes)
 
         place-now : (o : Option Node) → place_number wrote.nodes o ≡ place_number m.nodes o
         place-now = place_number-renewed (pair_with_value w) m.nodes (place_number m.nodes (Some n))
@@ -161,7 +163,7 @@ module _ {F K V S : Type 0} {eq : K → K → Bool} {T : F → K → V → Bool 
 
         next-now : place_number wrote.nodes q ≡ suc (length found.done)
         next-now = place-now q ∙ next.number
-            ∙ following-within (length m.nodes) (place_number m.nodes (Some n)) inside ∙ ap suc place
+            ∙ following-within (length (entries_of m)) (place_number m.nodes (Some n)) inside ∙ ap suc place
 
         -- the closure kept the pair
         pub pair-kept : b ≡ true → Retaining eq T Q start old f' wrote q

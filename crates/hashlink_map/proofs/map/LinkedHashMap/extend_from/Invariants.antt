@@ -2,7 +2,7 @@
 use Rattle.hashlink_core.proofs.Names.{◌≡◌, ◌-◌, ◌^◌, length, min, AcceptsAll, InsertsPair, state_of}
 use Rattle.std.specs.Iterator.{EndsFrom, items_left}
 use Rattle.std.proofs.iter.Next as it
-use Rattle.hashlink_core.proofs.keyed_list.KeyedList.extend_from.Given as goal
+use Rattle.hashlink_map.proofs.map.LinkedHashMap.extend_from.Given as goal
 
 abbrev pub invariant-loop-key : goal.invariant-loop-key
 invariant-loop-key g l =
