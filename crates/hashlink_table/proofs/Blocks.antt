@@ -43,6 +43,12 @@ bit_is : (b : Bool) → eqb (cond b 1 0) 1 ≡ b
 bit_is true = refl
 bit_is false = refl
 
+-- a bit is its test
+is_bit : (n : ℕ) → n < 2 → n ≡ cond (eqb n 1) 1 0
+is_bit zero h = refl
+is_bit (suc zero) h = refl
+is_bit (suc (suc n)) h = absurd (omega arith)
+
 module _ (tags : List ℕ) (owns guests : ℕ) where
   abbrev marks : List Mark
   marks = map (mark_of tags owns guests) (range_with_len 0 16)
@@ -116,3 +122,14 @@ module _ (tags : List ℕ) (owns guests : ℕ) where
               guest_there k small ne,
             ) refl
       ]))
+
+  -- a node of the group is put, and the bit for a guest stays
+  pub marks-own : (lane tag own : ℕ) → lane < 16 → length tags ≡ 16 → bit_at own lane ≡ 1
+      → ((i : ℕ) → i < 16 → i ≢ lane → bit_at own i ≡ bit_at owns i)
+      → map (mark_of (set tags lane tag) own guests) (range_with_len 0 16)
+      ≡ set marks lane (record (get_or marks lane free_mark) { tag = tag; own = true })
+  marks-own lane tag own low long here there =
+      let stays = is_bit (bit_at guests lane) (bit_at-lt guests lane) in
+      marks-set lane (record (mark_of tags owns guests lane) { tag = tag; own = true }) own guests low long here
+      there stays (λ i _ _. refl)
+      ∙ ap (λ (m : Mark). set marks lane (record m { tag = tag; own = true })) (sym (mark_read lane low))

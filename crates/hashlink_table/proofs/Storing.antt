@@ -266,19 +266,19 @@ module _ {N : Type 0} {ts : List Mark} {ns : List N} {rs : List Rest} {v : List 
     next_read r at_r = rw (at_r ∙ rest_at r) (ap (λ (d : Cell N). d.next) cell_at, stored.small)
 
     -- a node was put into it or taken out of it, or it has another link
-    abbrev own_mark : ℕ → Mark
-    own_mark hash = record { tag = tag_of hash; own = true; guest = false }
+    abbrev own_mark : ℕ → Bool → Mark
+    own_mark hash guest = record { tag = tag_of hash; own = true; guest = guest }
 
     abbrev guest_mark : ℕ → Mark
     guest_mark hash = record { tag = tag_of hash; own = false; guest = true }
 
-    pub put_in : (k : Hashed N) (r : Rest) → r ≡ get_or rs i r
-        → AreCells (set ts i (own_mark k.hash)) (set ns i k.node) (set rs i (record r { hash = k.hash }))
-        (with_kept v i k)
-    put_in k r at_r =
+    pub put_in : (k : Hashed N) (guest : Bool) (r : Rest) → r ≡ get_or rs i r
+        → AreCells (set ts i (own_mark k.hash guest)) (set ns i k.node)
+        (set rs i (record r { hash = k.hash })) (with_kept v i k)
+    put_in k guest r at_r =
         let next = next_read r at_r in
-        written i (record { mark = own_mark k.hash; node = k.node; rest = record r { hash = k.hash } }) _ _ _
-        _
+        written i
+        (record { mark = own_mark k.hash guest; node = k.node; rest = record r { hash = k.hash } }) _ _ _ _
         (record { tagged = λ _. refl; small = next.1 }) refl refl refl (rw next.0 refl)
 
     pub guest_put_in : (k : Hashed N) (next : ℕ) → next ≤ END

@@ -1,5 +1,6 @@
 ghost use Rattle.std.specs.Prelude.{◌≡◌, ◌-◌, ◌*◌, ◌^◌, ◌%◌, ◌≤◌, max};
 ghost use Rattle.std.specs.Int.{IsPowerOfTwo};
+ghost use Rattle.hashlink_table.specs.Stored.{tag_of};
 
 use super::lanes::LANES;
 
@@ -20,6 +21,15 @@ pub fn base_of(hash: u32, buckets: usize) -> usize
     ensures { result ≡ hash % buckets - hash % buckets % LANES }
 {
     (hash as usize) & (buckets - LANES)
+}
+
+/// Returns the tag of a hash: the four bits that select the hash's bucket in its group, and four on which the
+/// bucket does not depend.
+#[inline]
+pub fn tag(hash: u32) -> u8
+    ensures { result ≡ tag_of hash }
+{
+    (hash % 16 * 16 + hash / (1 << 28)) as u8
 }
 
 /// Returns the first slot of this slot's group.

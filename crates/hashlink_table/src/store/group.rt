@@ -1,5 +1,5 @@
 //! What is stored for a group of sixteen slots.
-ghost use Rattle.std.specs.Prelude.{◌≡◌, ◌≢◌, ℕ, ◌<◌, cond, map, replicate, slice_index_or, slice_set};
+ghost use Rattle.std.specs.Prelude.{◌≡◌, ◌≢◌, ℕ, ◌<◌, cond, map, replicate, slice_index_or, slice_set, true};
 ghost use Rattle.std.specs.{Int.{bit_at}, Simd.Lanes.{mask_l}};
 ghost use Rattle.hashlink_table.specs.{Blocks.{free_mark, has_own, is_free}, Stored.{no_guests}};
 
@@ -79,6 +79,19 @@ impl Group {
         self.tags[lane] = mark.tag;
         self.owns = with_bit(self.owns, lane, mark.own);
         self.guests = with_bit(self.guests, lane, mark.guest);
+    }
+
+    /// Sets the mark of a slot to one with a node of the group. Whether it had a guest need not be cleared.
+    #[inline]
+    pub fn set_own(&mut self, lane: usize, tag: u8)
+        requires { lane < LANES }
+        ensures { self.new ≡ record self.old {
+          marks = slice_set self.old.marks lane
+              (record (slice_index_or self.old.marks lane free_mark) { tag = tag; own = true });
+        } }
+    {
+        self.tags[lane] = tag;
+        self.owns = with_bit(self.owns, lane, true);
     }
 
     /// Returns which slots have a node of the group with this tag, one bit for each.

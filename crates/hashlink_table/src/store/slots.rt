@@ -9,6 +9,7 @@ ghost use Rattle.hashlink_table.specs.Chains.{guest_at, kept_at, next_at, own_at
 ghost use Rattle.hashlink_table.specs.Blocks.{has_guest, is_guest, is_taken};
 ghost use Rattle.hashlink_table.specs.Stored.{bare_cell, no_guests, tag_of};
 
+use super::bucket::tag;
 use super::cell::END;
 use super::group::Group;
 use super::head::Head;
@@ -56,15 +57,6 @@ const BARE_REST: Rest = Rest {
     hash: 0,
     link: END as u32,
 };
-
-// Returns the tag of a hash: the four bits that select the hash's bucket in its group, and four on which the
-// bucket does not depend.
-#[inline]
-fn tag(hash: u32) -> u8
-    ensures { result ≡ tag_of hash }
-{
-    (hash % 16 * 16 + hash / (1 << 28)) as u8
-}
 
 // Returns whether a slot with this mark has a node.
 #[inline]
@@ -258,12 +250,7 @@ impl<N: Copy> Slots<N> {
         requires { at < length self.old.cells }
         ensures { self.new ≡ record self.old { cells = with_kept self.old.cells at kept } }
     {
-        let mark = Mark {
-            tag: tag(kept.hash),
-            own: true,
-            guest: false,
-        };
-        self.groups[at / LANES].set_mark(at % LANES, mark);
+        self.groups[at / LANES].set_own(at % LANES, tag(kept.hash));
         self.nodes[at] = kept.node;
         self.rests[at].hash = kept.hash;
     }
