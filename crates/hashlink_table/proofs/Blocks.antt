@@ -5,7 +5,7 @@ use Rattle.hashlink_table.proofs.Names.{eqb, List, map, length, get_or, set, max
 use Rattle.hashlink_table.proofs.Names.{cases_eq}
 use Rattle.hashlink_table.proofs.Names.{get_or-set_same, get_or-set_other, get_or-map, length-map, length-set}
 use Rattle.hashlink_table.proofs.Names.{bit_and, bit_at, mask_l}
-use Rattle.hashlink_table.specs.Blocks.{has_own, is_free, mark_of, free_mark}
+use Rattle.hashlink_table.specs.Blocks.{has_own, is_free, is_taken, mark_of, free_mark}
 use Rattle.hashlink_table.specs.declared.store.mark.Mark.{Mark}
 use Rattle.std.specs.{List.range_with_len, Prelude.{bit_or, min}}
 use Rattle.std.proofs.Common.{w16}
@@ -37,6 +37,14 @@ neither (suc zero) zero h k = refl
 neither (suc zero) (suc zero) h k = refl
 neither m (suc (suc n)) h k = absurd (omega arith)
 neither (suc (suc m)) n h k = absurd (omega arith)
+
+either : (m n : ℕ) → m < 2 → n < 2 → max m n ≡ cond (cond (eqb m 1) true (eqb n 1)) 1 0
+either zero zero h k = refl
+either zero (suc zero) h k = refl
+either (suc zero) zero h k = refl
+either (suc zero) (suc zero) h k = refl
+either m (suc (suc n)) h k = absurd (omega arith)
+either (suc (suc m)) n h k = absurd (omega arith)
 
 -- a test of the bit is the bit
 bit_is : (b : Bool) → eqb (cond b 1 0) 1 ≡ b
@@ -80,6 +88,15 @@ module _ (tags : List ℕ) (owns guests : ℕ) where
       ∙ ap (λ b. min (cond b 1 0) (bit_at owns i)) read
       ∙ both (eqb (get_or tags i 0) tag) (bit_at owns i) (bit_at-lt owns i)
       ∙ ap (λ b. cond b 1 0) (sym (test_read (has_own tag) i low)))
+
+  -- the slots with nodes
+  pub taken_mask : owns < 2 ^ 16 → guests < 2 ^ 16 → bit_or owns guests ≡ mask_l (map is_taken marks)
+  taken_mask small few =
+      by_bits (bit_or owns guests) (map is_taken marks) (or_lt 16 owns guests small few) (tests_long is_taken)
+      (λ i low.
+      bit_at_or owns guests i
+      ∙ either (bit_at owns i) (bit_at guests i) (bit_at-lt owns i) (bit_at-lt guests i)
+      ∙ ap (λ b. cond b 1 0) (sym (test_read is_taken i low)))
 
   -- the slots without nodes
   pub free_mask : owns < 2 ^ 16 → guests < 2 ^ 16 → 65535 - bit_or owns guests ≡ mask_l (map is_free marks)

@@ -99,7 +99,7 @@ module _ {N : Type 0} (row : Row N) (is : IsStored row) where
             ≡ is_none (cond guest (Some (node_of row)) None)) [ true ↦ refl | false ↦ refl ]
       ]
 
-  agrees_taken : is_taken row.mark ≡ is_some (let c : Cell N = slot row in c.kept)
+  pub agrees_taken : is_taken row.mark ≡ is_some (let c : Cell N = slot row in c.kept)
   agrees_taken =
       elim (is_taken row.mark) as (λ b. b ≡ is_some (cond b (Some (node_of row)) None)) [
         | true ↦ refl

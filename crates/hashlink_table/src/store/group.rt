@@ -1,7 +1,7 @@
 //! What is stored for a group of sixteen slots.
 ghost use Rattle.std.specs.Prelude.{◌≡◌, ◌≢◌, ℕ, ◌<◌, cond, map, replicate, slice_index_or, slice_set, true};
 ghost use Rattle.std.specs.{Int.{bit_at}, Simd.Lanes.{mask_l}};
-ghost use Rattle.hashlink_table.specs.{Blocks.{free_mark, has_own, is_free}, Stored.{no_guests}};
+ghost use Rattle.hashlink_table.specs.{Blocks.{free_mark, has_own, is_free, is_taken}, Stored.{no_guests}};
 
 use super::head::{Head, NO_GUESTS};
 use super::lanes::LANES;
@@ -111,6 +111,14 @@ impl Group {
         ensures { result ≡ mask_l (map is_free self.now.marks) }
     {
         u64::from(!(self.owns | self.guests))
+    }
+
+    /// Returns which slots have a node, one bit for each.
+    #[inline]
+    pub fn taken(&self) -> u64
+        ensures { result ≡ mask_l (map is_taken self.now.marks) }
+    {
+        u64::from(self.owns | self.guests)
     }
 
     /// Returns the chain of the group's guests.

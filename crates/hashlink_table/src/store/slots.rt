@@ -58,14 +58,6 @@ const BARE_REST: Rest = Rest {
     link: END as u32,
 };
 
-// Returns whether a slot with this mark has a node.
-#[inline]
-fn has_node(mark: Mark) -> bool
-    ensures { result ≡ is_taken mark }
-{
-    mark.own || mark.guest
-}
-
 // Returns whether a slot with this mark has a guest.
 #[inline]
 fn has_any_guest(mark: Mark) -> bool
@@ -231,19 +223,6 @@ impl<N: Copy> Slots<N> {
         }
     }
 
-    /// Returns the hash and the node of a slot, if there is a node, for a move of the node.
-    #[inline]
-    pub(super) fn kept(&self, at: usize) -> Option<Hashed<N>>
-        requires { at < length self.now.cells }
-        ensures { result ≡ kept_at self.now.cells at }
-    {
-        if has_node(self.mark(at)) {
-            Some(self.known(at))
-        } else {
-            None
-        }
-    }
-
     /// Puts a node into a slot of its group, in place of its old node, if any.
     #[inline]
     pub fn put(&mut self, at: usize, kept: Hashed<N>)
@@ -305,6 +284,17 @@ impl<N: Copy> Slots<N> {
         ensures small { base + LANES < 2 ^ 64 }
     {
         self.groups[base / LANES].free()
+    }
+
+    /// Returns which of the sixteen slots from `base` on have a node, one bit for each.
+    #[inline]
+    pub(super) fn taken(&self, base: usize) -> u64
+        requires within { base + LANES ≤ length self.now.cells }
+        requires whole { base % LANES ≡ 0 }
+        ensures lanes { result ≡ mask_l (map (λ c. is_some c.kept) (lanes_of self.now.cells base)) }
+        ensures small { base + LANES < 2 ^ 64 }
+    {
+        self.groups[base / LANES].taken()
     }
 
     /// Removes all nodes, and ends all chains.
