@@ -2,7 +2,7 @@
 use Rattle.hashlink_table.proofs.Names.{◌≡◌, ◌≢◌, ℕ, zero, suc, ◌-◌, ◌^◌, ◌<◌, inl, inr, Bool, true}
 use Rattle.hashlink_table.proofs.Names.{false, cond}
 use Rattle.hashlink_table.proofs.Names.{eqb, List, map, length, get_or, set, max, refl, sym, ap, ◌∙◌, arith}
-use Rattle.hashlink_table.proofs.Names.{cases_eq}
+use Rattle.hashlink_table.proofs.Names.{cases_eq, set-get_or}
 use Rattle.hashlink_table.proofs.Names.{get_or-set_same, get_or-set_other, get_or-map, length-map, length-set}
 use Rattle.hashlink_table.proofs.Names.{bit_and, bit_at, mask_l}
 use Rattle.hashlink_table.specs.Blocks.{has_own, is_free, is_taken, mark_of, free_mark}
@@ -150,3 +150,15 @@ module _ (tags : List ℕ) (owns guests : ℕ) where
       marks-set lane (record (mark_of tags owns guests lane) { tag = tag; own = true }) own guests low long here
       there stays (λ i _ _. refl)
       ∙ ap (λ (m : Mark). set marks lane (record m { tag = tag; own = true })) (sym (mark_read lane low))
+
+  -- the node is taken out, and the tag stays
+  pub marks-free : (lane own guest : ℕ) → lane < 16 → length tags ≡ 16 → bit_at own lane ≡ 0
+      → ((i : ℕ) → i < 16 → i ≢ lane → bit_at own i ≡ bit_at owns i)
+      → bit_at guest lane ≡ 0 → ((i : ℕ) → i < 16 → i ≢ lane → bit_at guest i ≡ bit_at guests i)
+      → map (mark_of tags own guest) (range_with_len 0 16)
+      ≡ set marks lane (record (get_or marks lane free_mark) { own = false; guest = false })
+  marks-free lane own guest low long own_here own_there guest_here guest_there =
+      ap (λ ts. map (mark_of ts own guest) (range_with_len 0 16)) (sym (set-get_or tags lane 0))
+      ∙ marks-set lane (record (mark_of tags owns guests lane) { own = false; guest = false }) own guest low
+      long own_here own_there guest_here guest_there
+      ∙ ap (λ (m : Mark). set marks lane (record m { own = false; guest = false })) (sym (mark_read lane low))

@@ -1,14 +1,14 @@
 -- The slots, from what is stored to what contracts see.
 use Rattle.hashlink_table.proofs.Names
 use Names.{◌≡◌, ℕ, zero, suc, ◌<◌, ◌≤◌, Bool, true, false, cond, ◌∷◌, eqb, List, [], length}
-use Names.{map, take, drop, get_or, set, replicate, Some, None, refl, sym, ap, ◌∙◌, subst, arith, is_none}
+use Names.{map, not, take, drop, get_or, set, replicate, Some, None, refl, sym, ap, ◌∙◌, subst, arith, is_none}
 use Names.{is_some, IfSome, All, chunk, false≢true, get_or-map, length-map, map-id}
 use Names.{map-set}
 use Names.{set-get_or, take-map, drop-map, All-get_or, All-head, All-map, All-set, All-tail}
 use Names.{map-map, splat_is_map, Hashed, Cell, END, Rest, kept_at, next_at, own_at, own_of, guest_at}
 use Names.{guest_of}
 use Names.{bare_cell, tag_of, slot, cells_in, may_be, kept_may_be, with_guest, with_kept, with_next}
-use Names.{without_kept, IsStored, IsTagged, Row, Option, Mark, free_mark, has_guest, has_own, is_free}
+use Names.{without_kept, IsStored, IsTagged, Row, Mark, free_mark, has_guest, has_own, is_free}
 use Names.{is_guest}
 use Names.{is_taken}
 use Rattle.std.specs.{Prelude.IsSome, Simd.Lanes.mask_l}
@@ -75,14 +75,11 @@ module _ {N : Type 0} where
       let rest = tests-cells p q agree rows (All-tail IsStored row rows h) in
       cc
 
--- a slot with a guest has a node
-pub taken_guest : {A : Type 0} (m : Mark) (o : Option A) → is_guest m ≡ true → is_taken m ≡ is_some o → IsSome
-    o
-taken_guest m o guest there =
-    let taken : is_taken m ≡ true = elim m.own
-    as (λ own. cond own false m.guest ≡ true → cond own true m.guest ≡ true)
-    [ true ↦ λ _. refl | false ↦ λ e. e ] guest in
-    sym there ∙ taken
+-- a slot with a node has a guest if it has none of its group
+pub taken_guest : (m : Mark) → is_taken m ≡ true → not m.own ≡ is_guest m
+taken_guest m taken =
+    elim m.own as (λ own. cond own true m.guest ≡ true → not own ≡ cond own false m.guest)
+    [ true ↦ λ _. refl | false ↦ λ e. sym e ] taken
 
 -- the node for which this is stored, if there is one
 abbrev pub node_of : {N : Type 0} → Row N → Hashed N
@@ -289,9 +286,10 @@ module _ {N : Type 0} {ts : List Mark} {ns : List N} {rs : List Rest} {v : List 
         (record { mark = guest_mark k.hash; node = k.node; rest = record { hash = k.hash; link = next } })
         _ _ _ _ (record { tagged = λ _. refl; small = small }) refl refl refl refl
 
-    pub freed : AreCells (set ts i free_mark) ns rs (without_kept v i)
-    freed =
-        written i (record row { mark = free_mark }) _ _ _ _
+    pub freed : (tag : ℕ) → let m : Mark = record { tag = tag; own = false; guest = false } in
+        AreCells (set ts i m) ns rs (without_kept v i)
+    freed tag =
+        written i (record row { mark = record { tag = tag; own = false; guest = false } }) _ _ _ _
         (record { tagged = λ e. absurd (false≢true e); small = stored.small }) refl
         node_stays rest_stays (ap (λ (d : Cell N). record d { kept = None; guest = false }) cell_at)
 

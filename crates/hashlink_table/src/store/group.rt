@@ -1,5 +1,5 @@
 //! What is stored for a group of sixteen slots.
-ghost use Rattle.std.specs.Prelude.{◌≡◌, ◌≢◌, ℕ, ◌<◌, cond, map, replicate, slice_index_or, slice_set, true};
+ghost use Rattle.std.specs.Prelude.{◌≡◌, ◌≢◌, ℕ, ◌<◌, cond, map, replicate, slice_index_or, slice_set, false, true};
 ghost use Rattle.std.specs.{Int.{bit_at}, Simd.Lanes.{mask_l}};
 ghost use Rattle.hashlink_table.specs.{Blocks.{free_mark, has_own, is_free, is_taken}, Stored.{no_guests}};
 
@@ -70,15 +70,31 @@ impl Group {
         }
     }
 
-    /// Sets the mark of a slot.
+    /// Sets the mark of a slot to one with a guest.
     #[inline]
-    pub fn set_mark(&mut self, lane: usize, mark: Mark)
+    pub fn set_guest(&mut self, lane: usize, tag: u8)
         requires { lane < LANES }
-        ensures { self.new ≡ record self.old { marks = slice_set self.old.marks lane mark } }
+        ensures { self.new ≡ record self.old {
+          marks = slice_set self.old.marks lane
+              (record { tag = tag; own = false; guest = true });
+        } }
     {
-        self.tags[lane] = mark.tag;
-        self.owns = with_bit(self.owns, lane, mark.own);
-        self.guests = with_bit(self.guests, lane, mark.guest);
+        self.tags[lane] = tag;
+        self.owns = with_bit(self.owns, lane, false);
+        self.guests = with_bit(self.guests, lane, true);
+    }
+
+    /// Sets the mark of a slot to one without a node. The tag need not be cleared.
+    #[inline]
+    pub fn set_free(&mut self, lane: usize)
+        requires { lane < LANES }
+        ensures { self.new ≡ record self.old {
+          marks = slice_set self.old.marks lane
+              (record (slice_index_or self.old.marks lane free_mark) { own = false; guest = false });
+        } }
+    {
+        self.owns = with_bit(self.owns, lane, false);
+        self.guests = with_bit(self.guests, lane, false);
     }
 
     /// Sets the mark of a slot to one with a node of the group. Whether it had a guest need not be cleared.

@@ -14,7 +14,7 @@ use super::cell::END;
 use super::group::Group;
 use super::head::Head;
 use super::lanes::LANES;
-use super::mark::{FREE, Mark};
+use super::mark::Mark;
 use super::repeated::repeated;
 use crate::hashed::Hashed;
 use crate::steps::Steps;
@@ -58,20 +58,12 @@ const BARE_REST: Rest = Rest {
     link: END as u32,
 };
 
-// Returns whether a slot with this mark has a guest.
-#[inline]
-fn has_any_guest(mark: Mark) -> bool
-    ensures { result ≡ is_guest mark }
-{
-    !mark.own && mark.guest
-}
-
 // Returns whether a slot with this mark has a guest with this tag.
 #[inline]
 fn has_guest_with(mark: Mark, tag: u8) -> bool
     ensures { result ≡ has_guest tag mark }
 {
-    has_any_guest(mark) && mark.tag == tag
+    !mark.own && mark.guest && mark.tag == tag
 }
 
 // Adds groups without nodes. There has to be room for them.
@@ -170,14 +162,13 @@ impl<N: Copy> Slots<N> {
         self.groups[at / LANES].mark(at % LANES)
     }
 
-    /// Returns whether a slot has a guest.
+    /// Returns whether a slot that has to have a node has a guest.
     #[inline]
     pub fn is_guest(&self, at: usize) -> bool
-        requires { at < length self.now.cells }
-        ensures value { result ≡ (slice_index_or self.now.cells at bare_cell).guest }
-        ensures there { IsTrue result → IsSome (kept_at self.now.cells at) }
+        requires { IsSome (kept_at self.now.cells at) }
+        ensures { result ≡ (slice_index_or self.now.cells at bare_cell).guest }
     {
-        has_any_guest(self.mark(at))
+        !self.mark(at).own
     }
 
     /// Returns whether a slot may have a guest of this hash. It has a guest with the hash's tag then.
@@ -241,12 +232,7 @@ impl<N: Copy> Slots<N> {
         requires small { next ≤ END }
         ensures { self.new ≡ record self.old { cells = with_guest self.old.cells at kept next } }
     {
-        let mark = Mark {
-            tag: tag(kept.hash),
-            own: false,
-            guest: true,
-        };
-        self.groups[at / LANES].set_mark(at % LANES, mark);
+        self.groups[at / LANES].set_guest(at % LANES, tag(kept.hash));
         self.nodes[at] = kept.node;
         self.rests[at] = Rest {
             hash: kept.hash,
@@ -260,7 +246,7 @@ impl<N: Copy> Slots<N> {
         requires { at < length self.old.cells }
         ensures { self.new ≡ record self.old { cells = without_kept self.old.cells at } }
     {
-        self.groups[at / LANES].set_mark(at % LANES, FREE);
+        self.groups[at / LANES].set_free(at % LANES);
     }
 
     /// Returns which of the sixteen slots from `base` on may have a node of this hash that is no guest, one
