@@ -13,16 +13,6 @@ pub fn bucket_of(hash: u32, buckets: usize) -> usize
     (hash as usize) & (buckets - 1)
 }
 
-/// Returns the first slot of the group to which a hash belongs.
-#[inline]
-pub fn base_of(hash: u32, buckets: usize) -> usize
-    requires power { IsPowerOfTwo buckets }
-    requires whole { buckets % LANES ≡ 0 }
-    ensures { result ≡ hash % buckets - hash % buckets % LANES }
-{
-    (hash as usize) & (buckets - LANES)
-}
-
 /// Returns the tag of a hash: the four bits that select the hash's bucket in its group, and four on which the
 /// bucket does not depend.
 #[inline]
@@ -38,6 +28,15 @@ pub fn group_of(at: usize) -> usize
     ensures { result ≡ at - at % LANES }
 {
     at - at % LANES
+}
+
+/// Returns the first slot of the group to which a hash belongs.
+#[inline]
+pub fn base_of(hash: u32, buckets: usize) -> usize
+    requires { IsPowerOfTwo buckets }
+    ensures { result ≡ hash % buckets - hash % buckets % LANES }
+{
+    group_of(bucket_of(hash, buckets))
 }
 
 /// Returns the number of slots of a table with this room: the least power of two of which the room is at most
