@@ -2,10 +2,10 @@
 use Rattle.hashlink_table.proofs.Names.{◌≡◌, ◌≢◌, ℕ, zero, suc, ◌-◌, ◌^◌, ◌<◌, inl, inr, Bool, true}
 use Rattle.hashlink_table.proofs.Names.{false, cond}
 use Rattle.hashlink_table.proofs.Names.{eqb, List, map, length, get_or, set, max, refl, sym, ap, ◌∙◌, arith}
-use Rattle.hashlink_table.proofs.Names.{cases_eq}
+use Rattle.hashlink_table.proofs.Names.{cases_eq, set-get_or}
 use Rattle.hashlink_table.proofs.Names.{get_or-set_same, get_or-set_other, get_or-map, length-map, length-set}
 use Rattle.hashlink_table.proofs.Names.{bit_and, bit_at, mask_l}
-use Rattle.hashlink_table.specs.Blocks.{has_own, is_free, mark_of, free_mark}
+use Rattle.hashlink_table.specs.Blocks.{has_own, is_free, is_taken, mark_of, free_mark}
 use Rattle.hashlink_table.specs.declared.store.mark.Mark.{Mark}
 use Rattle.std.specs.{List.range_with_len, Prelude.{bit_or, min}}
 use Rattle.std.proofs.Common.{w16}
@@ -38,10 +38,24 @@ neither (suc zero) (suc zero) h k = refl
 neither m (suc (suc n)) h k = absurd (omega arith)
 neither (suc (suc m)) n h k = absurd (omega arith)
 
+either : (m n : ℕ) → m < 2 → n < 2 → max m n ≡ cond (cond (eqb m 1) true (eqb n 1)) 1 0
+either zero zero h k = refl
+either zero (suc zero) h k = refl
+either (suc zero) zero h k = refl
+either (suc zero) (suc zero) h k = refl
+either m (suc (suc n)) h k = absurd (omega arith)
+either (suc (suc m)) n h k = absurd (omega arith)
+
 -- a test of the bit is the bit
 bit_is : (b : Bool) → eqb (cond b 1 0) 1 ≡ b
 bit_is true = refl
 bit_is false = refl
+
+-- a bit is its test
+is_bit : (n : ℕ) → n < 2 → n ≡ cond (eqb n 1) 1 0
+is_bit zero h = refl
+is_bit (suc zero) h = refl
+is_bit (suc (suc n)) h = absurd (omega arith)
 
 module _ (tags : List ℕ) (owns guests : ℕ) where
   abbrev marks : List Mark
@@ -74,6 +88,15 @@ module _ (tags : List ℕ) (owns guests : ℕ) where
       ∙ ap (λ b. min (cond b 1 0) (bit_at owns i)) read
       ∙ both (eqb (get_or tags i 0) tag) (bit_at owns i) (bit_at-lt owns i)
       ∙ ap (λ b. cond b 1 0) (sym (test_read (has_own tag) i low)))
+
+  -- the slots with nodes
+  pub taken_mask : owns < 2 ^ 16 → guests < 2 ^ 16 → bit_or owns guests ≡ mask_l (map is_taken marks)
+  taken_mask small few =
+      by_bits (bit_or owns guests) (map is_taken marks) (or_lt 16 owns guests small few) (tests_long is_taken)
+      (λ i low.
+      bit_at_or owns guests i
+      ∙ either (bit_at owns i) (bit_at guests i) (bit_at-lt owns i) (bit_at-lt guests i)
+      ∙ ap (λ b. cond b 1 0) (sym (test_read is_taken i low)))
 
   -- the slots without nodes
   pub free_mask : owns < 2 ^ 16 → guests < 2 ^ 16 → 65535 - bit_or owns guests ≡ mask_l (map is_free marks)
@@ -116,3 +139,26 @@ module _ (tags : List ℕ) (owns guests : ℕ) where
               guest_there k small ne,
             ) refl
       ]))
+
+  -- a node of the group is put, and the bit for a guest stays
+  pub marks-own : (lane tag own : ℕ) → lane < 16 → length tags ≡ 16 → bit_at own lane ≡ 1
+      → ((i : ℕ) → i < 16 → i ≢ lane → bit_at own i ≡ bit_at owns i)
+      → map (mark_of (set tags lane tag) own guests) (range_with_len 0 16)
+      ≡ set marks lane (record (get_or marks lane free_mark) { tag = tag; own = true })
+  marks-own lane tag own low long here there =
+      let stays = is_bit (bit_at guests lane) (bit_at-lt guests lane) in
+      marks-set lane (record (mark_of tags owns guests lane) { tag = tag; own = true }) own guests low long here
+      there stays (λ i _ _. refl)
+      ∙ ap (λ (m : Mark). set marks lane (record m { tag = tag; own = true })) (sym (mark_read lane low))
+
+  -- the node is taken out, and the tag stays
+  pub marks-free : (lane own guest : ℕ) → lane < 16 → length tags ≡ 16 → bit_at own lane ≡ 0
+      → ((i : ℕ) → i < 16 → i ≢ lane → bit_at own i ≡ bit_at owns i)
+      → bit_at guest lane ≡ 0 → ((i : ℕ) → i < 16 → i ≢ lane → bit_at guest i ≡ bit_at guests i)
+      → map (mark_of tags own guest) (range_with_len 0 16)
+      ≡ set marks lane (record (get_or marks lane free_mark) { own = false; guest = false })
+  marks-free lane own guest low long own_here own_there guest_here guest_there =
+      ap (λ ts. map (mark_of ts own guest) (range_with_len 0 16)) (sym (set-get_or tags lane 0))
+      ∙ marks-set lane (record (mark_of tags owns guests lane) { own = false; guest = false }) own guest low
+      long own_here own_there guest_here guest_there
+      ∙ ap (λ (m : Mark). set marks lane (record m { own = false; guest = false })) (sym (mark_read lane low))

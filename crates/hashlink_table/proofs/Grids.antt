@@ -238,14 +238,16 @@ module _ {N : Type 0} {bs : List Block} {ns : List N} {rs : List Rest} {o : Grid
         let d : Block = record e { marks = set e.marks (i % 16) m } in d) tagged
 
     pub stores-put : (r : Rest)
-        → (let m : Mark = record { tag = tag; own = true; guest = false } in
+        → (let m : Mark = record (get_or e.marks (i % 16) free_mark) { tag = tag; own = true } in
         b ≡ record e { marks = set e.marks (i % 16) m })
         → r ≡ get_or rs i r
         → Stores (set bs (i / 16) b) (set ns i k.node) (set rs i (record r { hash = k.hash }))
         (record o { cells = with_kept o.cells i k })
     unfolding marked
     stores-put r written read =
-        stores-mark i _ e b low at (is_marked true false written) (put_in h.tagged cells_are i low k r read)
+        let guest = (get_or e.marks (i % 16) free_mark).guest in
+        stores-mark i _ e b low at (is_marked true guest written)
+        (put_in h.tagged cells_are i low k guest r read)
 
     pub stores-guest : (next : ℕ) → next ≤ END
         → (let m : Mark = record { tag = tag; own = false; guest = true } in

@@ -1,7 +1,7 @@
 -- The nodes of a list of cells: after a write, one by one, and in a loop that inserts them.
 use Rattle.hashlink_table.proofs.Names
 use Names.{◌≡◌, ℕ, zero, suc, ◌+◌, ◌<◌, ◌≤◌, List, [], ◌∷◌, ◌++◌, length, get_or, set, replicate, take, drop}
-use Names.{true, Bool, Option, Some, None, is_some, refl, sym, ap, ◌∙◌, subst}
+use Names.{true, false, inl, inr, cases_eq, true≢false, Bool, Option, Some, None, is_some, refl, sym, ap, ◌∙◌, subst}
 use Names.{arith, Contains}
 use Names.{IsPermutation, take_more, take-append-drop, length-append, IsPermutation-refl, IsPermutation-trans}
 use Names.{IsPermutation-cons, IsPermutation-middle, IsPermutation-to_front, Hashed, Cell, kept_at, stored_in}
@@ -130,3 +130,25 @@ module _ {N : Type 0} (cells : List (Cell N)) (count : ℕ) (low : count < lengt
 
   pub next_none : o ≡ None → nodes_in (take (count + 1) cells) ≡ nodes_in (take count cells)
   next_none e = next_in None e ∙ append-nil (nodes_in (take count cells))
+
+-- the nodes of the first cells, and of cells after them that have none
+pub nodes_in-passed : {N : Type 0} (cells : List (Cell N)) (at to : ℕ) → at ≤ to → to ≤ length cells
+    → ((i : ℕ) → at ≤ i → i < to → is_some (kept_at cells i) ≡ false)
+    → nodes_in (take to cells) ≡ nodes_in (take at cells)
+nodes_in-passed cells at zero low high none =
+    let start : at ≡ zero = omega (arith, low) in ap (λ n. nodes_in (take n cells)) (sym start)
+nodes_in-passed cells at (suc to) low high none =
+    elim (cases_eq at (suc to)) as (λ _. nodes_in (take (suc to) cells) ≡ nodes_in (take at cells)) [
+      | inl e ↦ ap (λ n. nodes_in (take n cells)) (sym e)
+      | inr less ↦
+          let next : to + 1 ≡ suc to = omega arith in
+          ap (λ n. nodes_in (take n cells)) (sym next)
+          ∙ next_none cells to (omega (arith, high)) (kept_at cells to) refl
+          (none_by (kept_at cells to) (none to (omega (arith, low, less)) (omega arith)))
+          ∙ nodes_in-passed cells at to (omega (arith, low, less)) (omega (arith, high))
+          (λ i from to_i. none i from (omega (arith, to_i)))
+    ]
+  where
+    none_by : {A : Type 0} (o : Option A) → is_some o ≡ false → o ≡ None
+    none_by None e = refl
+    none_by (Some x) e = absurd (true≢false e)

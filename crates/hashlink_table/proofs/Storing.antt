@@ -1,14 +1,14 @@
 -- The slots, from what is stored to what contracts see.
 use Rattle.hashlink_table.proofs.Names
 use Names.{◌≡◌, ℕ, zero, suc, ◌<◌, ◌≤◌, Bool, true, false, cond, ◌∷◌, eqb, List, [], length}
-use Names.{map, take, drop, get_or, set, replicate, Some, None, refl, sym, ap, ◌∙◌, subst, arith, is_none}
+use Names.{map, not, take, drop, get_or, set, replicate, Some, None, refl, sym, ap, ◌∙◌, subst, arith, is_none}
 use Names.{is_some, IfSome, All, chunk, false≢true, get_or-map, length-map, map-id}
 use Names.{map-set}
 use Names.{set-get_or, take-map, drop-map, All-get_or, All-head, All-map, All-set, All-tail}
 use Names.{map-map, splat_is_map, Hashed, Cell, END, Rest, kept_at, next_at, own_at, own_of, guest_at}
 use Names.{guest_of}
 use Names.{bare_cell, tag_of, slot, cells_in, may_be, kept_may_be, with_guest, with_kept, with_next}
-use Names.{without_kept, IsStored, IsTagged, Row, Option, Mark, free_mark, has_guest, has_own, is_free}
+use Names.{without_kept, IsStored, IsTagged, Row, Mark, free_mark, has_guest, has_own, is_free}
 use Names.{is_guest}
 use Names.{is_taken}
 use Rattle.std.specs.{Prelude.IsSome, Simd.Lanes.mask_l}
@@ -75,14 +75,11 @@ module _ {N : Type 0} where
       let rest = tests-cells p q agree rows (All-tail IsStored row rows h) in
       cc
 
--- a slot with a guest has a node
-pub taken_guest : {A : Type 0} (m : Mark) (o : Option A) → is_guest m ≡ true → is_taken m ≡ is_some o → IsSome
-    o
-taken_guest m o guest there =
-    let taken : is_taken m ≡ true = elim m.own
-    as (λ own. cond own false m.guest ≡ true → cond own true m.guest ≡ true)
-    [ true ↦ λ _. refl | false ↦ λ e. e ] guest in
-    sym there ∙ taken
+-- a slot with a node has a guest if it has none of its group
+pub taken_guest : (m : Mark) → is_taken m ≡ true → not m.own ≡ is_guest m
+taken_guest m taken =
+    elim m.own as (λ own. cond own true m.guest ≡ true → not own ≡ cond own false m.guest)
+    [ true ↦ λ _. refl | false ↦ λ e. sym e ] taken
 
 -- the node for which this is stored, if there is one
 abbrev pub node_of : {N : Type 0} → Row N → Hashed N
@@ -99,7 +96,7 @@ module _ {N : Type 0} (row : Row N) (is : IsStored row) where
             ≡ is_none (cond guest (Some (node_of row)) None)) [ true ↦ refl | false ↦ refl ]
       ]
 
-  agrees_taken : is_taken row.mark ≡ is_some (let c : Cell N = slot row in c.kept)
+  pub agrees_taken : is_taken row.mark ≡ is_some (let c : Cell N = slot row in c.kept)
   agrees_taken =
       elim (is_taken row.mark) as (λ b. b ≡ is_some (cond b (Some (node_of row)) None)) [
         | true ↦ refl
@@ -266,19 +263,19 @@ module _ {N : Type 0} {ts : List Mark} {ns : List N} {rs : List Rest} {v : List 
     next_read r at_r = rw (at_r ∙ rest_at r) (ap (λ (d : Cell N). d.next) cell_at, stored.small)
 
     -- a node was put into it or taken out of it, or it has another link
-    abbrev own_mark : ℕ → Mark
-    own_mark hash = record { tag = tag_of hash; own = true; guest = false }
+    abbrev own_mark : ℕ → Bool → Mark
+    own_mark hash guest = record { tag = tag_of hash; own = true; guest = guest }
 
     abbrev guest_mark : ℕ → Mark
     guest_mark hash = record { tag = tag_of hash; own = false; guest = true }
 
-    pub put_in : (k : Hashed N) (r : Rest) → r ≡ get_or rs i r
-        → AreCells (set ts i (own_mark k.hash)) (set ns i k.node) (set rs i (record r { hash = k.hash }))
-        (with_kept v i k)
-    put_in k r at_r =
+    pub put_in : (k : Hashed N) (guest : Bool) (r : Rest) → r ≡ get_or rs i r
+        → AreCells (set ts i (own_mark k.hash guest)) (set ns i k.node)
+        (set rs i (record r { hash = k.hash })) (with_kept v i k)
+    put_in k guest r at_r =
         let next = next_read r at_r in
-        written i (record { mark = own_mark k.hash; node = k.node; rest = record r { hash = k.hash } }) _ _ _
-        _
+        written i
+        (record { mark = own_mark k.hash guest; node = k.node; rest = record r { hash = k.hash } }) _ _ _ _
         (record { tagged = λ _. refl; small = next.1 }) refl refl refl (rw next.0 refl)
 
     pub guest_put_in : (k : Hashed N) (next : ℕ) → next ≤ END
@@ -289,9 +286,10 @@ module _ {N : Type 0} {ts : List Mark} {ns : List N} {rs : List Rest} {v : List 
         (record { mark = guest_mark k.hash; node = k.node; rest = record { hash = k.hash; link = next } })
         _ _ _ _ (record { tagged = λ _. refl; small = small }) refl refl refl refl
 
-    pub freed : AreCells (set ts i free_mark) ns rs (without_kept v i)
-    freed =
-        written i (record row { mark = free_mark }) _ _ _ _
+    pub freed : (tag : ℕ) → let m : Mark = record { tag = tag; own = false; guest = false } in
+        AreCells (set ts i m) ns rs (without_kept v i)
+    freed tag =
+        written i (record row { mark = record { tag = tag; own = false; guest = false } }) _ _ _ _
         (record { tagged = λ e. absurd (false≢true e); small = stored.small }) refl
         node_stays rest_stays (ap (λ (d : Cell N). record d { kept = None; guest = false }) cell_at)
 

@@ -12,7 +12,7 @@ tag_of hash = hash % 16 * 16 + hash / 2 ^ 28 % 16
 
 -- the bit of a chain's mask that a guest of this hash sets
 abbrev pub mask_bit_of : ℕ → ℕ
-mask_bit_of hash = hash % 16 * 4 + hash / 2 ^ 30 % 4
+mask_bit_of hash = tag_of hash % 64
 
 -- the chain of a group without guests, and a chain with one more guest as its first
 abbrev pub no_guests : Head

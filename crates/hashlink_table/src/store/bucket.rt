@@ -1,5 +1,6 @@
 ghost use Rattle.std.specs.Prelude.{◌≡◌, ◌-◌, ◌*◌, ◌^◌, ◌%◌, ◌≤◌, max};
 ghost use Rattle.std.specs.Int.{IsPowerOfTwo};
+ghost use Rattle.hashlink_table.specs.Stored.{tag_of};
 
 use super::lanes::LANES;
 
@@ -12,14 +13,13 @@ pub fn bucket_of(hash: u32, buckets: usize) -> usize
     (hash as usize) & (buckets - 1)
 }
 
-/// Returns the first slot of the group to which a hash belongs.
+/// Returns the tag of a hash: the four bits that select the hash's bucket in its group, and four on which the
+/// bucket does not depend.
 #[inline]
-pub fn base_of(hash: u32, buckets: usize) -> usize
-    requires power { IsPowerOfTwo buckets }
-    requires whole { buckets % LANES ≡ 0 }
-    ensures { result ≡ hash % buckets - hash % buckets % LANES }
+pub fn tag(hash: u32) -> u8
+    ensures { result ≡ tag_of hash }
 {
-    (hash as usize) & (buckets - LANES)
+    (hash % 16 * 16 + hash / (1 << 28)) as u8
 }
 
 /// Returns the first slot of this slot's group.
@@ -28,6 +28,15 @@ pub fn group_of(at: usize) -> usize
     ensures { result ≡ at - at % LANES }
 {
     at - at % LANES
+}
+
+/// Returns the first slot of the group to which a hash belongs.
+#[inline]
+pub fn base_of(hash: u32, buckets: usize) -> usize
+    requires { IsPowerOfTwo buckets }
+    ensures { result ≡ hash % buckets - hash % buckets % LANES }
+{
+    group_of(bucket_of(hash, buckets))
 }
 
 /// Returns the number of slots of a table with this room: the least power of two of which the room is at most

@@ -1,7 +1,7 @@
 //! What is stored for a group of sixteen slots.
-ghost use Rattle.std.specs.Prelude.{◌≡◌, ◌≢◌, ℕ, ◌<◌, cond, map, replicate, slice_index_or, slice_set};
+ghost use Rattle.std.specs.Prelude.{◌≡◌, ◌≢◌, ℕ, ◌<◌, cond, map, replicate, slice_index_or, slice_set, false, true};
 ghost use Rattle.std.specs.{Int.{bit_at}, Simd.Lanes.{mask_l}};
-ghost use Rattle.hashlink_table.specs.{Blocks.{free_mark, has_own, is_free}, Stored.{no_guests}};
+ghost use Rattle.hashlink_table.specs.{Blocks.{free_mark, has_own, is_free, is_taken}, Stored.{no_guests}};
 
 use super::head::{Head, NO_GUESTS};
 use super::lanes::LANES;
@@ -70,15 +70,44 @@ impl Group {
         }
     }
 
-    /// Sets the mark of a slot.
+    /// Sets the mark of a slot to one with a guest.
     #[inline]
-    pub fn set_mark(&mut self, lane: usize, mark: Mark)
+    pub fn set_guest(&mut self, lane: usize, tag: u8)
         requires { lane < LANES }
-        ensures { self.new ≡ record self.old { marks = slice_set self.old.marks lane mark } }
+        ensures { self.new ≡ record self.old {
+          marks = slice_set self.old.marks lane
+              (record { tag = tag; own = false; guest = true });
+        } }
     {
-        self.tags[lane] = mark.tag;
-        self.owns = with_bit(self.owns, lane, mark.own);
-        self.guests = with_bit(self.guests, lane, mark.guest);
+        self.tags[lane] = tag;
+        self.owns = with_bit(self.owns, lane, false);
+        self.guests = with_bit(self.guests, lane, true);
+    }
+
+    /// Sets the mark of a slot to one without a node. The tag need not be cleared.
+    #[inline]
+    pub fn set_free(&mut self, lane: usize)
+        requires { lane < LANES }
+        ensures { self.new ≡ record self.old {
+          marks = slice_set self.old.marks lane
+              (record (slice_index_or self.old.marks lane free_mark) { own = false; guest = false });
+        } }
+    {
+        self.owns = with_bit(self.owns, lane, false);
+        self.guests = with_bit(self.guests, lane, false);
+    }
+
+    /// Sets the mark of a slot to one with a node of the group. Whether it had a guest need not be cleared.
+    #[inline]
+    pub fn set_own(&mut self, lane: usize, tag: u8)
+        requires { lane < LANES }
+        ensures { self.new ≡ record self.old {
+          marks = slice_set self.old.marks lane
+              (record (slice_index_or self.old.marks lane free_mark) { tag = tag; own = true });
+        } }
+    {
+        self.tags[lane] = tag;
+        self.owns = with_bit(self.owns, lane, true);
     }
 
     /// Returns which slots have a node of the group with this tag, one bit for each.
@@ -98,6 +127,14 @@ impl Group {
         ensures { result ≡ mask_l (map is_free self.now.marks) }
     {
         u64::from(!(self.owns | self.guests))
+    }
+
+    /// Returns which slots have a node, one bit for each.
+    #[inline]
+    pub fn taken(&self) -> u64
+        ensures { result ≡ mask_l (map is_taken self.now.marks) }
+    {
+        u64::from(self.owns | self.guests)
     }
 
     /// Returns the chain of the group's guests.

@@ -20,16 +20,26 @@ pub fn moved<N: Copy>(
     requires whole { count % LANES ≡ 0 }
     requires small { count ≤ END }
     requires roomy { length (nodes_in slots.now.cells) ≤ count }
+    requires grouped { length slots.now.cells % LANES ≡ 0 }
     ensures arranged { IfOk result (λ o. IsArranged o.cells o.heads) }
     ensures len { IfOk result (λ o. length o.cells ≡ count) }
     ensures nodes { IfOk result (λ o. IsPermutation (nodes_in slots.now.cells) (nodes_in o.cells)) }
 {
     let mut moved = Slots::with_cells(alloc, filler, count)?;
     let mut cursor = 0;
-    for at in 0..slots.len() {
-        if let Some(kept) = slots.kept(at) {
+    let mut base = 0;
+    while base < slots.len() {
+        let mut at = base;
+        let mut left = slots.taken(base);
+        while left != 0 {
+            let skipped = left.trailing_zeros();
+            at += skipped as usize;
+            let kept = slots.known(at);
             insertion::put(&mut moved, &mut cursor, kept);
+            at += 1;
+            left = (left >> skipped) / 2;
         }
+        base += LANES;
     }
     Ok(moved)
 }

@@ -3,6 +3,7 @@ ghost use Rattle.std.specs.Prelude.{◌≡◌, ◌≢◌, ◌<◌, ◌≤◌, �
 ghost use Rattle.std.specs.Int.{bit_at};
 ghost use Rattle.hashlink_table.specs.Stored.{mask_bit_of, with_guest_in};
 
+use super::bucket::tag;
 use super::cell::END;
 
 /// The chain of a group's guests.
@@ -20,14 +21,13 @@ pub const NO_GUESTS: Head = Head {
     mask: 0,
 };
 
-// Returns the bit that a guest of this hash sets: the hash's position in its group, and its
-// two highest bits.
+// Returns the bit that a guest of this hash sets: the six lowest bits of its tag.
 #[inline]
 fn mask_bit(hash: u32) -> u32
     ensures value { result ≡ mask_bit_of hash }
     ensures small { result < 64 }
 {
-    hash % 16 * 4 + hash / (1 << 30)
+    u32::from(tag(hash)) % 64
 }
 
 impl Head {

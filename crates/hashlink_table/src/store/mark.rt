@@ -7,10 +7,3 @@ pub struct Mark {
     pub own: bool,
     pub guest: bool,
 }
-
-/// The mark of a slot without a node.
-pub const FREE: Mark = Mark {
-    tag: 0,
-    own: false,
-    guest: false,
-};

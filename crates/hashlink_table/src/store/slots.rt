@@ -9,11 +9,12 @@ ghost use Rattle.hashlink_table.specs.Chains.{guest_at, kept_at, next_at, own_at
 ghost use Rattle.hashlink_table.specs.Blocks.{has_guest, is_guest, is_taken};
 ghost use Rattle.hashlink_table.specs.Stored.{bare_cell, no_guests, tag_of};
 
+use super::bucket::tag;
 use super::cell::END;
 use super::group::Group;
 use super::head::Head;
 use super::lanes::LANES;
-use super::mark::{FREE, Mark};
+use super::mark::Mark;
 use super::repeated::repeated;
 use crate::hashed::Hashed;
 use crate::steps::Steps;
@@ -57,37 +58,12 @@ const BARE_REST: Rest = Rest {
     link: END as u32,
 };
 
-// Returns the tag of a hash: the four bits that select the hash's bucket in its group, and four on which the
-// bucket does not depend.
-#[inline]
-fn tag(hash: u32) -> u8
-    ensures { result ≡ tag_of hash }
-{
-    (hash % 16 * 16 + hash / (1 << 28)) as u8
-}
-
-// Returns whether a slot with this mark has a node.
-#[inline]
-fn has_node(mark: Mark) -> bool
-    ensures { result ≡ is_taken mark }
-{
-    mark.own || mark.guest
-}
-
-// Returns whether a slot with this mark has a guest.
-#[inline]
-fn has_any_guest(mark: Mark) -> bool
-    ensures { result ≡ is_guest mark }
-{
-    !mark.own && mark.guest
-}
-
 // Returns whether a slot with this mark has a guest with this tag.
 #[inline]
 fn has_guest_with(mark: Mark, tag: u8) -> bool
     ensures { result ≡ has_guest tag mark }
 {
-    has_any_guest(mark) && mark.tag == tag
+    !mark.own && mark.guest && mark.tag == tag
 }
 
 // Adds groups without nodes. There has to be room for them.
@@ -186,14 +162,13 @@ impl<N: Copy> Slots<N> {
         self.groups[at / LANES].mark(at % LANES)
     }
 
-    /// Returns whether a slot has a guest.
+    /// Returns whether a slot that has to have a node has a guest.
     #[inline]
     pub fn is_guest(&self, at: usize) -> bool
-        requires { at < length self.now.cells }
-        ensures value { result ≡ (slice_index_or self.now.cells at bare_cell).guest }
-        ensures there { IsTrue result → IsSome (kept_at self.now.cells at) }
+        requires { IsSome (kept_at self.now.cells at) }
+        ensures { result ≡ (slice_index_or self.now.cells at bare_cell).guest }
     {
-        has_any_guest(self.mark(at))
+        !self.mark(at).own
     }
 
     /// Returns whether a slot may have a guest of this hash. It has a guest with the hash's tag then.
@@ -239,31 +214,13 @@ impl<N: Copy> Slots<N> {
         }
     }
 
-    /// Returns the hash and the node of a slot, if there is a node, for a move of the node.
-    #[inline]
-    pub(super) fn kept(&self, at: usize) -> Option<Hashed<N>>
-        requires { at < length self.now.cells }
-        ensures { result ≡ kept_at self.now.cells at }
-    {
-        if has_node(self.mark(at)) {
-            Some(self.known(at))
-        } else {
-            None
-        }
-    }
-
     /// Puts a node into a slot of its group, in place of its old node, if any.
     #[inline]
     pub fn put(&mut self, at: usize, kept: Hashed<N>)
         requires { at < length self.old.cells }
         ensures { self.new ≡ record self.old { cells = with_kept self.old.cells at kept } }
     {
-        let mark = Mark {
-            tag: tag(kept.hash),
-            own: true,
-            guest: false,
-        };
-        self.groups[at / LANES].set_mark(at % LANES, mark);
+        self.groups[at / LANES].set_own(at % LANES, tag(kept.hash));
         self.nodes[at] = kept.node;
         self.rests[at].hash = kept.hash;
     }
@@ -275,12 +232,7 @@ impl<N: Copy> Slots<N> {
         requires small { next ≤ END }
         ensures { self.new ≡ record self.old { cells = with_guest self.old.cells at kept next } }
     {
-        let mark = Mark {
-            tag: tag(kept.hash),
-            own: false,
-            guest: true,
-        };
-        self.groups[at / LANES].set_mark(at % LANES, mark);
+        self.groups[at / LANES].set_guest(at % LANES, tag(kept.hash));
         self.nodes[at] = kept.node;
         self.rests[at] = Rest {
             hash: kept.hash,
@@ -294,7 +246,7 @@ impl<N: Copy> Slots<N> {
         requires { at < length self.old.cells }
         ensures { self.new ≡ record self.old { cells = without_kept self.old.cells at } }
     {
-        self.groups[at / LANES].set_mark(at % LANES, FREE);
+        self.groups[at / LANES].set_free(at % LANES);
     }
 
     /// Returns which of the sixteen slots from `base` on may have a node of this hash that is no guest, one
@@ -318,6 +270,17 @@ impl<N: Copy> Slots<N> {
         ensures small { base + LANES < 2 ^ 64 }
     {
         self.groups[base / LANES].free()
+    }
+
+    /// Returns which of the sixteen slots from `base` on have a node, one bit for each.
+    #[inline]
+    pub(super) fn taken(&self, base: usize) -> u64
+        requires within { base + LANES ≤ length self.now.cells }
+        requires whole { base % LANES ≡ 0 }
+        ensures lanes { result ≡ mask_l (map (λ c. is_some c.kept) (lanes_of self.now.cells base)) }
+        ensures small { base + LANES < 2 ^ 64 }
+    {
+        self.groups[base / LANES].taken()
     }
 
     /// Removes all nodes, and ends all chains.

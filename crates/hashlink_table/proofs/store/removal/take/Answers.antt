@@ -24,7 +24,7 @@ module _ (g : given.Over) (c : After-head-first g) where
   group = omega (arith, low, c.requires.whole, c.requires.arranged.paired)
 
   free : guest_at c.args.slots.now.cells c.args.at ≡ None
-  free = no_guest c.args.slots.now.cells c.args.at (sym c.is_guest.ensures.value ∙ c.if-is_guest.false)
+  free = no_guest c.args.slots.now.cells c.args.at (sym c.is_guest.ensures ∙ c.if-is_guest.false)
 
   first : c.head-first.result.first ≡ first_at c.args.slots.now.heads (c.args.at / 16)
   first =

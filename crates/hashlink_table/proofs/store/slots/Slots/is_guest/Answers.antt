@@ -1,7 +1,9 @@
-use Rattle.hashlink_table.proofs.Names.{sym, ◌∙◌}
-use Rattle.hashlink_table.proofs.Storing.{taken_guest}
+use Rattle.hashlink_table.proofs.Names.{◌∙◌}
+use Rattle.hashlink_table.proofs.{Linking.within_by_kept, Storing.taken_guest}
 use Rattle.hashlink_table.proofs.store.slots.Slots.is_guest.Goals as goal
 
-pub returns-clause-there : goal.returns-clause-there
-returns-clause-there g c = λ is.
-    taken_guest c.mark.result _ (sym c.has_any_guest.ensures ∙ is) c.mark.ensures.there
+pub mark-requires : goal.mark-requires
+mark-requires g c = within_by_kept c.args.self.now.cells c.args.at c.requires
+
+pub returns : goal.returns
+returns g c = taken_guest c.mark.result (c.mark.ensures.there ∙ c.requires) ∙ c.mark.ensures.guest

@@ -29,11 +29,11 @@ index_mut-requires-3 g c =
 pub invariant_of-self : goal.invariant_of-self
 invariant_of-self g c =
     (stores-put c.self.invariant c.self.view_is c.args.at c.args.kept _ c.index_mut.result.now _ c.requires
-    c.index_mut.ensures.value c.tag.ensures c.index_mut-3.result.now c.set_mark.ensures
+    c.index_mut.ensures.value c.tag.ensures c.index_mut-3.result.now c.set_own.ensures
     c.index_mut-3.ensures.value).0
 
 pub returns : goal.returns
 returns g c =
     (stores-put c.self.invariant c.self.view_is c.args.at c.args.kept _ c.index_mut.result.now _ c.requires
-    c.index_mut.ensures.value c.tag.ensures c.index_mut-3.result.now c.set_mark.ensures
+    c.index_mut.ensures.value c.tag.ensures c.index_mut-3.result.now c.set_own.ensures
     c.index_mut-3.ensures.value).1

@@ -30,10 +30,10 @@ pub invariant_of-self : goal.invariant_of-self
 invariant_of-self g c =
     (stores-guest c.self.invariant c.self.view_is c.args.at c.args.kept _ c.index_mut.result.now _
     c.requires.within c.index_mut.ensures.value c.tag.ensures c.args.next c.requires.small
-    c.set_mark.ensures).0
+    c.set_guest.ensures).0
 
 pub returns : goal.returns
 returns g c =
     (stores-guest c.self.invariant c.self.view_is c.args.at c.args.kept _ c.index_mut.result.now _
     c.requires.within c.index_mut.ensures.value c.tag.ensures c.args.next c.requires.small
-    c.set_mark.ensures).1
+    c.set_guest.ensures).1

@@ -9,11 +9,11 @@ index_mut-requires g c =
 pub invariant_of-self : goal.invariant_of-self
 invariant_of-self g c =
     (stores-mark c.self.invariant c.self.view_is c.args.at _ c.index_mut.result.now _ c.requires
-    c.index_mut.ensures.value c.set_mark.ensures
-    (freed c.self.invariant.tagged (cells_are c.self.invariant c.self.view_is) c.args.at c.requires)).0
+    c.index_mut.ensures.value c.set_free.ensures
+    (freed c.self.invariant.tagged (cells_are c.self.invariant c.self.view_is) c.args.at c.requires _)).0
 
 pub returns : goal.returns
 returns g c =
     (stores-mark c.self.invariant c.self.view_is c.args.at _ c.index_mut.result.now _ c.requires
-    c.index_mut.ensures.value c.set_mark.ensures
-    (freed c.self.invariant.tagged (cells_are c.self.invariant c.self.view_is) c.args.at c.requires)).1
+    c.index_mut.ensures.value c.set_free.ensures
+    (freed c.self.invariant.tagged (cells_are c.self.invariant c.self.view_is) c.args.at c.requires _)).1
