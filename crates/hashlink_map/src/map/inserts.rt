@@ -93,7 +93,7 @@ impl<K: Eq + Hash, V, S: BuildHasher> LinkedHashMap<K, V, S> {
         ensures there { IsSome (lookup (K.eq key) (entries_of self.old)) → IsOk result }
         ensures distinct { IsEntries K.eq (entries_of self.new) }
     {
-        let first = self.first_node();
+        let first = self.list.front();
         self.insert_at(first, key, value)
     }
 
