@@ -1,8 +1,8 @@
 -- A step that takes an entry out of a map, as a step of an iterator.
 use Rattle.hashlink_map.proofs.Names
-use Names.{◌≡◌, ℕ, zero, suc, ◌-◌, Bool, List, [], ◌∷◌, length, refl, arith, slice_get, remove, take, IsEquivalence}
+use Names.{◌≡◌, ℕ, zero, suc, ◌-◌, Bool, List, [], ◌∷◌, length, refl, arith, slice_get, remove, take}
 use Names.{Keyed, Node, IsPlaceAt, IsKeyed, IsEntries, entries_of, state_of, place_number}
-use Names.{Option, None, Some, ap, sym, subst, ◌∙◌, TakesFirst, TakesLast}
+use Names.{IsEquivalence, Option, None, Some, ap, sym, subst, ◌∙◌, TakesFirst, TakesLast}
 use Rattle.hashlink_map.proofs.Names.{GivesInOrder, GivesInReverse, as_is, as_is_back, in-order, in-reverse}
 use Rattle.hashlink_map.proofs.Names.{MapState, PopsFront, PopsBack, after_first_of, before_last_of}
 use Rattle.hashlink_model.{specs.Steps.KeepsOnly, proofs.Walks.{takes_first, takes_last}}

@@ -1,6 +1,6 @@
 //! Inserts. Each of them hashes the key once, and looks it up as `get` does.
-ghost use Rattle.std.specs.Prelude.{◌≡◌, [], ◌∷◌, ◌++◌, Option, None, Some, IfOk, IfErr, IsOk, IsSome, OnOk, length};
-ghost use Rattle.std.specs.{Borrow.sem, Map.lookup, Option.UnwrapsOrElse};
+ghost use Rattle.std.specs.Prelude.{◌≡◌, [], ◌∷◌, ◌++◌, Option, None, Some, IfOk, IfErr, IsOk, IsSome};
+ghost use Rattle.std.specs.{Prelude.{OnOk, length}, Borrow.sem, Map.lookup, Option.UnwrapsOrElse};
 ghost use Rattle.hashlink_model.specs.{Entries.{IsEntries, place_or_end, put}, MapState.Inserts};
 ghost use Rattle.hashlink_model.specs.{Lookups.{Updates, UpdatesLast}, Steps.Replaces};
 ghost use Rattle.hashlink_core.specs.{Keyed.{state_of, entries_of}, Steps.KeepsPlace};

@@ -10,7 +10,8 @@ returns-clause-place g c =
 pub returns-clause-none : goal.returns-clause-none
 returns-clause-none g c =
     let m = c.args.self.now in
-    empty-at m.nodes c.prev.result _ (returns-clause-place g c).number (omega (arith, length-values_of m.nodes))
+    empty-at m.nodes c.prev.result _ (returns-clause-place g c).number
+    (omega (arith, length-values_of m.nodes))
 
 pub returns-clause-sound : goal.returns-clause-sound
 returns-clause-sound g c = sound c.self.view_is c.self.invariant

@@ -1,6 +1,7 @@
 use Rattle.hashlink_map.proofs.Names.{ap₂, sym, ◌∙◌, key_at, entries_of}
 use Rattle.hashlink_map.proofs.AtNode.{stays_twice}
-use Rattle.hashlink_core.proofs.{Holding.holds-equal, Steps.{then_sets_key, key-set_value_at, pair_from_parts}}
+use Rattle.hashlink_core.proofs.Steps.{then_sets_key, key-set_value_at, pair_from_parts}
+use Rattle.hashlink_core.proofs.Holding.{holds-equal}
 use Rattle.hashlink_map.proofs.map.LinkedHashMap.replace_pair_at.Goals as goal
 
 pub replace_key_at-old_key-requires-clause-equal : goal.replace_key_at-old_key-requires-clause-equal

@@ -1,5 +1,5 @@
-use Rattle.hashlink_map.proofs.Names.{◌≡◌, ◌-◌, ℕ, Some, length, ap, ◌∙◌, length-set_value_at, entries_of, state_of}
-use Rattle.hashlink_map.proofs.{Names.then_moves, EntryUpdates.updates-value_last}
+use Rattle.hashlink_map.proofs.Names.{◌≡◌, ◌-◌, ℕ, Some, length, ap, ◌∙◌, length-set_value_at, entries_of}
+use Rattle.hashlink_map.proofs.{Names.{state_of, then_moves}, EntryUpdates.updates-value_last}
 use Rattle.hashlink_model.specs.Entry.{EntryState}
 use Rattle.hashlink_map.proofs.entry.occupied.OccupiedEntry+K+V+S.insert.Goals.{After-move_to_back}
 use Rattle.hashlink_map.proofs.entry.occupied.OccupiedEntry+K+V+S.insert.Given as given
