@@ -10,7 +10,7 @@ pub use Rattle.hashlink_core.specs.Keyed.{EqualsKeyAt, HoldsKey, HoldsMatch, IsK
 pub use Rattle.hashlink_core.specs.Keyed.{entries_of, keyed, nodes_of, pair_with_key, pair_with_value}
 pub use Rattle.hashlink_core.specs.Steps.{AddsNode, GrowsRoom, KeepsKeys, KeepsPlace, MovesNode, RemovesNode}
 pub use Rattle.hashlink_core.{proofs.Edits.{remove-map, remove_entry-at}, specs.KeyedLends.with_value_at}
-pub use Rattle.hashlink_core.proofs.Places.{renewed_twice, same-number, same-place, set_value-at}
+pub use Rattle.hashlink_core.proofs.Places.{same-number, same-place, set_value-at}
 pub use Rattle.hashlink_core.specs.{Keyed.{pairs_in, seen_as, state_of}, Steps.{SetsNodeKey, WritesNode}}
 pub use Rattle.hashlink_core.specs.{Places.{IsPlaceAt, place_number, renewed_at}, Telling.Tells}
 pub use Rattle.hashlink_core.specs.Tied.{IsInStep, hash_with, numbered_nodes, short}

@@ -5,8 +5,8 @@ use Names.{Option, None, Some, refl, ap, sym, ◌∙◌, arith, slice_get, unwra
 use Names.{slice_get_cases, slice_get_within, get_or_from_slice_get, following_place, preceding_place}
 use Names.{IsEntries, each-left, place_of_its_key, Node, same_node, same_node_equiv, node_after, node_before}
 use Names.{last_node, next_place, prev_place, IsPlace, place_number, IsPlaceAt, from-mapped, node-at, around}
-use Names.{following-within}
-use Rattle.std.{specs.List.IsDistinct, proofs.lemmas.Map.Made.is_some-lookup}
+use Names.{following-within, IfNone, values_of, length-values_of}
+use Rattle.std.{specs.List.IsDistinct, proofs.lemmas.{List.nil_from_length, Map.Made.is_some-lookup}}
 use Rattle.std.proofs.lemmas.Map.Keys.{IsDistinct-tail, apart_from_distinct, any_passes_from_place}
 use native.Mathlib.Nat.{mod-eq_of_lt, add-mod_right, zero-add}
 
@@ -118,3 +118,10 @@ module _ {X : Type 0} (es : List (Node × X)) (d : IsEntries same_node es) where
       (place-at (length es - 1) (omega arith))
   prev-number (Some n) within = let x = node-at es n within in
       before-number (place_number es (Some n)) n x.1.key_at x.1.within
+
+-- ---- the guard stands where an entry would only if there is none
+pub empty-at : {X : Type 0} (ns : List (Node × X)) (p : Option Node) (i : ℕ) → place_number ns p ≡ i
+    → i ≤ length ns - 1
+    → IfNone p (values_of ns ≡ [])
+empty-at ns None i is within = nil_from_length (values_of ns) (omega (arith, is, within, length-values_of ns))
+empty-at ns (Some n) i is within = tt

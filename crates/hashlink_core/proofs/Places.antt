@@ -180,13 +180,6 @@ module _ {X : Type 0} where
   renewed_at-is f (y ∷ es) zero e at = let same : y ≡ e = cc in ap (λ z. (z.0, f z.1) ∷ es) same
   renewed_at-is f (y ∷ es) (suc j) e at = ap (λ r. y ∷ r) (renewed_at-is f es j e at)
 
-  -- two changes
-  pub renewed_twice : (f g : X → X) (es : List (Node × X)) (j : ℕ)
-      → renewed_at g (renewed_at f es j) j ≡ renewed_at (λ x. g (f x)) es j
-  renewed_twice f g [] j = refl
-  renewed_twice f g (e ∷ es) zero = refl
-  renewed_twice f g (e ∷ es) (suc j) = ap (λ r. e ∷ r) (renewed_twice f g es j)
-
   -- ---- the index of a place, once a node is taken out
   place_number-left : (es : List (Node × X)) (n : Node) (p : Option Node) → is_node p n ≡ false
       → place_number (remove_entry (same_node n) es) p

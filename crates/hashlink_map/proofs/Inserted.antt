@@ -1,7 +1,8 @@
 -- What an insert and a replace leave, clause by clause.
 use Rattle.hashlink_map.proofs.Names
-use Names.{◌≡◌, ℕ, Bool, Option, None, IsEquivalence, IfOk, IsOk, IsSome, OnOk, Result, lookup, put, place_or_end}
-use Names.{Keyed, entries_of, state_of, IsEntries, IsKeyed, IsPlace, Node, place_number, Inserts, Replaces, Some}
+use Names.{◌≡◌, Bool, Option, IsEquivalence, IfOk, IsOk, IsSome, OnOk, Result, lookup, put, place_or_end}
+use Names.{Keyed, entries_of, state_of, IsEntries, IsKeyed, IsPlace, Node, place_number, Inserts, Replaces}
+use Names.{Some}
 use Rattle.hashlink_core.{proofs.Keeping.keeps-place, specs.Steps.{KeepsKeys, KeepsPlace}}
 use Rattle.hashlink_model.{proofs.Updates.updates-inserted, specs.Lookups.Updates}
 use Rattle.hashlink_map.proofs.Outcomes.{inserts_outcome, replaces_outcome}

@@ -1,8 +1,8 @@
 -- A step that takes an entry out of a map, as a step of an iterator.
 use Rattle.hashlink_map.proofs.Names
-use Names.{◌≡◌, ℕ, zero, suc, ◌-◌, Bool, List, [], ◌∷◌, length, refl, arith, slice_get, remove, take, IsEquivalence}
-use Names.{Keyed, Node, IsPlaceAt, IsKeyed, IsEntries, entries_of, state_of, place_number, length-values_of}
-use Names.{Option, None, Some, ap, sym, subst, ◌∙◌, TakesFirst, TakesLast}
+use Names.{◌≡◌, ℕ, zero, suc, ◌-◌, Bool, List, [], ◌∷◌, length, refl, arith, slice_get, remove, take}
+use Names.{Keyed, Node, IsPlaceAt, IsKeyed, IsEntries, entries_of, state_of, place_number}
+use Names.{IsEquivalence, Option, None, Some, ap, sym, subst, ◌∙◌, TakesFirst, TakesLast}
 use Rattle.hashlink_map.proofs.Names.{GivesInOrder, GivesInReverse, as_is, as_is_back, in-order, in-reverse}
 use Rattle.hashlink_map.proofs.Names.{MapState, PopsFront, PopsBack, after_first_of, before_last_of}
 use Rattle.hashlink_model.{specs.Steps.KeepsOnly, proofs.Walks.{takes_first, takes_last}}
@@ -59,24 +59,22 @@ module _ {K V S : Type 0} (before after : Keyed K V S) where
           (ap (remove (entries_of before)) at.number ∙ remove-first (entries_of before)) removed.state;
     }
 
-    pub pops-last : IsPlaceAt before.nodes (Some n) (length before.nodes - 1)
+    pub pops-last : IsPlaceAt before.nodes (Some n) (length (entries_of before) - 1)
         → PopsBack (state_of before) (state_of after) (Some e)
     pops-last at =
         let es = entries_of before in
-        let last : place_number before.nodes (Some n) ≡ length es - 1 =
-        omega (arith, at.number, length-values_of before.nodes) in
         let some = slice_get_within es (place_number before.nodes (Some n)) e pair in
         record {
-          answer = sym pair ∙ ap (slice_get es) last;
+          answer = sym pair ∙ ap (slice_get es) at.number;
           step = subst (Removes (state_of before) (state_of after))
-              (ap (remove es) last ∙ remove-last es (length es - 1) (omega (arith, last, some)))
+              (ap (remove es) at.number ∙ remove-last es (length es - 1) (omega (arith, at.number, some)))
               removed.state;
         }
 
   -- there is no entry
-  module _ (none : length before.nodes ≡ 0) where
+  module _ (none : entries_of before ≡ []) where
     past : (i : ℕ) → None ≡ slice_get (entries_of before) i
-    past i = sym (slice_get_past (entries_of before) i (omega (arith, none, length-values_of before.nodes)))
+    past i = sym (slice_get_past (entries_of before) i (omega (arith, ap length none)))
 
     pub pops-none : PopsFront (state_of before) (state_of before) None
         × PopsBack (state_of before) (state_of before) None

@@ -1,11 +1,11 @@
 //! Calls at a node of a map, for the methods of entries.
 ghost use Rattle.std.specs.{Prelude.{◌≡◌, ◌-◌, length, slice_get, None, Some, IfOk}, Borrow.sem};
-ghost use Rattle.std.specs.Map.Iter.{deref_pair};
-ghost use Rattle.hashlink_model.specs.Entry.{key_at, value_at, InsertsValue, InsertsEntry, ReplacesEntry};
-ghost use Rattle.hashlink_model.specs.{Entries.{place_of, IsEntries}, Lookups.Updates, MapState.MovesAt};
+ghost use Rattle.std.specs.{Map.Iter.deref_pair, Option.option_map};
+ghost use Rattle.hashlink_model.specs.Entry.{key_at, value_at, ReplacesEntry};
+ghost use Rattle.hashlink_model.specs.{Entries.{place_of, IsEntries}, MapState.MovesAt};
 ghost use Rattle.hashlink_model.specs.Entry.{ReplacesKey, ReplacesValue, TakesEntry, VacantInserts};
 ghost use Rattle.hashlink_core.specs.{Keyed.{state_of, entries_of, HoldsKey, EqualsKeyAt}, Tied.hash_with};
-ghost use Rattle.hashlink_core.specs.Places.{Holds, place_number};
+ghost use Rattle.hashlink_core.specs.Places.{Holds, IsPlace, place_number};
 
 use crate::as_node::AsNode;
 use crate::map::LinkedHashMap;
@@ -23,6 +23,17 @@ impl<K: Eq + Hash, V, S: BuildHasher> LinkedHashMap<K, V, S> {
             ≡ Some (deref_pair result) }
     {
         self.list.entry(node)
+    }
+
+    /// Returns the pair at the place, or `None` at the guard.
+    #[inline]
+    pub(crate) fn pair_at_place(&self, place: Option<Node>) -> Option<(&K, &V)>
+        requires within { IsPlace self.now.nodes place }
+        ensures { option_map deref_pair result
+            ≡ slice_get (entries_of self.now) (place_number self.now.nodes place) }
+    {
+        let node = place?;
+        Some(self.pair_at(node))
     }
 
     /// Returns the key of the node and a mutable reference to its value.
@@ -113,19 +124,6 @@ impl<K: Eq + Hash, V, S: BuildHasher> LinkedHashMap<K, V, S> {
         self.list.replace_key(node, key)
     }
 
-    /// Replaces the value, moves the node to the back, and returns the old value.
-    pub(crate) fn put_value_last(&mut self, node: Node, value: V) -> V
-        requires { Holds self.old.nodes node }
-        ensures inserts { InsertsValue (state_of self.old) (state_of self.new)
-            (place_number self.old.nodes (Some node)) value result }
-        ensures stays { StaysHeld K.eq self.old self.new node (length (entries_of self.old) - 1) }
-        ensures distinct { IsEntries K.eq (entries_of self.old) }
-    {
-        let old = self.replace_value_at(node, value);
-        self.move_to_back(node);
-        old
-    }
-
     /// Replaces the pair at the node by one with an equal key, and returns the old pair. The node keeps its
     /// place.
     pub(crate) fn replace_pair_at(&mut self, node: Node, key: K, value: V) -> (K, V)
@@ -135,19 +133,9 @@ impl<K: Eq + Hash, V, S: BuildHasher> LinkedHashMap<K, V, S> {
         ensures stays { StaysHeld K.eq self.old self.new node (place_number self.old.nodes (Some node)) }
         ensures distinct { IsEntries K.eq (entries_of self.old) }
     {
-        self.list.replace_pair(node, key, value)
-    }
-
-    /// Replaces the pair by one with an equal key, moves the node to the back, and returns the old pair.
-    pub(crate) fn put_pair_last(&mut self, node: Node, key: K, value: V) -> (K, V)
-        requires { HoldsKey K.eq self.old.nodes key node }
-        ensures inserts { InsertsEntry (state_of self.old) (state_of self.new)
-            (place_number self.old.nodes (Some node)) key value result }
-        ensures updates { Updates K.eq (entries_of self.old) (entries_of self.new) key (Some value) }
-    {
-        let old = self.replace_pair_at(node, key, value);
-        self.move_to_back(node);
-        old
+        let old_value = self.replace_value_at(node, value);
+        let old_key = self.replace_key_at(node, key);
+        (old_key, old_value)
     }
 
     /// Removes the entry of the node, and returns it.

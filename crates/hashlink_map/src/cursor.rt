@@ -30,7 +30,7 @@ impl<K: Eq + Hash, V, S: BuildHasher> LinkedHashMap<K, V, S> {
         ensures unchanged { (cursor_map result).now ≡ self.old }
         ensures first { (cursor_state result).place ≡ 0 }
     {
-        let place = self.first_node();
+        let place = self.list.front();
         CursorMut { map: self, place }
     }
 
@@ -41,7 +41,7 @@ impl<K: Eq + Hash, V, S: BuildHasher> LinkedHashMap<K, V, S> {
         ensures unchanged { (cursor_map result).now ≡ self.old }
         ensures last { (cursor_state result).place ≡ length (entries_of self.old) - 1 }
     {
-        let place = self.last_node();
+        let place = self.list.back();
         CursorMut { map: self, place }
     }
 }

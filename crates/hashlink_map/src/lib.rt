@@ -4,7 +4,6 @@
 mod as_chain;
 mod as_node;
 mod at_node;
-mod at_place;
 mod clone;
 mod compare;
 mod cursor;

@@ -1,6 +1,6 @@
 //! Reads of a keyed list.
 ghost use Rattle.std.specs.Prelude.{◌≡◌, ◌+◌, ◌-◌, ◌<◌, ◌^◌, ◌↔◌, length, slice_get, None, Some, IfSome};
-ghost use Rattle.std.specs.Prelude.{IsTrue};
+ghost use Rattle.std.specs.Prelude.{[], IfNone, IsTrue};
 ghost use Rattle.std.specs.{Prelude.MatchOption, Map.Iter.{ShowsInOrder, ShowsInReverse, deref, deref_pair}};
 ghost use Rattle.std.specs.{Borrow.Bor, Fn.FnReturnsAt, Map.{lookup, keys_of, values_of}, Option.ForSome};
 ghost use Rattle.hashlink_model.specs.{Cursor.{following_place, preceding_place}, Entries.place_of};
@@ -75,6 +75,7 @@ impl<K: Eq + Hash, V, S: BuildHasher> KeyedList<K, V, S> {
     #[inline]
     pub fn front(&self) -> Option<Node>
         ensures place { IsPlaceAt self.now.nodes result 0 }
+        ensures none { IfNone result (entries_of self.now ≡ []) }
         ensures sound { IsKeyed K.eq self.now }
     {
         self.nodes.next(None)
@@ -83,7 +84,8 @@ impl<K: Eq + Hash, V, S: BuildHasher> KeyedList<K, V, S> {
     /// Returns the place of the last entry, or the guard if there is none.
     #[inline]
     pub fn back(&self) -> Option<Node>
-        ensures place { IsPlaceAt self.now.nodes result (length self.now.nodes - 1) }
+        ensures place { IsPlaceAt self.now.nodes result (length (entries_of self.now) - 1) }
+        ensures none { IfNone result (entries_of self.now ≡ []) }
         ensures sound { IsKeyed K.eq self.now }
     {
         self.nodes.prev(None)

@@ -1,9 +1,8 @@
 //! Changes of an entry that stays at its place.
 ghost use Rattle.std.specs.{Prelude.{◌≡◌, slice_get, Some}, Borrow.sem, Option.option_map};
 ghost use Rattle.hashlink_nodes.specs.Ring.{Holds};
-ghost use Rattle.hashlink_model.specs.Entry.{ReplacesEntry};
-ghost use Rattle.hashlink_core.specs.Keyed.{entries_of, state_of, EqualsKeyAt, HoldsKey, IsKeyed};
-ghost use Rattle.hashlink_core.specs.{Places.{place_number, renewed_at}, Steps.{WritesNode, SetsNodeKey}};
+ghost use Rattle.hashlink_core.specs.Keyed.{entries_of, EqualsKeyAt, IsKeyed};
+ghost use Rattle.hashlink_core.specs.{Places.place_number, Steps.{WritesNode, SetsNodeKey}};
 
 use super::KeyedList;
 use hashlink_nodes::Node;
@@ -63,19 +62,5 @@ impl<K: Eq + Hash, V, S: BuildHasher> KeyedList<K, V, S> {
         ensures sound { IsKeyed K.eq self.new }
     {
         self.nodes.set_key(node, key)
-    }
-    /// Replaces the key of the node's entry by an equal one and its value, and returns the old pair.
-    pub fn replace_pair(&mut self, node: Node, key: K, value: V) -> (K, V)
-        requires { HoldsKey K.eq self.old.nodes key node }
-        ensures replaces { ReplacesEntry (state_of self.old) (state_of self.new)
-            (place_number self.old.nodes (Some node)) key value result }
-        ensures nodes { self.new.nodes
-            ≡ renewed_at (λ _. (key, value)) self.old.nodes (place_number self.old.nodes (Some node)) }
-        ensures was_sound { IsKeyed K.eq self.old }
-        ensures sound { IsKeyed K.eq self.new }
-    {
-        let old_value = self.replace_value(node, value);
-        let old_key = self.replace_key(node, key);
-        (old_key, old_value)
     }
 }

@@ -25,7 +25,8 @@ impl<'a, K: Eq + Hash, V, S: BuildHasher> CursorMut<'a, K, V, S> {
         ensures moves { cursor_state self.new ≡ at_place (cursor_state self.old)
             (place_next (cursor_state self.old)) }
     {
-        self.place = self.map.place_after(self.place);
+        let map = &*self.map;
+        self.place = map.list.next(self.place);
     }
 
     /// Moves to the previous place: from the entry at the front to the guard, and from the guard to the entry
@@ -37,7 +38,8 @@ impl<'a, K: Eq + Hash, V, S: BuildHasher> CursorMut<'a, K, V, S> {
         ensures moves { cursor_state self.new
             ≡ at_place (cursor_state self.old) (place_previous (cursor_state self.old)) }
     {
-        self.place = self.map.place_before(self.place);
+        let map = &*self.map;
+        self.place = map.list.prev(self.place);
     }
 
     /// Returns the pair of the node.
@@ -92,7 +94,8 @@ impl<'a, K: Eq + Hash, V, S: BuildHasher> CursorMut<'a, K, V, S> {
     fn with_next(&mut self) -> (&mut Self, Option<Node>)
         ensures { TakesPlace self.entry (place_next (cursor_state self.old)) result }
     {
-        let next = self.map.place_after(self.place);
+        let map = &*self.map;
+        let next = map.list.next(self.place);
         (self, next)
     }
 
@@ -112,7 +115,8 @@ impl<'a, K: Eq + Hash, V, S: BuildHasher> CursorMut<'a, K, V, S> {
     fn with_previous(&mut self) -> (&mut Self, Option<Node>)
         ensures { TakesPlace self.entry (place_previous (cursor_state self.old)) result }
     {
-        let previous = self.map.place_before(self.place);
+        let map = &*self.map;
+        let previous = map.list.prev(self.place);
         (self, previous)
     }
 
@@ -194,7 +198,8 @@ impl<'a, K: Eq + Hash, V, S: BuildHasher> CursorMut<'a, K, V, S> {
         ensures { option_map deref_pair result
             ≡ entry_in (cursor_state self.now) (place_next (cursor_state self.now)) }
     {
-        self.map.pair_at_place(self.map.place_after(self.place))
+        let map = &*self.map;
+        map.pair_at_place(map.list.next(self.place))
     }
 
     /// Returns the entry at the previous place, or `None` at the guard. It takes constant time and hashes
@@ -204,7 +209,8 @@ impl<'a, K: Eq + Hash, V, S: BuildHasher> CursorMut<'a, K, V, S> {
         ensures { option_map deref_pair result
             ≡ entry_in (cursor_state self.now) (place_previous (cursor_state self.now)) }
     {
-        self.map.pair_at_place(self.map.place_before(self.place))
+        let map = &*self.map;
+        map.pair_at_place(map.list.prev(self.place))
     }
 
     /// Inserts the pair directly before the cursor, and returns the old value of the key if there was one. At
@@ -240,7 +246,8 @@ impl<'a, K: Eq + Hash, V, S: BuildHasher> CursorMut<'a, K, V, S> {
         ensures updates { OnOk result (Updates K.eq (cursor_state self.old).map.entries
             (cursor_state self.new).map.entries key (Some value)) }
     {
-        let place = self.map.place_after(self.place);
+        let map = &*self.map;
+        let place = map.list.next(self.place);
         self.map.insert_at(place, key, value)
     }
 }

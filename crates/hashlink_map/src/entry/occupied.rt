@@ -134,7 +134,9 @@ impl<'a, K: Eq + Hash, V, S: BuildHasher> OccupiedEntry<'a, K, V, S> {
         ensures stands { StandsAt self.old self.new (length (occupied_state self.old).map.entries - 1) }
     {
         let node = self.node;
-        self.map.put_value_last(node, value)
+        let old = self.map.replace_value_at(node, value);
+        self.map.move_to_back(node);
+        old
     }
 
     /// Replaces the pair by the given key and the value, moves the entry to the back, and returns the old
@@ -147,7 +149,9 @@ impl<'a, K: Eq + Hash, V, S: BuildHasher> OccupiedEntry<'a, K, V, S> {
     {
         let node = self.node;
         let key = self.key;
-        self.map.put_pair_last(node, key, value)
+        let old = self.map.replace_pair_at(node, key, value);
+        self.map.move_to_back(node);
+        old
     }
 
     /// Replaces the pair by the given key and the value, and returns the old pair. The entry keeps its place.

@@ -1,6 +1,6 @@
 //! Inserts. Each of them hashes the key once, and looks it up as `get` does.
-ghost use Rattle.std.specs.Prelude.{◌≡◌, [], ◌∷◌, ◌++◌, Option, None, Some, IfOk, IfErr, IsOk, IsSome, OnOk, length};
-ghost use Rattle.std.specs.{Borrow.sem, Map.lookup, Option.UnwrapsOrElse};
+ghost use Rattle.std.specs.Prelude.{◌≡◌, [], ◌∷◌, ◌++◌, Option, None, Some, IfOk, IfErr, IsOk, IsSome};
+ghost use Rattle.std.specs.{Prelude.{OnOk, length}, Borrow.sem, Map.lookup, Option.UnwrapsOrElse};
 ghost use Rattle.hashlink_model.specs.{Entries.{IsEntries, place_or_end, put}, MapState.Inserts};
 ghost use Rattle.hashlink_model.specs.{Lookups.{Updates, UpdatesLast}, Steps.Replaces};
 ghost use Rattle.hashlink_core.specs.{Keyed.{state_of, entries_of}, Steps.KeepsPlace};
@@ -93,7 +93,7 @@ impl<K: Eq + Hash, V, S: BuildHasher> LinkedHashMap<K, V, S> {
         ensures there { IsSome (lookup (K.eq key) (entries_of self.old)) → IsOk result }
         ensures distinct { IsEntries K.eq (entries_of self.new) }
     {
-        let first = self.first_node();
+        let first = self.list.front();
         self.insert_at(first, key, value)
     }
 

@@ -1,10 +1,10 @@
 //! Reads of a map. Each lookup hashes the key once, and looks at the entries of one bucket.
-ghost use Rattle.std.specs.Prelude.{◌≡◌, ◌-◌, [], length, None, IfNone, IfSome, MatchOption, is_some};
+ghost use Rattle.std.specs.Prelude.{◌≡◌, [], None, IfNone, IfSome, MatchOption, is_some};
 ghost use Rattle.std.specs.{Prelude.option_copied, Borrow.sem, Option.{option_map, option_copied_mut}};
 ghost use Rattle.std.specs.{Map.{lookup, lookup_entry}, Map.Iter.deref_pair};
 ghost use Rattle.hashlink_model.specs.{Entries.{IsEntries, place_of}, Lookups.UpdatesLent};
 ghost use Rattle.hashlink_model.specs.Walk.{first_of, last_of};
-ghost use Rattle.hashlink_core.specs.{Keyed.{entries_of, HoldsMatch}, Places.IsPlaceAt};
+ghost use Rattle.hashlink_core.specs.Keyed.{entries_of, HoldsMatch};
 
 use super::LinkedHashMap;
 use hashlink_core::{Equivalent, Node};
@@ -21,26 +21,6 @@ impl<K: Eq + Hash, V, S: BuildHasher> LinkedHashMap<K, V, S> {
         ensures distinct { IsEntries K.eq (entries_of self.now) }
     {
         self.list.find(self.list.hash_of(key), key)
-    }
-
-    /// Returns the node at the front, or `None` if the map is empty.
-    #[inline]
-    pub(crate) fn first_node(&self) -> Option<Node>
-        ensures place { IsPlaceAt self.now.nodes result 0 }
-        ensures none { IfNone result (entries_of self.now ≡ []) }
-        ensures distinct { IsEntries K.eq (entries_of self.now) }
-    {
-        self.list.front()
-    }
-
-    /// Returns the node at the back, or `None` if the map is empty.
-    #[inline]
-    pub(crate) fn last_node(&self) -> Option<Node>
-        ensures place { IsPlaceAt self.now.nodes result (length (entries_of self.now) - 1) }
-        ensures none { IfNone result (entries_of self.now ≡ []) }
-        ensures distinct { IsEntries K.eq (entries_of self.now) }
-    {
-        self.list.back()
     }
 
     /// Returns a reference to the value of the key, or `None` if it is absent. The order does not change. It
@@ -99,7 +79,7 @@ impl<K: Eq + Hash, V, S: BuildHasher> LinkedHashMap<K, V, S> {
         ensures none { IfNone result (entries_of self.now ≡ []) }
         ensures distinct { IsEntries K.eq (entries_of self.now) }
     {
-        let node = self.first_node()?;
+        let node = self.list.front()?;
         Some(self.pair_at(node))
     }
 
@@ -111,7 +91,7 @@ impl<K: Eq + Hash, V, S: BuildHasher> LinkedHashMap<K, V, S> {
         ensures none { IfNone result (entries_of self.now ≡ []) }
         ensures distinct { IsEntries K.eq (entries_of self.now) }
     {
-        let node = self.last_node()?;
+        let node = self.list.back()?;
         Some(self.pair_at(node))
     }
 
@@ -123,7 +103,7 @@ impl<K: Eq + Hash, V, S: BuildHasher> LinkedHashMap<K, V, S> {
             S.BuildHasher S.Hasher.Hasher self.entry result) }
         ensures value { option_copied_mut result ≡ option_map (λ e. e.1) (last_of (entries_of self.old)) }
     {
-        match self.last_node() {
+        match self.list.back() {
             Some(node) => Some(self.value_at_mut(node)),
             None => None,
         }

@@ -52,7 +52,7 @@ impl<K: Eq + Hash, V, S: BuildHasher> LinkedHashMap<K, V, S> {
         ensures first { IfSome result (λ o. raw_place o ≡ 0) }
         ensures none { IfNone result (entries_of self.old ≡ []) }
     {
-        let node = self.first_node()?;
+        let node = self.list.front()?;
         Some(RawOccupiedEntryMut { map: self, node })
     }
 
@@ -65,7 +65,7 @@ impl<K: Eq + Hash, V, S: BuildHasher> LinkedHashMap<K, V, S> {
         ensures last { IfSome result (λ o. raw_place o ≡ length (entries_of self.old) - 1) }
         ensures none { IfNone result (entries_of self.old ≡ []) }
     {
-        let node = self.last_node()?;
+        let node = self.list.back()?;
         Some(RawOccupiedEntryMut { map: self, node })
     }
 }

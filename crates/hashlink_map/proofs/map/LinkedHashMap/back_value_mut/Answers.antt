@@ -5,7 +5,7 @@ use Rattle.hashlink_map.proofs.map.LinkedHashMap.back_value_mut.Goals as goal
 pub returns-in-Some : goal.returns-in-Some
 returns-in-Some g c =
     let m = c.args.self.now in
-    let last = c.in-Some.ensures.place.number in (
+    let last = rw c.self.view_is at c.in-Some.ensures.place.number in (
       (
         refl,
         λ w. ap (λ es. record (state_of m) { entries = es })

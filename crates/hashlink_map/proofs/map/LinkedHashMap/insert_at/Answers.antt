@@ -1,4 +1,5 @@
-use Rattle.hashlink_map.proofs.{Names.{◌≡◌, Ok, None, Some, refl, rules, state_of, place_number}, Inserted.inserted}
+use Rattle.hashlink_map.proofs.Names.{◌≡◌, Ok, None, Some, refl, rules, state_of, place_number}
+use Rattle.hashlink_map.proofs.Inserted.{inserted}
 use Rattle.hashlink_core.proofs.Keeping.{keys-added, keys-grown, keys-moved, keys-place, keys-written}
 use Rattle.hashlink_core.proofs.{AtKey.stays-key, Keeping.{keys_twice, left-place}}
 use Rattle.hashlink_core.proofs.AtKeyNode.{written-number, written-holds, put, added, refused, passed-on}
@@ -24,8 +25,9 @@ returns-in_default g c =
     let old = c.self.inside.list in let new = c.insert_before.new.self in
     let e = c.in_ok-insert_before.ensures in
     rw (← c.self.view_is) (inserted g.met.K.Eq.laws e.was_sound e.sound c.args.key c.args.value (Ok None)
-    c.args.place (added g.K.PartialEq.eq old new c.args.key c.args.value (place_number old.nodes c.args.place) _
-    c.in_ok-insert_before.field-0 refl c.in_default.ensures.found e.added)
+    c.args.place (added g.K.PartialEq.eq old new c.args.key c.args.value
+    (place_number old.nodes c.args.place) _ c.in_ok-insert_before.field-0 refl
+    c.in_default.ensures.found e.added)
     (keys-added old new e.added))
 
 -- ---- a present key

@@ -4,7 +4,7 @@ use Rattle.hashlink_map.proofs.map.LinkedHashMap.insert_front.Goals as goal
 pub returns : goal.returns
 returns g c =
     let e = c.insert_at.ensures in
-    let inserts = rw (c.first_node-first.ensures.place.number) at e.inserts in
+    let inserts = rw (rw c.self.view_is at c.front-first.ensures.place.number) at e.inserts in
     let outcome = inserts_outcome _ _ _ _ _ _ _ inserts in
     record {
       inserts = inserts;

@@ -1,4 +1,4 @@
-use Rattle.hashlink_map.proofs.Names.{None, Some, arith}
+use Rattle.hashlink_map.proofs.Names.{None, Some}
 use Rattle.hashlink_map.proofs.Taking.{pops-first, pops-none, popped_front}
 use Rattle.hashlink_map.proofs.map.LinkedHashMap.pop_front.Goals as goal
 
@@ -6,7 +6,7 @@ pub returns-in_err-node : goal.returns-in_err-node
 returns-in_err-node g c =
     let m = c.self.inside.list in let e = c.in_err-node.ensures in
     rw (c.from_residual.ensures, ← c.self.view_is) (popped_front m m g.met.K.Eq.laws e.sound e.sound None
-    (pops-none m m (omega (arith, e.place.number))).0)
+    (pops-none m m e.none).0)
 
 pub returns : goal.returns
 returns g c =

@@ -2,4 +2,5 @@ use Rattle.hashlink_map.proofs.Names.{rules, slice_get, ap, ◌∙◌}
 use Rattle.hashlink_map.proofs.cursor.methods.CursorMut+K+V+S.next_pair.Goals as goal
 
 pub returns : goal.returns
-returns g c = c.pair_at_place.ensures ∙ ap (slice_get _) (c.place_after.ensures.number ∙ search rules)
+returns g c =
+    c.pair_at_place.ensures ∙ ap (slice_get _) (rw c.map.view_is at c.next.ensures.number ∙ search rules)
