@@ -8,4 +8,5 @@ pub mod Refusals
 pub mod Steps
 pub mod Telling
 pub mod Tied
+pub mod TwoIterators
 pub mod Walk

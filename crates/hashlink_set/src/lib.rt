@@ -11,7 +11,6 @@ mod emptied;
 mod extend;
 mod into_iter;
 mod iter;
-mod iterators;
 mod lookup;
 mod set;
 mod sifted;
