@@ -147,8 +147,8 @@ module _ (tags : List ℕ) (owns guests : ℕ) where
       ≡ set marks lane (record (get_or marks lane free_mark) { tag = tag; own = true })
   marks-own lane tag own low long here there =
       let stays = is_bit (bit_at guests lane) (bit_at-lt guests lane) in
-      marks-set lane (record (mark_of tags owns guests lane) { tag = tag; own = true }) own guests low long here
-      there stays (λ i _ _. refl)
+      marks-set lane (record (mark_of tags owns guests lane) { tag = tag; own = true }) own guests low long
+      here there stays (λ i _ _. refl)
       ∙ ap (λ (m : Mark). set marks lane (record m { tag = tag; own = true })) (sym (mark_read lane low))
 
   -- the node is taken out, and the tag stays

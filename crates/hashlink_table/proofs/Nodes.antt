@@ -1,7 +1,8 @@
 -- The nodes of a list of cells: after a write, one by one, and in a loop that inserts them.
 use Rattle.hashlink_table.proofs.Names
 use Names.{◌≡◌, ℕ, zero, suc, ◌+◌, ◌<◌, ◌≤◌, List, [], ◌∷◌, ◌++◌, length, get_or, set, replicate, take, drop}
-use Names.{true, false, inl, inr, cases_eq, true≢false, Bool, Option, Some, None, is_some, refl, sym, ap, ◌∙◌, subst}
+use Names.{true, false, inl, inr, cases_eq, true≢false, Bool, Option, Some, None, is_some}
+use Names.{refl, sym, ap, ◌∙◌, subst}
 use Names.{arith, Contains}
 use Names.{IsPermutation, take_more, take-append-drop, length-append, IsPermutation-refl, IsPermutation-trans}
 use Names.{IsPermutation-cons, IsPermutation-middle, IsPermutation-to_front, Hashed, Cell, kept_at, stored_in}

@@ -1,7 +1,8 @@
 -- The slots, from what is stored to what contracts see.
 use Rattle.hashlink_table.proofs.Names
 use Names.{◌≡◌, ℕ, zero, suc, ◌<◌, ◌≤◌, Bool, true, false, cond, ◌∷◌, eqb, List, [], length}
-use Names.{map, not, take, drop, get_or, set, replicate, Some, None, refl, sym, ap, ◌∙◌, subst, arith, is_none}
+use Names.{map, not, take, drop, get_or, set, replicate, Some, None, refl, sym, ap, ◌∙◌, subst, arith}
+use Names.{is_none}
 use Names.{is_some, IfSome, All, chunk, false≢true, get_or-map, length-map, map-id}
 use Names.{map-set}
 use Names.{set-get_or, take-map, drop-map, All-get_or, All-head, All-map, All-set, All-tail}

@@ -21,7 +21,7 @@ impl<K: Eq + Hash, V, S: BuildHasher> KeyedList<K, V, S> {
     {
         let hash = short_hash(self.hash_of(key));
         let nodes = &self.nodes;
-        let holds_match = |node: Node| -> bool
+        let holds_match = move |node: Node| -> bool
             requires { Holds nodes.now.entries node }
             ensures { IfSome (lookup (same_node node) nodes.entry.now.entries)
                 (λ held. result ≡ Q.matches key held.key) }

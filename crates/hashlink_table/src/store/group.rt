@@ -1,6 +1,6 @@
 //! What is stored for a group of sixteen slots.
-ghost use Rattle.std.specs.Prelude.{◌≡◌, ◌≢◌, ℕ, ◌<◌, cond, map, replicate, slice_index_or, slice_set, false, true};
-ghost use Rattle.std.specs.{Int.{bit_at}, Simd.Lanes.{mask_l}};
+ghost use Rattle.std.specs.Prelude.{◌≡◌, ◌≢◌, ℕ, ◌<◌, cond, false, map, replicate, slice_index_or, true};
+ghost use Rattle.std.specs.{Int.{bit_at}, Prelude.{slice_set}, Simd.Lanes.{mask_l}};
 ghost use Rattle.hashlink_table.specs.{Blocks.{free_mark, has_own, is_free, is_taken}, Stored.{no_guests}};
 
 use super::head::{Head, NO_GUESTS};

@@ -2,7 +2,7 @@
 use Rattle.hashlink_table.proofs.Names.{◌≡◌, ℕ, ◌+◌, ◌<◌, ◌≤◌, ◌∷◌, ◌++◌, length, [], ap, refl, ◌∙◌, arith}
 use Rattle.hashlink_table.proofs.Names.{length-replicate, IsPermutation-refl, length_permutation, length_push}
 use Rattle.hashlink_table.proofs.Names.{nodes_in, take, bare_cell, is_some, Cell, count_trailing_zeros}
-use Rattle.hashlink_table.proofs.Names.{Hashed, Some, false, kept_at}
+use Rattle.hashlink_table.proofs.Names.{Bool, Hashed, Some, false, kept_at}
 use Rattle.hashlink_table.proofs.Nodes.{next_some, nodes_in-bare, nodes_in-part, nodes_in-passed, put_on}
 use Rattle.hashlink_table.proofs.{Masks.{hit, no_hit, IsHit, IsLeft}, Sound.arranged-bare}
 use Rattle.hashlink_table.proofs.store.growth.moved.Given as given
@@ -33,13 +33,15 @@ module _ (g : given.Over) (c : After-taken-left g) where
   passed at to low high none =
       nodes_in-passed c.args.slots.now.cells at to low (omega (arith, high, room)) none
 
-  module _ (at left : ℕ)
-      (l : IsLeft c.args.slots.now.cells c.loop-base.base (λ (d : Cell g.row.N.Denot). is_some d.kept) at left)
+  abbrev has_node : Cell g.row.N.Denot → Bool
+  has_node d = is_some d.kept
+
+  module _ (at left : ℕ) (l : IsLeft c.args.slots.now.cells c.loop-base.base has_node at left)
       (some : left ≡ 0 → ⊥) where
     abbrev to : ℕ
     to = at + count_trailing_zeros 64 left
 
-    found : IsHit c.args.slots.now.cells c.loop-base.base (λ (d : Cell g.row.N.Denot). is_some d.kept) at left
+    found : IsHit c.args.slots.now.cells c.loop-base.base has_node at left
     found = hit room l some
 
     more : (k : Hashed g.row.N.Denot) → kept_at c.args.slots.now.cells to ≡ Some k
@@ -69,7 +71,7 @@ put-requires-clause-roomy g c =
     let next = more g p _ _ v.left c.loop-left-test.true kept c.known-kept.ensures in
     omega (
       arith,
-      nodes_in-part c.args.slots.now.cells (to g p c.loop-left.at c.loop-left.left v.left c.loop-left-test.true + 1),
+      nodes_in-part c.args.slots.now.cells (c.loop-left.at + count_trailing_zeros 64 c.loop-left.left + 1),
       ap length next,
       length_push (nodes_in (take c.loop-left.at c.args.slots.now.cells)) kept,
       length_permutation _ _ v.nodes,

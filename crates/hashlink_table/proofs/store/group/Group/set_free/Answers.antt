@@ -1,6 +1,7 @@
 use Rattle.hashlink_table.proofs.Names.{List, ap, ◌∙◌, set, get_or, false}
 use Rattle.hashlink_table.proofs.Blocks.{marks-free}
-use Rattle.hashlink_table.specs.{Blocks.{Block, free_mark}, declared.store.head.Head.Head, declared.store.mark.Mark.Mark}
+use Rattle.hashlink_table.specs.Blocks.{Block, free_mark}
+use Rattle.hashlink_table.specs.declared.store.{head.Head.Head, mark.Mark.Mark}
 use Rattle.hashlink_table.proofs.store.group.Group.set_free.Goals as goal
 
 pub returns : goal.returns

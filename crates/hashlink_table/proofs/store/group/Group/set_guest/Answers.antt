@@ -12,4 +12,5 @@ returns c =
     ap (λ (ms : List Mark). let b : Block = record { marks = ms; head = head } in b)
     (marks-set t.tags t.owns t.guests c.args.lane mark _ _ c.requires c.self.told own.same own.others
     guest.same guest.others)
-    ∙ ap (λ (b : Block). let d : Block = record b { marks = set b.marks c.args.lane mark } in d) c.self.view_is
+    ∙ ap (λ (b : Block). let d : Block = record b { marks = set b.marks c.args.lane mark } in d)
+    c.self.view_is

@@ -1,6 +1,7 @@
 use Rattle.hashlink_table.proofs.Names.{List, ap, ◌∙◌, set, get_or, true}
 use Rattle.hashlink_table.proofs.Blocks.{marks-own}
-use Rattle.hashlink_table.specs.{Blocks.{Block, free_mark}, declared.store.head.Head.Head, declared.store.mark.Mark.Mark}
+use Rattle.hashlink_table.specs.Blocks.{Block, free_mark}
+use Rattle.hashlink_table.specs.declared.store.{head.Head.Head, mark.Mark.Mark}
 use Rattle.hashlink_table.proofs.store.group.Group.set_own.Goals as goal
 
 pub returns : goal.returns
