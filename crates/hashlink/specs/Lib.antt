@@ -1,8 +1,5 @@
 -- The definitions that the contracts of the containers use, passed on. If two crates have files of the same
 -- name, the name here begins with that of the container, such as `MapLends`.
-pub mod Joined
-pub mod Texts
-pub mod WithoutFirst
 pub use Rattle.hashlink_model.specs.Algebra
 pub use Rattle.hashlink_model.specs.Cache
 pub use Rattle.hashlink_history.specs.CacheRuns
@@ -39,12 +36,15 @@ pub use Rattle.hashlink_map.specs.Indexed
 pub use Rattle.hashlink_map.specs.InsertLends as MapInsertLends
 pub use Rattle.hashlink_map.specs.IterMut
 pub use Rattle.hashlink_map.specs.IterMutLends
+pub use Rattle.hashlink_map.specs.Joined
 pub use Rattle.hashlink_map.specs.Lends as MapLends
 pub use Rattle.hashlink_map.specs.RawEntry
 pub use Rattle.hashlink_map.specs.RawLends
 pub use Rattle.hashlink_map.specs.Reading
 pub use Rattle.hashlink_map.specs.Standing
+pub use Rattle.hashlink_map.specs.Texts
 pub use Rattle.hashlink_map.specs.TryInsert
+pub use Rattle.hashlink_map.specs.WithoutFirst
 pub use Rattle.hashlink_map.specs.WritingWalk
 pub use Rattle.hashlink_set.specs.Elements as SetElements
 pub use Rattle.hashlink_set.specs.Walks as SetWalks

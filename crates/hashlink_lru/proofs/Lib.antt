@@ -6,3 +6,5 @@ pub mod Extending
 pub mod Pushing
 pub mod Using
 pub mod Updating
+pub mod AfterCalls
+pub mod JoinedCaches

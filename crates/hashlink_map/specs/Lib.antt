@@ -12,11 +12,14 @@ pub mod Indexed
 pub mod InsertLends
 pub mod IterMut
 pub mod IterMutLends
+pub mod Joined
 pub mod Lends
 pub mod RawEntry
 pub mod RawLends
 pub mod Reading
 pub mod Refusals
 pub mod Standing
+pub mod Texts
 pub mod TryInsert
+pub mod WithoutFirst
 pub mod WritingWalk

@@ -11,3 +11,4 @@ pub mod Retaining
 pub mod Stored
 pub mod Updated
 pub mod Texts
+pub mod AfterCalls

@@ -4,6 +4,5 @@ pub mod Appearances
 pub mod Contents
 pub mod Merged
 pub mod Numbered
-pub mod Recent
+pub mod Sections
 pub mod Subscribers
-pub mod Turns

@@ -1,5 +1,6 @@
 //! A cache of names, each with an address that is valid until a time.
-ghost use Rattle.std.specs.{Prelude.{◌≡◌, ◌≤◌, IfErr, IfOk, OnErr, OnOk, filter, length}, String.string_eq};
+ghost use Rattle.std.specs.Prelude.{◌≡◌, ◌≤◌, [], ◌∷◌, ◌++◌, IfErr, IfOk, IsFalse, IsTrue, OnErr, OnOk, String};
+ghost use Rattle.std.specs.{Prelude.{filter, is_some, length, string_bytes}, Global.Global, String.string_eq};
 ghost use Rattle.std.specs.{Option.option_and_then, Map.{lookup, remove_entry}};
 ghost use Rattle.hashlink.specs.{Cache.cache_put, Cached.{entries_of, state_of}, Texts.is_text};
 ghost use Rattle.hashlink_uses.specs.Answers.{address_at, holds_at};
@@ -47,6 +48,26 @@ pub fn address_of<S: BuildHasher>(
         return None;
     }
     Some(answer.address)
+}
+
+/// Writes a new address of a known name, which is then the most recently used name, and returns whether it is
+/// known.
+pub fn renew<S: BuildHasher>(
+    names: &mut LruCache<String, Answer, S>,
+    name: &str,
+    answer: Answer,
+) -> bool
+    ensures known { result ≡ is_some (lookup (is_text name.now) (entries_of names.old)) }
+    ensures renewed { IsTrue result → (stored : String Global) × (string_bytes stored ≡ name.now)
+        × (entries_of names.new
+        ≡ remove_entry (is_text name.now) (entries_of names.old) ++ (stored, answer) ∷ []) }
+    ensures unchanged { IsFalse result → entries_of names.new ≡ entries_of names.old }
+{
+    let Some(stored) = names.get_mut(name) else {
+        return false;
+    };
+    *stored = answer;
+    true
 }
 
 /// Removes a name, and returns what was known about it.

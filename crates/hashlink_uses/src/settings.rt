@@ -1,10 +1,12 @@
 //! Settings in the order in which they were first set, and other settings that override them.
-ghost use Rattle.std.specs.Prelude.{◌≡◌, ◌++◌, ◌∷◌, Bool, IfErr, IsOk, IsSome, List, OnOk};
-ghost use Rattle.std.specs.{Cmp.IsEquivalence, Map.{keys_of, lookup}, Option.option_or};
+ghost use Rattle.std.specs.Prelude.{◌≡◌, ◌++◌, ◌∷◌, Bool, IfErr, IsOk, IsSome, List, OnErr, OnOk, true};
+ghost use Rattle.std.specs.{Cmp.IsEquivalence, Map.{keys_of, lookup}, Option.option_or, Set.is_member, String.string_eq};
 ghost use Rattle.hashlink.specs.{Entries.{IsEntries, place_or_end, put}, Keyed.entries_of};
 ghost use Rattle.hashlink_uses.specs.{Appearances.first_appearances, Merged.merged};
+ghost use Rattle.hashlink_uses.specs.Sections.{StopsLaying, laid_over, settings_in};
 
 use hashlink::LinkedHashMap;
+use std::alloc::AllocError;
 use std::hash::{BuildHasher, Hash};
 
 /// Sets a setting. A present one keeps its place and takes the value; a new one goes to the back. It
@@ -43,8 +45,37 @@ pub fn merge<K: Eq + Hash + Drop, V: Drop, S: BuildHasher, R: BuildHasher + Drop
     Ok(())
 }
 
+/// Settings in sections, looked up by names.
+pub type Sections = LinkedHashMap<String, LinkedHashMap<String, String>>;
+
+/// Lays other sections over these, in order. A section that is present keeps its place, and the other's
+/// settings are merged into it; a new one goes to the back. If memory runs out, what was set before stays
+/// set, and the rest is dropped.
+pub fn lay_over(sections: &mut Sections, others: Sections) -> Result<(), AllocError>
+    ensures all { OnOk result (settings_in (entries_of sections.new) ≡ laid_over string_eq string_eq
+        (settings_in (entries_of sections.old)) (settings_in (entries_of others))) }
+    ensures stopped { OnErr result (StopsLaying string_eq string_eq (settings_in (entries_of sections.old))
+        (settings_in (entries_of others)) (settings_in (entries_of sections.new))) }
+{
+    for (name, settings) in others {
+        match sections.get_mut(&name) {
+            Some(section) => {
+                let Ok(()) = merge(section, settings) else {
+                    return Err(AllocError);
+                };
+            }
+            None => {
+                let Ok(_) = sections.insert(name, settings) else {
+                    return Err(AllocError);
+                };
+            }
+        }
+    }
+    Ok(())
+}
+
 /// After a merge each key has the other value if there is one, and else its own. The present keys keep their
-/// order, and the new keys follow in the order of the others. The function has an empty body: its contract is
+/// order, and the new keys follow in the order of the others. No key is lost. The function has an empty body: its contract is
 /// the theorem.
 pub fn what_a_merge_leaves<K, V>()
     ensures wins { (eq : K → K → Bool) → IsEquivalence eq → (key : K) (es others : List (K × V))
@@ -52,4 +83,6 @@ pub fn what_a_merge_leaves<K, V>()
         → lookup (eq key) (merged eq es others) ≡ option_or (lookup (eq key) others) (lookup (eq key) es) }
     ensures order { (eq : K → K → Bool) (es others : List (K × V)) → keys_of (merged eq es others)
         ≡ keys_of es ++ first_appearances eq (keys_of es) (keys_of others) }
+    ensures kept { (eq : K → K → Bool) (key : K) (es others : List (K × V))
+        → is_member eq (keys_of es) key ≡ true → is_member eq (keys_of (merged eq es others)) key ≡ true }
 {}

@@ -4,7 +4,6 @@ mod curves;
 mod forms;
 mod maps;
 mod pages;
-mod recent;
 mod segments;
 mod symbols;
 mod topics;

@@ -1,11 +1,10 @@
-//! Names, settings, lines, tasks, squares and cubes.
+//! Names, settings, lines, squares and cubes.
 use crate::few::{is_pair, passes};
 use hashlink::{LinkedHashMap, LinkedHashSet, LruCache};
 use hashlink_uses::lines::distinct_lines;
 use hashlink_uses::memo::{CubeError, Cubes, Squares, shared_cube, shared_square};
 use hashlink_uses::names::{Answer, address_of, learn, sweep};
 use hashlink_uses::settings::merge;
-use hashlink_uses::tasks::RoundRobin;
 use std::alloc::{AllocError, Global};
 use std::hash::RandomState;
 use std::process::ExitCode;
@@ -153,26 +152,6 @@ fn is_history(alloc: Global, text: &mut String) -> bool {
 #[test]
 fn a_line_is_shown_where_it_appears_first(rt: HostRuntime) -> ExitCode {
     passes(is_history(rt.alloc(), &mut String::new(rt.alloc())))
-}
-
-/// Whether three tasks, one of them added twice, have their turns one after another, and so do the others
-/// after one is removed.
-fn have_their_turns(tasks: &mut RoundRobin<u32>) -> bool {
-    let added = [tasks.add(7), tasks.add(3), tasks.add(5), tasks.add(3)];
-    let first = tasks.next();
-    let round = [tasks.next(), tasks.next(), tasks.next()];
-    let removed = [tasks.remove(&5), tasks.remove(&5)];
-    (added == [Ok(true), Ok(true), Ok(true), Ok(false)])
-        & (first == Some(7))
-        & (round == [Some(3), Some(5), Some(7)])
-        & (removed == [true, false])
-        & ([tasks.next(), tasks.next(), tasks.next()] == [Some(3), Some(7), Some(3)])
-        & (tasks.len() == 2)
-}
-
-#[test]
-fn each_task_has_its_turn(rt: HostRuntime) -> ExitCode {
-    passes(have_their_turns(&mut RoundRobin::new(rt.alloc())))
 }
 
 #[test]

@@ -1,5 +1,5 @@
 use Rattle.hashlink.{specs.MapState.AddsEntry, proofs.AtNode.adds-rewritten-at}
-use Rattle.hashlink_uses.proofs.Found.{is-not-absent}
+use Rattle.hashlink.proofs.Found.{is-not-absent}
 use Rattle.hashlink_uses.proofs.Common.{◌≡◌, length, subst, rules, state_of, entries_of, raw_place}
 use Rattle.hashlink_uses.proofs.maps.entries.put_absent.Goals as goal
 

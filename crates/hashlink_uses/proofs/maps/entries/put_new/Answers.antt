@@ -1,7 +1,8 @@
 use Rattle.std.specs.Prelude.{OnErr}
 use Rattle.hashlink.specs.MapState.{AddsEntry, RefusesEntry}
 use Rattle.hashlink_uses.proofs.Common.{ap, is_none, is_ok, length, subst, ◌∙◌, rules, IsOk, IfErr}
-use Rattle.hashlink_uses.proofs.{Found.is-not-absent, Common.{entries_of, state_of, occupied_place}}
+use Rattle.hashlink.proofs.Found.{is-not-absent}
+use Rattle.hashlink_uses.proofs.Common.{entries_of, state_of, occupied_place}
 use Rattle.hashlink_uses.proofs.maps.entries.put_new.Goals as goal
 
 pub returns-in-Occupied-clause-added : goal.returns-in-Occupied-clause-added

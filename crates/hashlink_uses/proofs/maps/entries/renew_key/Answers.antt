@@ -1,4 +1,5 @@
-use Rattle.hashlink_uses.proofs.{Found.{is-found, is-not-found}, Common.{rules, entries_of, raw_place}}
+use Rattle.hashlink.proofs.Found.{is-found, is-not-found}
+use Rattle.hashlink_uses.proofs.Common.{rules, entries_of, raw_place}
 use Rattle.hashlink_uses.proofs.maps.entries.renew_key.Goals as goal
 
 pub returns-in-Occupied-clause-found : goal.returns-in-Occupied-clause-found

@@ -1,5 +1,5 @@
 use Rattle.std.specs.Prelude.{◌<◌, IfNone}
-use Rattle.hashlink_uses.proofs.Found.{few-before-last}
+use Rattle.hashlink.proofs.Found.{few-before-last}
 use Rattle.hashlink_uses.proofs.Common.{◌≡◌, None, sym, subst, rules, length, entries_of}
 use Rattle.hashlink_uses.proofs.maps.entries.take_before_last.Goals as goal
 

@@ -1,6 +1,6 @@
 use Rattle.std.{proofs.Common.ap₂, specs.Prelude.OnSome}
 use Rattle.hashlink.specs.MapCursor.{CursorWritten, cursor_state}
-use Rattle.hashlink_uses.proofs.Found.{no-value-first}
+use Rattle.hashlink.proofs.Found.{no-value-first}
 use Rattle.hashlink_uses.proofs.Common.{◌∙◌, ap, subst, rules, with_value, entries_of, state_of}
 use Rattle.hashlink_uses.proofs.maps.entries.write_first.Goals as goal
 

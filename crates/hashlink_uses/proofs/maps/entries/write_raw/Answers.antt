@@ -1,5 +1,5 @@
 use Rattle.hashlink.proofs.AtKey.{replaced-key}
-use Rattle.hashlink_uses.proofs.Found.{is-found, is-not-found}
+use Rattle.hashlink.proofs.Found.{is-found, is-not-found}
 use Rattle.hashlink_uses.proofs.Common.{rules, entries_of, state_of, raw_place}
 use Rattle.hashlink_uses.proofs.maps.entries.write_raw.Goals as goal
 

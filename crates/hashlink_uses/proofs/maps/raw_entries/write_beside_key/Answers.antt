@@ -1,4 +1,4 @@
-use Rattle.hashlink_uses.proofs.Found.{is-found, is-not-found}
+use Rattle.hashlink.proofs.Found.{is-found, is-not-found}
 use Rattle.hashlink_uses.proofs.Common.{rules, entries_of, state_of, raw_place, written-key}
 use Rattle.hashlink_uses.proofs.maps.raw_entries.write_beside_key.Goals as goal
 

@@ -1,5 +1,5 @@
 use Rattle.hashlink.proofs.Walking.{walk-ends}
-use Rattle.hashlink_uses.proofs.Found.{no-value-left}
+use Rattle.hashlink.proofs.Found.{no-value-left}
 use Rattle.hashlink_uses.proofs.Common.{rules, ap, arith, length, ◌∙◌, entries_of, with_value, on-some}
 use Rattle.hashlink_uses.proofs.maps.writing_walks.write_first.Goals as goal
 

@@ -2,7 +2,7 @@
 use Rattle.std.{proofs.Common.{◌≡◌, ◌+◌, ◌≤◌, ℕ, zero, suc, Bool, cond, not, ◌&&◌, nat_lt}, specs.Map.keys_of}
 use Rattle.std.proofs.Common.{List, [], ◌∷◌, length, ap, refl, sym, subst, ◌∙◌, arith, true, false, filter}
 use Rattle.hashlink_model.specs.{MapState.MapState, Retain.{KeepsInOrder, RetainsInOrder}, Steps.KeepsOnly}
-use Rattle.hashlink.specs.WithoutFirst.{without_first}
+use Rattle.hashlink_map.specs.WithoutFirst.{without_first}
 
 module _ {X : Type 0} (passes : X → Bool) where
   without_first-none : (n : ℕ) → without_first passes n [] ≡ []

@@ -8,7 +8,7 @@ use Rattle.std.proofs.lemmas.{Bool.{cases_Bool, cond-true, cond-false}, Cmp.nat_
 use Rattle.std.proofs.lemmas.Map.Entries.{place_from_lookup}
 use Rattle.hashlink_model.specs.Lookups.{KeepsLookups, UpdatesBy, UpdatesLent}
 use Rattle.hashlink_model.proofs.Splits.{splits, lookup-none}
-use Rattle.hashlink.specs.Texts.{is_text}
+use Rattle.hashlink_map.specs.Texts.{is_text}
 
 module _ {K V : Type 0} (eq : K → K → Bool) where
   -- goal: what a test of keys finds that passes this key, by what the key finds
