@@ -5,8 +5,8 @@ use crate::calls::extended::{TakesMany, extended, put_rest};
 use crate::calls::map_calls::call_map;
 use crate::calls::raw_entries::{call_found, put_found};
 use crate::items::{
-    Answer, Exact, Item, Line, RawCall, RawGive, Shown, Stop, Word, is_even, is_raised,
-    walk_and_clone, walk_and_forget, walk_whole,
+    Answer, Exact, Item, Line, RawCall, Shown, Stop, Word, is_even, is_raised, walk_and_clone,
+    walk_and_forget, walk_whole,
 };
 use hashlink_lru::LruCache;
 use std::alloc::Global;
@@ -67,7 +67,7 @@ fn call_raw(cache: &mut Cache, line: &mut Line<'_>) -> Result<(), Stop> {
     let key = line.item()?;
     let entries = cache.raw_entry_mut();
     match RawCall::read(&mut line.words)? {
-        RawCall::Give(call @ (RawGive::OrInsert | RawGive::OrInsertWith)) => {
+        RawCall::Make(call) => {
             let (value, new) = line.lent_item()?;
             line.give(put_found(entries, call, key, value, new))
         }

@@ -2,7 +2,8 @@
 use crate::calls::map_cursors::take_all_steps;
 use crate::hashers::Hashing;
 use crate::items::{
-    Answer, Ask, EntryCall, Give, Item, Line, Name, Shown, Stop, Word, no_memory, set, write_item,
+    Add, Answer, Ask, EntryCall, Item, Line, Make, Name, Put, Shown, Stop, Vacant, Word, no_memory,
+    set, write_item,
 };
 use hashlink_map::{Entry, TryInsertError};
 
@@ -12,31 +13,37 @@ type InHand<'m> = Entry<'m, Item, Item, Hashing>;
 /// occupied entry returns nothing if the key is absent, and a call of a vacant entry if it is present.
 pub fn call_entry(entry: InHand<'_>, line: &mut Line<'_>) -> Result<(), Stop> {
     match EntryCall::read(&mut line.words)? {
+        EntryCall::Key => line.say(entry.key().shown()),
+        EntryCall::Modify => {
+            let new = line.words.optional();
+            line.say(modify(entry, new))
+        }
         EntryCall::Ask(call) => {
             let new = line.words.optional();
             line.say(ask(entry, call, new))
         }
-        EntryCall::Give(call) => {
+        EntryCall::Make(call) => {
             let (value, new) = line.lent_item()?;
-            line.give(give(entry, call, value, new))
+            line.give(make_at(entry, call, value, new))
         }
         EntryCall::TryMake => {
             let (made, new) = line.tried()?;
             line.give(try_make_at(entry, made, new))
+        }
+        EntryCall::Put(call) => {
+            let value = line.item()?;
+            line.say(put_at(entry, call, value))
+        }
+        EntryCall::Vacant(call) => line.say(ask_vacant(entry, call)),
+        EntryCall::Add(call) => {
+            let (value, new) = line.lent_item()?;
+            line.give(add(entry, call, value, new))
         }
         EntryCall::Cursor => steps_of(entry, line),
     }
 }
 
 fn ask(entry: InHand<'_>, call: Ask, new: Option<Name>) -> Word {
-    match call {
-        Ask::Key => entry.key().shown(),
-        Ask::Modify => modify(entry, new),
-        _ => ask_either(entry, call, new),
-    }
-}
-
-fn ask_either(entry: InHand<'_>, call: Ask, new: Option<Name>) -> Word {
     match entry {
         Entry::Occupied(mut entry) => match call {
             Ask::Get => (entry.key(), entry.get()).shown(),
@@ -54,16 +61,21 @@ fn ask_either(entry: InHand<'_>, call: Ask, new: Option<Name>) -> Word {
             Ask::RemoveEntry => entry.remove_entry().shown(),
             Ask::GetMut => write_item(entry.get_mut(), new),
             Ask::IntoMut => write_item(entry.into_mut(), new),
-            _ => Word::Nothing,
         },
+        Entry::Vacant(_vacant) => Word::Nothing,
+    }
+}
+
+fn ask_vacant(entry: InHand<'_>, call: Vacant) -> Word {
+    match entry {
+        Entry::Occupied(_occupied) => Word::Nothing,
         Entry::Vacant(entry) => match call {
-            Ask::VacantKey => entry.key().shown(),
-            Ask::VacantIntoKey => entry.into_key().shown(),
-            Ask::VacantRaw => {
+            Vacant::Key => entry.key().shown(),
+            Vacant::IntoKey => entry.into_key().shown(),
+            Vacant::Raw => {
                 let _raw = entry.raw_entry_mut();
                 Word::Done
             }
-            _ => Word::Nothing,
         },
     }
 }
@@ -76,20 +88,10 @@ fn modify(entry: InHand<'_>, new: Option<Name>) -> Word {
     }
 }
 
-fn give(entry: InHand<'_>, call: Give, value: Item, new: Option<Name>) -> Answer {
-    match call {
-        Give::OrInsert | Give::OrInsertWith => make_at(entry, call, value, new),
-        Give::VacantInsert | Give::VacantInsertEntry | Give::VacantTake => insert(
-            entry, call, value, new,
-        ),
-        _ => Answer::Word(put_at(entry, call, value)),
-    }
-}
-
-fn make_at(entry: InHand<'_>, call: Give, value: Item, new: Option<Name>) -> Answer {
+fn make_at(entry: InHand<'_>, call: Make, value: Item, new: Option<Name>) -> Answer {
     let lent = match call {
-        Give::OrInsert => entry.or_insert(value),
-        _ => entry.or_insert_with(|| value),
+        Make::OrInsert => entry.or_insert(value),
+        Make::OrInsertWith => entry.or_insert_with(|| value),
     };
     match lent {
         Ok(lent) => Answer::Word(write_item(lent, new)),
@@ -112,31 +114,32 @@ pub fn not_made(error: TryInsertError<Item, Item, Item>) -> Answer {
     }
 }
 
-fn put_at(entry: InHand<'_>, call: Give, value: Item) -> Word {
+fn put_at(entry: InHand<'_>, call: Put, value: Item) -> Word {
     match entry {
         Entry::Occupied(mut entry) => match call {
-            Give::Insert => entry.insert(value).shown(),
-            Give::RawReplaceValue => entry.raw_entry_mut().replace_value(value).shown(),
-            Give::InsertEntry => entry.insert_entry(value).shown(),
-            _ => entry.replace_entry(value).shown(),
+            Put::Insert => entry.insert(value).shown(),
+            Put::RawReplaceValue => entry.raw_entry_mut().replace_value(value).shown(),
+            Put::InsertEntry => entry.insert_entry(value).shown(),
+            Put::ReplaceEntry => entry.replace_entry(value).shown(),
         },
         Entry::Vacant(_vacant) => Word::Nothing,
     }
 }
 
-fn insert(entry: InHand<'_>, call: Give, value: Item, new: Option<Name>) -> Answer {
+fn add(entry: InHand<'_>, call: Add, value: Item, new: Option<Name>) -> Answer {
     match entry {
         Entry::Occupied(_occupied) => Answer::Word(Word::Nothing),
         Entry::Vacant(entry) => match call {
-            Give::VacantInsert => match entry.insert(value) {
+            Add::Insert => match entry.insert(value) {
                 Ok(lent) => Answer::Word(write_item(lent, new)),
                 Err(pair) => no_memory(pair),
             },
-            _ => match entry.insert_entry(value) {
-                Ok(entry) => Answer::Word(match call {
-                    Give::VacantTake => entry.remove_entry().shown(),
-                    _ => (entry.key(), entry.get()).shown(),
-                }),
+            Add::InsertEntry => match entry.insert_entry(value) {
+                Ok(entry) => Answer::Word((entry.key(), entry.get()).shown()),
+                Err(pair) => no_memory(pair),
+            },
+            Add::Take => match entry.insert_entry(value) {
+                Ok(entry) => Answer::Word(entry.remove_entry().shown()),
                 Err(pair) => no_memory(pair),
             },
         },

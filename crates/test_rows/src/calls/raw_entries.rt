@@ -3,7 +3,7 @@ use crate::calls::map_calls::Map;
 use crate::calls::map_cursors::take_all_steps;
 use crate::hashers::Hashing;
 use crate::items::{
-    Answer, Item, Line, Name, RawAsk, RawCall, RawGive, Shown, Stop, Word, no_memory, set,
+    Answer, By, Item, Line, Make, Name, RawAsk, RawCall, Shown, Stop, Word, no_memory, set,
     write_item, write_pair,
 };
 use hashlink_map::{RawEntryBuilderMut, RawEntryMut};
@@ -91,29 +91,29 @@ pub fn call_raw(map: &mut Map, line: &mut Line<'_>) -> Result<(), Stop> {
     let key = line.item()?;
     match RawCall::read(&mut line.words)? {
         RawCall::ReplaceKey => line.say(replace_key(map, key)),
-        RawCall::Give(call) => {
+        RawCall::Make(call) => {
             let (value, new) = line.lent_item()?;
-            line.give(give_at(map, call, key, value, new))
+            line.give(put_found(map.raw_entry_mut(), call, key, value, new))
+        }
+        RawCall::Lend(by) => {
+            let (value, new) = line.lent_item()?;
+            line.give(put_lent(map, by, key, value, new))
+        }
+        RawCall::Enter(by) => {
+            let (value, new) = line.lent_item()?;
+            line.give(put_entry(map, by, key, value, new))
         }
         call => call_found(raw_of(map, way, &key), call, line),
-    }
-}
-
-fn give_at(map: &mut Map, call: RawGive, key: Item, value: Item, new: Option<Name>) -> Answer {
-    match call {
-        RawGive::OrInsert | RawGive::OrInsertWith => {
-            put_found(map.raw_entry_mut(), call, key, value, new)
-        }
-        RawGive::Insert | RawGive::InsertHashed | RawGive::InsertWithHasher => {
-            put_lent(map, call, key, value, new)
-        }
-        _ => put_entry(map, call, key, value, new),
     }
 }
 
 /// Makes a call of a raw entry that has to be occupied.
 pub fn call_found(entry: Raw<'_>, call: RawCall, line: &mut Line<'_>) -> Result<(), Stop> {
     match call {
+        RawCall::Modify => {
+            let new = line.words.optional();
+            line.say(modify(entry, new))
+        }
         RawCall::Ask(call) => {
             let new = line.words.optional();
             line.say(ask(entry, call, new))
@@ -123,14 +123,13 @@ pub fn call_found(entry: Raw<'_>, call: RawCall, line: &mut Line<'_>) -> Result<
             line.say(replace_at(entry, value))
         }
         RawCall::Cursor => steps_at(entry, line),
-        _ => Err(Stop::Unread),
+        RawCall::ReplaceKey | RawCall::Make(_) | RawCall::Lend(_) | RawCall::Enter(_) => {
+            Err(Stop::Unread)
+        }
     }
 }
 
 fn ask(entry: Raw<'_>, call: RawAsk, new: Option<Name>) -> Word {
-    if matches!(call, RawAsk::Modify) {
-        return modify(entry, new);
-    }
     match entry {
         RawEntryMut::Occupied(mut entry) => match call {
             RawAsk::Get => (entry.key(), entry.get()).shown(),
@@ -149,7 +148,7 @@ fn ask(entry: Raw<'_>, call: RawAsk, new: Option<Name>) -> Word {
             RawAsk::GetMut => write_item(entry.get_mut(), new),
             RawAsk::GetKeyValueMut => write_item(entry.get_key_value_mut().1, new),
             RawAsk::IntoMut => write_item(entry.into_mut(), new),
-            _ => write_item(entry.into_key_value().1, new),
+            RawAsk::IntoKeyValue => write_item(entry.into_key_value().1, new),
         },
         RawEntryMut::Vacant(_vacant) => Word::Nothing,
     }
@@ -166,15 +165,15 @@ fn modify(entry: Raw<'_>, new: Option<Name>) -> Word {
 /// Makes a call that inserts a pair if its key is absent, and lends the pair that is then present.
 pub fn put_found(
     entries: Entries<'_>,
-    call: RawGive,
+    call: Make,
     key: Item,
     value: Item,
     new: Option<Name>,
 ) -> Answer {
     let entry = entries.from_key(&key);
     let lent = match call {
-        RawGive::OrInsert => entry.or_insert(key, value),
-        _ => entry.or_insert_with(|| (key, value)),
+        Make::OrInsert => entry.or_insert(key, value),
+        Make::OrInsertWith => entry.or_insert_with(|| (key, value)),
     };
     match lent {
         Ok(pair) => Answer::Word(write_pair(Some(pair), new)),
@@ -211,16 +210,18 @@ pub fn call_end(map: &mut Map, is_front: bool, line: &mut Line<'_>) -> Result<()
 }
 
 /// Makes a call that inserts a pair whose key is absent. Records the pair that is lent, and writes to it.
-fn put_lent(map: &mut Map, call: RawGive, key: Item, value: Item, new: Option<Name>) -> Answer {
+fn put_lent(map: &mut Map, by: By, key: Item, value: Item, new: Option<Name>) -> Answer {
     let builder = *map.hasher();
     let hash = builder.hash_one(&key);
     let RawEntryMut::Vacant(entry) = map.raw_entry_hashed_nocheck(hash, &key) else {
         return Answer::Word(Word::Nothing);
     };
-    let lent = match call {
-        RawGive::Insert => entry.insert(key, value),
-        RawGive::InsertHashed => entry.insert_hashed_nocheck(hash, key, value),
-        _ => entry.insert_with_hasher(hash, key, value, |stored| builder.hash_one(stored)),
+    let lent = match by {
+        By::Itself => entry.insert(key, value),
+        By::Hash => entry.insert_hashed_nocheck(hash, key, value),
+        By::Hasher => {
+            entry.insert_with_hasher(hash, key, value, |stored| builder.hash_one(stored))
+        }
     };
     match lent {
         Ok(pair) => Answer::Word(write_pair(Some(pair), new)),
@@ -229,16 +230,18 @@ fn put_lent(map: &mut Map, call: RawGive, key: Item, value: Item, new: Option<Na
 }
 
 /// The same for a call that makes the pair an entry, which is written and then recorded.
-fn put_entry(map: &mut Map, call: RawGive, key: Item, value: Item, new: Option<Name>) -> Answer {
+fn put_entry(map: &mut Map, by: By, key: Item, value: Item, new: Option<Name>) -> Answer {
     let builder = *map.hasher();
     let hash = builder.hash_one(&key);
     let RawEntryMut::Vacant(entry) = map.raw_entry_hashed_nocheck(hash, &key) else {
         return Answer::Word(Word::Nothing);
     };
-    let made = match call {
-        RawGive::InsertEntry => entry.insert_entry(key, value),
-        RawGive::InsertEntryHashed => entry.insert_entry_hashed_nocheck(hash, key, value),
-        _ => entry.insert_entry_with_hasher(hash, key, value, |stored| builder.hash_one(stored)),
+    let made = match by {
+        By::Itself => entry.insert_entry(key, value),
+        By::Hash => entry.insert_entry_hashed_nocheck(hash, key, value),
+        By::Hasher => {
+            entry.insert_entry_with_hasher(hash, key, value, |stored| builder.hash_one(stored))
+        }
     };
     match made {
         Ok(mut entry) => {

@@ -1,12 +1,11 @@
 //! Calls of a raw entry.
 use crate::items::answers::Stop;
+use crate::items::entry_call::Make;
 use crate::items::words::Words;
 
-/// A call that takes no item. If a name follows, it is written into what is lent.
+/// A call of an occupied entry that takes no item. If a name follows, it is written into what is lent.
 #[derive(Clone, Copy)]
 pub enum RawAsk {
-    Modify,
-    // Calls of an occupied entry:
     Get,
     GetKeyValue,
     ToFront,
@@ -20,29 +19,27 @@ pub enum RawAsk {
     IntoKeyValue,
 }
 
-/// A call that takes a value. If a name follows, it is written into what is lent.
+/// How a vacant entry gets the hash of the key that it inserts.
 #[derive(Clone, Copy)]
-pub enum RawGive {
-    // Calls that insert the pair if its key is absent, and lend the one that is then present:
-    OrInsert,
-    OrInsertWith,
-    // Calls of a vacant entry, which insert the pair and lend it:
-    Insert,
-    InsertHashed,
-    InsertWithHasher,
-    // Calls of a vacant entry, which insert the pair and make it an entry:
-    InsertEntry,
-    InsertEntryHashed,
-    InsertEntryWithHasher,
+pub enum By {
+    Itself,
+    Hash,
+    Hasher,
 }
 
 /// A call of a raw entry.
 #[derive(Clone, Copy)]
 pub enum RawCall {
+    /// Writes the name that follows, if the key is present.
+    Modify,
     Ask(RawAsk),
-    Give(RawGive),
     ReplaceValue,
     ReplaceKey,
+    Make(Make),
+    /// A vacant entry inserts the pair and lends it. If a name follows, it is written.
+    Lend(By),
+    /// The same, but it becomes the pair's entry.
+    Enter(By),
     /// Steps of a cursor follow.
     Cursor,
 }
@@ -55,30 +52,21 @@ const CALLS: [(&str, RawCall); 23] = [
     ("into_key", RawCall::Ask(RawAsk::IntoKey)),
     ("remove", RawCall::Ask(RawAsk::Remove)),
     ("remove_entry", RawCall::Ask(RawAsk::RemoveEntry)),
-    ("and_modify", RawCall::Ask(RawAsk::Modify)),
+    ("and_modify", RawCall::Modify),
     ("get_mut", RawCall::Ask(RawAsk::GetMut)),
     ("get_key_value_mut", RawCall::Ask(RawAsk::GetKeyValueMut)),
     ("into_mut", RawCall::Ask(RawAsk::IntoMut)),
     ("into_key_value", RawCall::Ask(RawAsk::IntoKeyValue)),
-    ("or_insert", RawCall::Give(RawGive::OrInsert)),
-    ("or_insert_with", RawCall::Give(RawGive::OrInsertWith)),
+    ("or_insert", RawCall::Make(Make::OrInsert)),
+    ("or_insert_with", RawCall::Make(Make::OrInsertWith)),
     ("replace_key", RawCall::ReplaceKey),
     ("replace_value", RawCall::ReplaceValue),
-    ("insert", RawCall::Give(RawGive::Insert)),
-    ("insert_hashed", RawCall::Give(RawGive::InsertHashed)),
-    (
-        "insert_with_hasher",
-        RawCall::Give(RawGive::InsertWithHasher),
-    ),
-    ("insert_entry", RawCall::Give(RawGive::InsertEntry)),
-    (
-        "insert_entry_hashed",
-        RawCall::Give(RawGive::InsertEntryHashed),
-    ),
-    (
-        "insert_entry_with_hasher",
-        RawCall::Give(RawGive::InsertEntryWithHasher),
-    ),
+    ("insert", RawCall::Lend(By::Itself)),
+    ("insert_hashed", RawCall::Lend(By::Hash)),
+    ("insert_with_hasher", RawCall::Lend(By::Hasher)),
+    ("insert_entry", RawCall::Enter(By::Itself)),
+    ("insert_entry_hashed", RawCall::Enter(By::Hash)),
+    ("insert_entry_with_hasher", RawCall::Enter(By::Hasher)),
     ("cursor", RawCall::Cursor),
 ];
 
