@@ -8,5 +8,4 @@ pub mod Refusals
 pub mod Steps
 pub mod Telling
 pub mod Tied
-pub mod TwoIterators
 pub mod Walk

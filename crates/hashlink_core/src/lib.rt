@@ -10,7 +10,6 @@ mod into_iter;
 mod iter;
 mod keyed_list;
 mod texts;
-mod two_iterators;
 
 pub use compare::{iter_cmp, iter_eq, iter_partial_cmp};
 pub use equivalent::Equivalent;
@@ -22,4 +21,3 @@ pub use hashlink_table::TryReserveError;
 pub use into_iter::IntoIter;
 pub use iter::{Iter, Keys, Values};
 pub use keyed_list::KeyedList;
-pub use two_iterators::next_of_two;

@@ -1,6 +1,6 @@
 -- What a contract sees of the lazy iterators over two sets: what each has not looked at, and what it has yet
 -- to return.
-use Rattle.std.specs.Prelude.{◌≡◌, ℕ, Bool, true, false, not, List, filter, Option, option_copied}
+use Rattle.std.specs.Prelude.{◌≡◌, ℕ, Bool, true, false, not, List, filter, Option, Some, None, option_copied}
 use Rattle.std.specs.{Borrow.Bor, Map.Iter.{TakesFirst, deref}, Set.is_member}
 use Rattle.hashlink_model.specs.Algebra.{PairWalk, first_passing, pair_step, left_to_give}
 use Rattle.hashlink_set.specs.{Elements.elements_in, declared.sifted.Sifted.Sifted}
@@ -27,6 +27,16 @@ module _ {T : Type 0} where
       (new : PairWalk T) : Type 0 where
     pub gives : option_copied r ≡ (pair_step p q old).0
     pub leaves : new ≡ (pair_step p q old).1
+
+-- a step of the second iterator, or no step if the first returned an item
+abbrev pub StepsUnless : {X B : Type 0} → (B → Option X → B → Type 0) → Option X → B → Option X → B → Type 0
+StepsUnless gives (Some x) old r new = (r ≡ Some x) × (new ≡ old)
+StepsUnless gives None old r new = gives old r new
+
+-- a step of the first iterator and, if it returns none, one of the second
+abbrev pub GivesFromTwo : {X A B : Type 0} → (A → Option X → A → Type 0) → (B → Option X → B → Type 0)
+    → A → B → Option X → A → B → Type 0
+GivesFromTwo {X = X} first second a b r a' b' = (o : Option X) × first a o a' × StepsUnless second o b r b'
 
 module _ {T S H : Type 0} where
   -- what an iterator over two sides has not looked at

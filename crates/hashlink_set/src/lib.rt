@@ -11,6 +11,7 @@ mod emptied;
 mod extend;
 mod into_iter;
 mod iter;
+mod iterators;
 mod lookup;
 mod set;
 mod sifted;

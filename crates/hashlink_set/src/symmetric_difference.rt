@@ -4,8 +4,8 @@ ghost use Rattle.std.specs.Iterator.SizeHint.{IsWithinCount};
 ghost use Rattle.hashlink_model.specs.Algebra.{symmetric_difference_hint, symmetric_difference_of};
 ghost use Rattle.hashlink_set.specs.Elements.{elements_in};
 
+use crate::iterators::next_of_two;
 use crate::sifted::Difference;
-use hashlink_core::next_of_two;
 use hashlink_map::{DefaultHashBuilder, LinkedHashMap};
 use std::alloc::AllocError;
 use std::fmt;

@@ -5,8 +5,8 @@ ghost use Rattle.hashlink_model.specs.Algebra.{union_hint, union_of};
 ghost use Rattle.hashlink_set.specs.Elements.{elements_in};
 
 use crate::iter::Iter;
+use crate::iterators::next_of_two;
 use crate::sifted::Difference;
-use hashlink_core::next_of_two;
 use hashlink_map::{DefaultHashBuilder, LinkedHashMap};
 use std::alloc::AllocError;
 use std::fmt;

@@ -1,9 +1,9 @@
 //! A step over the items of one iterator and then of another.
-ghost use Rattle.hashlink_core.specs.TwoIterators.{GivesFromTwo};
+ghost use Rattle.hashlink_set.specs.Walks.{GivesFromTwo};
 
 /// Returns the next item of `first` or, if it has none, of `second`. It costs what the steps cost.
 #[inline(always)]
-pub fn next_of_two<X, A: Iterator<Item = X>, B: Iterator<Item = X>>(
+pub(crate) fn next_of_two<X, A: Iterator<Item = X>, B: Iterator<Item = X>>(
     first: &mut A,
     second: &mut B,
 ) -> Option<X>
