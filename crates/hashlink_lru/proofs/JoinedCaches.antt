@@ -50,6 +50,7 @@ module _ {K V : Type 0} {eq : K → K → Bool} (laws : IsEquivalence eq) where
       let last : put eq es k v (length es) ≡ es ++ (k, v) ∷ []
       = put_back_absent eq es k v (none_from_lookup (eq k) es none) in
       let all = pushed_absent eq es c.cap k v none (omega (arith, within)) ∙ sym last in (
-        apart-from_distinct laws _ _ (subst (IsEntries eq) (sym all) (IsEntries-put eq laws es k v (length es) d)),
+        apart-from_distinct laws _ _
+            (subst (IsEntries eq) (sym all) (IsEntries-put eq laws es k v (length es) d)),
         λ q. ap (lookup (eq q)) all ∙ lookup-put eq laws q es k v (length es) d ∙ rw (laws.symm k q) refl,
       )

@@ -102,8 +102,8 @@ module _ {K V W X : Type 0} (f : V → W) (eq : K → K → Bool) (made : Option
         map-append (λ e. (e.0, f e.1)) es ((k, w) ∷ [])
         ∙ ap (λ u. map (λ e. (e.0, f e.1)) es ++ (k, u) ∷ []) is ∙ one_more_is None none
 
-    -- goal: what is left if only the part x of the pair's value was taken, or if the key was not added, by the
-    -- pairs that were combined before
+    -- goal: what is left if only the part x of the pair's value was taken, or if the key was not added, by
+    -- the pairs that were combined before
     module _ (old : List (K × W)) (gone : List (K × X)) where
       -- the entries seen, by whether the key is among those so far
       abbrev stopped_at : Bool → List (K × W)

@@ -128,7 +128,8 @@ module _ {K V : Type 0} (n : K × V → ℕ) where
   PopsBelow-pop m old es left e (Some x) (gone, is, below) first lt t =
       let same = same_Some e x (first ∙ ap first_of t) in (
         gone ++ e ∷ [],
-        is ∙ ap (λ zs. gone ++ zs) (t ∙ ap (λ y. y ∷ left) (sym same)) ∙ sym (append_assoc gone (e ∷ []) left),
+        is ∙ ap (λ zs. gone ++ zs) (t ∙ ap (λ y. y ∷ left) (sym same))
+            ∙ sym (append_assoc gone (e ∷ []) left),
         All-push (λ y. n y < m) gone e below lt,
       )
 

@@ -73,8 +73,8 @@ module _ {V S : Type 0} (n : ℕ) where
       → MovesMatchAndWrites (nat_eq n) old new (length old.entries) w
       → new.entries ≡ remove_entry (nat_eq n) old.entries ++ (n, w) ∷ []
   written_last-number old new w d there s =
-      let all = written_last nat_eq nat_eq_equiv (nat_eq n) (λ x y. nat_eq_equiv.congr n x y) old new w d there s
-      in
+      let all = written_last nat_eq nat_eq_equiv (nat_eq n) (λ x y. nat_eq_equiv.congr n x y) old new w d
+      there s in
       all.2 ∙ ap (λ k. remove_entry (nat_eq n) old.entries ++ (k, w) ∷ []) (sym (eqb-true n all.0 all.1))
 
 module _ {V : Type 0} (n : ℕ) where
@@ -91,7 +91,8 @@ module _ {A V S : Type 0} (text : List ℕ) where
       → (k : String A) × (string_bytes k ≡ text)
       × (new.entries ≡ remove_entry (is_text text) old.entries ++ (k, w) ∷ [])
   written_last-text old new w d there s =
-      let all = written_last string_eq string_eq_equiv (is_text text) (is_text-tests text) old new w d there s in
+      let all = written_last string_eq string_eq_equiv (is_text text) (is_text-tests text) old new w d
+      there s in
       (all.0, sym ((bytes_decides text (string_bytes all.0)).0 all.1), all.2)
 
 -- goal: no two elements are equal once one was put last that none equals

@@ -264,8 +264,9 @@ module _ {K V : Type 0} where
         }));
   }
 
-  pub at_front : {s : State K V} {first m last : Node} {len : ℕ} {ps : List (K × V)} → IsWhole s first last len
-      → pairs_from s first len ≡ ps → 0 < length ps → m ≡ s.next first → Front s first m last len
+  pub at_front : {s : State K V} {first m last : Node} {len : ℕ} {ps : List (K × V)}
+      → IsWhole s first last len → pairs_from s first len ≡ ps → 0 < length ps → m ≡ s.next first
+      → Front s first m last len
   at_front {s} {first} {last = last} {len} w is some is_m =
       subst (λ k. Front s first k last len) (sym is_m)
       (front_of _ refl w.path w.is_len w.size (some_left w is some))
@@ -316,8 +317,9 @@ module _ {K V : Type 0} where
             }));
       }
 
-  pub at_back : {s : State K V} {first m last : Node} {len : ℕ} {ps : List (K × V)} → IsWhole s first last len
-      → pairs_from s first len ≡ ps → 0 < length ps → m ≡ s.prev last → Back s first m last len
+  pub at_back : {s : State K V} {first m last : Node} {len : ℕ} {ps : List (K × V)}
+      → IsWhole s first last len → pairs_from s first len ≡ ps → 0 < length ps → m ≡ s.prev last
+      → Back s first m last len
   at_back {s} {first} {last = last} {len} w is some is_m =
       let p = pushed (entries_from s first len) (omega (arith, some_left w is some, w.is_len)) in
       subst (λ k. Back s first k last len) (sym is_m)

@@ -25,7 +25,8 @@ module _ {N K V : Type 0} (same_name : N → N → Bool) (same_key : K → K →
 
   -- the others before the one at which memory ran out were laid over. Of that one the settings `set` were, if
   -- its name was present; else it was not added
-  abbrev pub StopsLaying : List (N × List (K × V)) → List (N × List (K × V)) → List (N × List (K × V)) → Type 0
+  abbrev pub StopsLaying : List (N × List (K × V)) → List (N × List (K × V)) → List (N × List (K × V))
+      → Type 0
   StopsLaying sections others new =
       (done left : List (N × List (K × V))) × (name : N) × (set rest : List (K × V))
       × (others ≡ done ++ (name, set ++ rest) ∷ left)

@@ -1,6 +1,7 @@
 //! A cache of names, each with an address that is valid until a time.
-ghost use Rattle.std.specs.Prelude.{◌≡◌, ◌≤◌, [], ◌∷◌, ◌++◌, IfErr, IfOk, IsFalse, IsTrue, OnErr, OnOk, String};
-ghost use Rattle.std.specs.{Prelude.{filter, is_some, length, string_bytes}, Global.Global, String.string_eq};
+ghost use Rattle.std.specs.Prelude.{◌≡◌, ◌≤◌, [], ◌∷◌, ◌++◌, IfErr, IfOk, IsFalse, IsTrue, OnErr, OnOk};
+ghost use Rattle.std.specs.{Prelude.{String, filter, is_some, length, string_bytes}, Global.Global};
+ghost use Rattle.std.specs.String.{string_eq};
 ghost use Rattle.std.specs.{Option.option_and_then, Map.{lookup, remove_entry}};
 ghost use Rattle.hashlink.specs.{Cache.cache_put, Cached.{entries_of, state_of}, Texts.is_text};
 ghost use Rattle.hashlink_uses.specs.Answers.{address_at, holds_at};

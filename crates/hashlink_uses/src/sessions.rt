@@ -1,6 +1,6 @@
 //! Sessions by the time of their last use. Those that were not used for long expire.
-ghost use Rattle.std.specs.Prelude.{◌≡◌, ◌≤◌, ◌++◌, ◌∷◌, [], ℕ, All, IsFalse, IsTrue, List, OnErr, OnOk, filter};
-ghost use Rattle.std.specs.Prelude.{is_some, length, nat_eq, nat_le};
+ghost use Rattle.std.specs.Prelude.{◌≡◌, ◌≤◌, ◌++◌, ◌∷◌, [], ℕ, All, IsFalse, IsTrue, List, OnErr, OnOk};
+ghost use Rattle.std.specs.Prelude.{filter, is_some, length, nat_eq, nat_le};
 ghost use Rattle.std.specs.{List.Sorted.IsNonDecreasingBy, Map.{lookup, remove_entry}};
 ghost use Rattle.hashlink.specs.Keyed.{entries_of};
 

@@ -1,6 +1,7 @@
 //! Settings in the order in which they were first set, and other settings that override them.
 ghost use Rattle.std.specs.Prelude.{◌≡◌, ◌++◌, ◌∷◌, Bool, IfErr, IsOk, IsSome, List, OnErr, OnOk, true};
-ghost use Rattle.std.specs.{Cmp.IsEquivalence, Map.{keys_of, lookup}, Option.option_or, Set.is_member, String.string_eq};
+ghost use Rattle.std.specs.{Cmp.IsEquivalence, Map.{keys_of, lookup}, Option.option_or, Set.is_member};
+ghost use Rattle.std.specs.String.{string_eq};
 ghost use Rattle.hashlink.specs.{Entries.{IsEntries, place_or_end, put}, Keyed.entries_of};
 ghost use Rattle.hashlink_uses.specs.{Appearances.first_appearances, Merged.merged};
 ghost use Rattle.hashlink_uses.specs.Sections.{StopsLaying, laid_over, settings_in};
@@ -75,8 +76,8 @@ pub fn lay_over(sections: &mut Sections, others: Sections) -> Result<(), AllocEr
 }
 
 /// After a merge each key has the other value if there is one, and else its own. The present keys keep their
-/// order, and the new keys follow in the order of the others. No key is lost. The function has an empty body: its contract is
-/// the theorem.
+/// order, and the new keys follow in the order of the others. No key is lost. The function has an empty body:
+/// its contract is the theorem.
 pub fn what_a_merge_leaves<K, V>()
     ensures wins { (eq : K → K → Bool) → IsEquivalence eq → (key : K) (es others : List (K × V))
         → IsEntries eq es → IsEntries eq others

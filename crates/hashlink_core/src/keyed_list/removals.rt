@@ -30,8 +30,8 @@ impl<K: Eq + Hash, V, S: BuildHasher> KeyedList<K, V, S> {
         Some(self.nodes.detach_into_free(node))
     }
 
-    /// Turns the list into an owning iterator over its entries, front to back. It frees the table and the free
-    /// nodes, in linear time in the number of free nodes.
+    /// Turns the list into an owning iterator over its entries, front to back. It frees the table and the
+    /// free nodes, in linear time in the number of free nodes.
     pub fn into_entries(self) -> IntoIter<K, V>
     where
         S: Drop,

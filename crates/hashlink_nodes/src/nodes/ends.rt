@@ -30,8 +30,8 @@ impl<K, V> Nodes<K, V> {
         self.spare -= 1;
     }
 
-    /// Drops the entries and frees their blocks. The free nodes stay. It stores two links, none if there is no
-    /// entry.
+    /// Drops the entries and frees their blocks. The free nodes stay. It stores two links, or none if there
+    /// is no entry.
     pub fn release_all(&mut self)
     where
         K: Drop,

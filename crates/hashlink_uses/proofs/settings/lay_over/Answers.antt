@@ -13,10 +13,14 @@ loop-name-init c =
 pub loop-name-preserved-in-Some-get_mut : goal.loop-name-preserved-in-Some-get_mut
 loop-name-preserved-in-Some-get_mut c =
     let written = ap (λ m. settings_in m.entries) (c.get_mut.follows.holds c.merge.new.settings)
-    ∙ combined-written entries_of string_eq (laid_on string_eq) _ c.in-Some.name (entries_of c.in-Some.settings)
-    _ _ c.in-Some-get_mut.ensures.value c.in-Ok.ensures.all in
-    let next = ap settings_in c.in-Some.ensures.steps in
-    (tt, tt, StepsSoFar-next (with_section string_eq string_eq) _ _ _ _ _ _ _ c.loop-name.invariant.2 next written)
+    ∙ combined-written entries_of string_eq (laid_on string_eq) _ c.in-Some.name
+    (entries_of c.in-Some.settings) _ _ c.in-Some-get_mut.ensures.value c.in-Ok.ensures.all in
+    let next = ap settings_in c.in-Some.ensures.steps in (
+      tt,
+      tt,
+      StepsSoFar-next (with_section string_eq string_eq) _ _ _ _ _ _ _ c.loop-name.invariant.2 next
+          written,
+    )
 
 pub loop-name-preserved-in-Ok-insert-2 : goal.loop-name-preserved-in-Ok-insert-2
 loop-name-preserved-in-Ok-insert-2 c =
@@ -26,8 +30,12 @@ loop-name-preserved-in-Ok-insert-2 c =
     ∙ ap (λ es. es ++ (c.in-Some.name, c.in-Some.settings) ∷ []) same)
     ∙ combined-added entries_of string_eq (laid_on string_eq) _ c.in-Some.name (entries_of c.in-Some.settings)
     _ c.in-None-get_mut.ensures.value refl in
-    let next = ap settings_in c.in-Some.ensures.steps in
-    (tt, tt, StepsSoFar-next (with_section string_eq string_eq) _ _ _ _ _ _ _ c.loop-name.invariant.2 next added)
+    let next = ap settings_in c.in-Some.ensures.steps in (
+      tt,
+      tt,
+      StepsSoFar-next (with_section string_eq string_eq) _ _ _ _ _ _ _ c.loop-name.invariant.2 next
+          added,
+    )
 
 pub returns-clause-all : goal.returns-clause-all
 returns-clause-all c =

@@ -4,8 +4,12 @@ use Rattle.hashlink_uses.{proofs.Common.{◌++◌, ◌∙◌, ◌∷◌, ap, sym
 use Rattle.hashlink_uses.proofs.settings.merge.Goals as goal
 
 pub loop-key-init : goal.loop-key-init
-loop-key-init g c =
-    (tt, tt, StepsSoFar-start (with_setting g.K.PartialEq.eq) _ _ _ c.into_iter-key-iterator.ensures.into_iter_gives)
+loop-key-init g c = (
+  tt,
+  tt,
+  StepsSoFar-start (with_setting g.K.PartialEq.eq) _ _ _
+      c.into_iter-key-iterator.ensures.into_iter_gives,
+)
 
 pub loop-key-preserved : goal.loop-key-preserved
 loop-key-preserved g c =

@@ -10,10 +10,12 @@ pub take-pair-requires : goal.take-pair-requires
 take-pair-requires g c = ap is_some (at_front c.self.invariant c.self.view_is c.requires refl).end.holds
 
 pub vacate-vacant-requires-clause-has : goal.vacate-vacant-requires-clause-has
-vacate-vacant-requires-clause-has g c = (at_front c.self.invariant c.self.view_is c.requires refl).end.has_yet c.take-pair.ensures.is
+vacate-vacant-requires-clause-has g c =
+    (at_front c.self.invariant c.self.view_is c.requires refl).end.has_yet c.take-pair.ensures.is
 
 pub vacate-vacant-requires-clause-bare : goal.vacate-vacant-requires-clause-bare
-vacate-vacant-requires-clause-bare g c = (at_front c.self.invariant c.self.view_is c.requires refl).end.bare c.take-pair.ensures.is
+vacate-vacant-requires-clause-bare g c =
+    (at_front c.self.invariant c.self.view_is c.requires refl).end.bare c.take-pair.ensures.is
 
 pub invariant_of-self : goal.invariant_of-self
 invariant_of-self g c =

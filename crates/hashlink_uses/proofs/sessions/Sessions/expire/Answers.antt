@@ -10,7 +10,8 @@ loop-last_use-init c =
 pub loop-last_use-preserved : goal.loop-last_use-preserved
 loop-last_use-preserved c = (
   PopsBelow-pop (λ e. e.1) c.args.before c.args.self.now _ _ _ c.pop_front.result
-      c.loop-last_use.invariant.0 c.in-Some.ensures.found c.if-last_use-before.false c.pop_front.ensures.entries,
+      c.loop-last_use.invariant.0 c.in-Some.ensures.found c.if-last_use-before.false
+      c.pop_front.ensures.entries,
   c.loop-last_use.invariant.1,
 )
 
@@ -21,7 +22,8 @@ invariant_of-self c =
 pub returns-then-last_use-before : goal.returns-then-last_use-before
 returns-then-last_use-before c =
     let (pops, up) = c.loop-last_use.invariant in
-    PopsBelow-all (λ e. e.1) c.args.before _ _ pops up (Some _) c.in-Some.ensures.found c.if-last_use-before.true
+    PopsBelow-all (λ e. e.1) c.args.before _ _ pops up (Some _) c.in-Some.ensures.found
+    c.if-last_use-before.true
 
 pub returns : goal.returns
 returns c =
