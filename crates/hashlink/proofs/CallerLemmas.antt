@@ -61,10 +61,9 @@ pub use Rattle.hashlink_model.proofs.Finds.{lookup_is, lookup_key_is}
 -- value that was written, and a move
 pub use Rattle.hashlink_model.proofs.Updates.{updates-put, updates-removed, updates-written, keeps-moved}
 -- goal: what any test of keys finds, a text among them
-pub use Rattle.hashlink_map.proofs.LookUps.{lookup-tested, lookup-by_each, lookup-apart, set_value-absent}
-pub use Rattle.hashlink_map.proofs.LookUps.{is_text-tests, texts_apart, lookup-text, is_some-lookup_text}
-pub use Rattle.hashlink_map.proofs.LookUps.{place-from_text, lookup-text_updated, lookup-string_updated}
-pub use Rattle.hashlink_map.proofs.LookUps.{lookup-text_kept}
+pub use Rattle.hashlink_map.proofs.LookUps.{lookup-tested, lookup-by_each, lookup-apart, is_text-tests}
+pub use Rattle.hashlink_map.proofs.LookUps.{texts_apart, is_some-lookup_text, place-from_text}
+pub use Rattle.hashlink_map.proofs.LookUps.{lookup-text_updated, lookup-text_kept}
 -- goal: the look-ups after a write through what was lent, and after two changes; what is read at any text,
 -- and of a value that was found or else made
 pub use Rattle.hashlink_map.proofs.LookUps.{updates-lent, updates-twice, read-text_updated, read-text_same}
@@ -80,18 +79,16 @@ pub use Rattle.hashlink_map.proofs.Walking.{on-some}
 -- call, whatever it returned
 pub use Rattle.hashlink_map.proofs.EachEntry.{All-remove_entry, All-insert, All-put, All-moved_match}
 pub use Rattle.hashlink_map.proofs.EachEntry.{All-set_value, All-set_key_at, All-at, All-found}
-pub use Rattle.hashlink_map.proofs.EachEntry.{All-found_or_made, All-retains, All-inserts, All-removes}
-pub use Rattle.hashlink_lru.proofs.AfterCalls.{All-cache_put, All-cache_inserts, All-used}
+pub use Rattle.hashlink_map.proofs.EachEntry.{All-found_or_made, All-inserts}
+pub use Rattle.hashlink_lru.proofs.AfterCalls.{All-cache_put, All-used}
 -- goal: the entries and the look-ups after an insert, and after a write through what an entry or
 -- `get_or_insert_with` lent
-pub use Rattle.hashlink_map.proofs.Inserting.{inserts_absent, inserts_back, lookup-inserts}
-pub use Rattle.hashlink_map.proofs.Inserting.{lookup-inserts_other, updates-inserts, updates-entered}
-pub use Rattle.hashlink_map.proofs.Inserting.{updates-got}
+pub use Rattle.hashlink_map.proofs.Inserting.{inserts_absent, inserts_back, updates-inserts}
+pub use Rattle.hashlink_map.proofs.Inserting.{updates-entered, updates-got}
 -- goal: lists written out: by the first item; an item of a list with one more; look-ups in one list behind
--- another; the first entry moved last; a replace
+-- another; a replace
 pub use Rattle.hashlink_map.proofs.Listed.{by_first, slice_get-push, slice_get-pushed, lookup-append}
-pub use Rattle.hashlink_map.proofs.Listed.{set_value-append, moved_first, put_in_place, keys-put_in_place}
-pub use Rattle.hashlink_map.proofs.Listed.{lookup_entry-passes}
+pub use Rattle.hashlink_map.proofs.Listed.{put_in_place, keys-put_in_place, lookup_entry-passes}
 -- goal: after a replace of each of several pairs, by its value or by what it makes of the value that is there
 pub use Rattle.hashlink_map.proofs.Combined.{lookup-replaced_each, combined, lookup-combined}
 pub use Rattle.hashlink_map.proofs.Combined.{IsEntries-combined, is_member-combined, combined-written}
@@ -103,15 +100,14 @@ pub use Rattle.hashlink_map.proofs.MappedValues.{IsEntries-map_values, put_in_pl
 -- goal: the entries after a move to the back, and after a write there; the keys after an insert at the back
 pub use Rattle.hashlink_map.proofs.WrittenLast.{moved_last, moved_and_written, written_last}
 pub use Rattle.hashlink_map.proofs.WrittenLast.{written_last-number, written_last-text, keys-put_back}
-pub use Rattle.hashlink_map.proofs.WrittenLast.{put_back-number, IsDistinct-push}
+pub use Rattle.hashlink_map.proofs.WrittenLast.{put_back-number}
 -- goal: `lookup` among the entries behind one, and after a pop or a cache's insert
 pub use Rattle.hashlink_map.proofs.Listed.{lookup-behind, lookup-takes_first}
 pub use Rattle.hashlink_lru.proofs.AfterCalls.{lookup-cache_inserts}
--- goal: the stored key of an absent key, and what is seen of a stored key; a key that is replaced by one that
--- equals it
-pub use Rattle.hashlink_map.proofs.Listed.{stored_key-absent, stored_key-seen, lookup-set_key_at}
--- goal: a cache's entries after a use whose value is lent, or that failed; what a push hands out
-pub use Rattle.hashlink_lru.proofs.AfterCalls.{used_by, used_entries, failed_entries, pushed_absent}
+-- goal: what is seen of a stored key; a key that is replaced by one that equals it
+pub use Rattle.hashlink_map.proofs.Listed.{stored_key-seen, lookup-set_key_at}
+-- goal: a cache's entries after a use whose value is lent; what a push hands out
+pub use Rattle.hashlink_lru.proofs.AfterCalls.{used_by, used_entries, pushed_absent}
 -- goal: what a container that is passed by value, or its iterator, has returned
 pub use Rattle.hashlink_map.proofs.Given.{extended_by_all, extended_until, StepsTakeFirst, given_all}
 -- goal: the invariant of a loop by value, at its start, after one more item, and after the loop
@@ -122,8 +118,8 @@ pub use Rattle.hashlink_map.proofs.Ordered.{All-from_first, IsNonDecreasingBy-re
 pub use Rattle.hashlink_map.proofs.Ordered.{ordered-put_last, ordered-put_back, ordered-inserts}
 pub use Rattle.hashlink_map.proofs.Ordered.{filter-front, PopsBelow, PopsBelow-start, PopsBelow-pop}
 pub use Rattle.hashlink_map.proofs.Ordered.{PopsBelow-order, PopsBelow-all}
--- goal: a set's elements after an insert of a new one, and after the first one moved last
-pub use Rattle.hashlink_set.proofs.AfterCalls.{set_inserts_new, set_moves_first}
+-- goal: a set's elements after an insert of a new one
+pub use Rattle.hashlink_set.proofs.AfterCalls.{set_inserts_new}
 -- goal: the keys in the order of their last insert, after one more; which keys are among them
 pub use Rattle.hashlink_history.proofs.Recency.{unique_keys-push, is_member-unique}
 

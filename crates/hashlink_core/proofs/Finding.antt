@@ -213,15 +213,16 @@ module _ {K V : Type 0} {eq : K → K → Bool} (laws : IsEquivalence eq) {hash 
         absurd (cc (sym (answered n h false here (none n there)) ∙ met))
 
     -- the result of a search of the table
-    pub found-by_table : IsKeyTest eq passes → (o : Option Node)
-        → IfSome o (λ n. Keeps t i n
-        × IfSome (lookup (same_node n) r.entries) (λ h. Answers h.key true))
+    pub found-by_table : IsKeyTest eq passes → {X : Type 0} (node : X → Node) (o : Option X)
+        → IfSome o (λ f. Keeps t i (node f)
+        × IfSome (lookup (same_node (node f)) r.entries) (λ h. Answers h.key true))
         → IfNone o ((n : Node) → Keeps t i n
         → IfSome (lookup (same_node n) r.entries) (λ h. Answers h.key false))
         → MatchOption o (place_of passes (pairs_in r.entries) ≡ None)
-        (HoldsMatch passes (nodes_of r.entries))
-    found-by_table alike None some none = none-told none (splits passes (pairs_in r.entries))
-    found-by_table alike (Some n) some none =
+        (λ f. HoldsMatch passes (nodes_of r.entries) (node f))
+    found-by_table alike node None some none = none-told none (splits passes (pairs_in r.entries))
+    found-by_table alike node (Some f) some none =
+        let n = node f in
         let x = node-at r.entries n (listed-holds i n some.0) in
         let k = x.0.key in
         let met : passes k ≡ true = answered n x.0 true x.1.found some.1 in

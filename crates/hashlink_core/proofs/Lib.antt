@@ -4,7 +4,6 @@ pub mod Names
 pub mod AtKey
 pub mod AtKeyNode
 pub mod Calls
-pub mod Draining
 pub mod Edits
 pub mod Finding
 pub mod Holding

@@ -140,6 +140,10 @@ module _ {K V : Type 0} where
   pub length-pairs : (es : List (Node × Entry K V)) → length (pairs_in es) ≡ length es
   length-pairs es = length-map (nodes_of es) (λ e. e.1) ∙ length-map es (λ e. (e.0, pair_of e.1))
 
+  pub pairs-mapped : (es : List (Node × Entry K V)) → map (λ e. pair_of e.1) es ≡ pairs_in es
+  pairs-mapped [] = refl
+  pairs-mapped (e ∷ es) = ap (λ ps. pair_of e.1 ∷ ps) (pairs-mapped es)
+
   pub pair-at : (es : List (Node × Entry K V)) (j : ℕ) (n : Node) (h : Entry K V)
       → slice_get es j ≡ Some (n, h) → slice_get (pairs_in es) j ≡ Some (pair_of h)
   pair-at es j n h at =

@@ -1,25 +1,28 @@
 -- A map during a drain, as contracts see it: as if the pairs that were taken out were still its entries.
-use Rattle.std.specs.Prelude.{◌≡◌, ℕ, ◌+◌, ◌-◌, ◌<◌, ◌≤◌, ◌^◌, List, [], ◌∷◌, length}
+use Rattle.std.specs.Prelude.{◌≡◌, ℕ, ◌+◌, ◌-◌, ◌*◌, ◌<◌, ◌≤◌, ◌^◌, min, List, length}
 use Rattle.hashlink_model.specs.MapState.{MapState, map_state}
 use denote.Struct.Props.{props}
 
--- the two links that took the pairs out of the ring count as stored by the step that takes the last pair
-abbrev pub links_ahead : {X : Type 0} → List X → ℕ
-links_ahead [] = 0
-links_ahead (x ∷ xs) = 2
+-- the two links that took n pairs out of the ring count as stored by the step that takes the last pair
+abbrev pub links_ahead : ℕ → ℕ
+links_ahead n = min 2 (2 * n)
 
 module _ {K V S : Type 0} where
   -- the map, which has no entry, as if these pairs were its entries
   abbrev pub state_with : MapState K V S → List (K × V) → MapState K V S
-  state_with m ps = map_state ps m.spare m.room (m.link_writes - links_ahead ps) m.hasher
+  state_with m ps = map_state ps m.spare m.room (m.link_writes - links_ahead (length ps)) m.hasher
 
-  -- the map has no entry, and room for the nodes of these pairs
-  pub record CanDrain (m : MapState K V S) (ps : List (K × V)) : Type 0 where
+  -- the map with one more free node
+  abbrev pub with_free : MapState K V S → MapState K V S
+  with_free m = record m { spare = m.spare + 1; link_writes = m.link_writes + 1 }
+
+  -- the map has no entry, and room for n more free nodes
+  pub record CanDrain (m : MapState K V S) (n : ℕ) : Type 0 where
     pub empty : length m.entries ≡ 0
-    pub fits : length ps + m.spare ≤ m.room
-    pub few : length ps + m.spare < 2 ^ 63
-    pub stored : links_ahead ps ≤ m.link_writes
+    pub fits : n + m.spare ≤ m.room
+    pub few : n + m.spare < 2 ^ 63
+    pub stored : links_ahead n ≤ m.link_writes
 
   -- this is a proposition
-  pub CanDrain-prop : (m : MapState K V S) (ps : List (K × V)) → IsProp (CanDrain m ps)
-  CanDrain-prop m ps = hlevel props
+  pub CanDrain-prop : (m : MapState K V S) (n : ℕ) → IsProp (CanDrain m n)
+  CanDrain-prop m n = hlevel props

@@ -1,7 +1,7 @@
 -- Lemmas for callers: a cache's entries after a call. The comment over each lemma names the goal that it
 -- closes.
 use Rattle.std.proofs.Common.{◌≡◌, ℕ, Bool, true, false, cond, List, [], ◌∷◌, ◌++◌, length, Option, None}
-use Rattle.std.proofs.Common.{Some, Result, Ok, Err, refl, sym, ap, subst, ◌∙◌, arith, ◌≤◌, zero, suc}
+use Rattle.std.proofs.Common.{Some, Ok, refl, sym, ap, subst, ◌∙◌, arith, ◌≤◌, zero, suc}
 use Rattle.std.proofs.Common.{is_some, ◌-◌, take, drop, max}
 use Rattle.std.proofs.lemmas.List.{take-append-drop}
 use Rattle.std.proofs.lemmas.List.Elements.{All-same, All-drop}
@@ -11,12 +11,10 @@ use Rattle.std.specs.Map.{lookup, set_value}
 use Rattle.std.specs.Option.{option_map, option_or, option_to_list, option_map_or}
 use Rattle.std.specs.Prelude.{MatchOption, All}
 use Rattle.hashlink_lru.proofs.Evicting.{long, named, named_first, unnamed}
-use Rattle.hashlink_lru.specs.Cached.{FailsToUse, PutsNewIn, UsesAndWrites}
+use Rattle.hashlink_lru.specs.Cached.{PutsNewIn, UsesAndWrites}
 use Rattle.hashlink_lru.specs.Evicted.{pushed_out, evicted_by, evicted_entries}
 use Rattle.hashlink_map.proofs.EachEntry.{All-put, All-moved_match, All-set_value}
 use Rattle.hashlink_map.proofs.Listed.{by_first, lookup-behind}
-use Rattle.hashlink_map.specs.declared.try_insert_error.TryInsertError.{TryInsertError}
-use Rattle.hashlink_map.specs.declared.try_insert_error.TryInsertError.TheVariants.{Make, Memory}
 use Rattle.hashlink_model.proofs.Afterwards.{lookup-put, length-put_absent, length-put_there}
 use Rattle.hashlink_model.proofs.CacheSteps.{inserts_entries as cache_inserts_entries}
 use Rattle.hashlink_model.proofs.Finds.{stored_key-equal}
@@ -36,16 +34,6 @@ module _ {K V : Type 0} (P : K × V → Type 0) where
   All-cache_put eq es cap k v p a =
       let zs = put eq es k v (length es) in
       All-drop P (length zs - cap) zs (All-put P eq es k v (length es) p a)
-
-  module _ {S : Type 0} (old new : CacheState K V S) where
-    -- goal: `All P` of a cache's entries after `insert`
-    pub All-cache_inserts : (eq : K → K → Bool) (k : K) (v : V) (r : Result (Option V) (K × V))
-        → CacheInserts eq old new k v r → P (stored_key eq old.map.entries k, v) → All P old.map.entries
-        → All P new.map.entries
-    All-cache_inserts eq k v (Ok w) s p a =
-        All-same P new.map.entries _ (cache_inserts_entries eq old new k v w s)
-        (All-cache_put eq old.map.entries old.cap k v p a)
-    All-cache_inserts eq k v (Err pair) s p a = All-same P new.map.entries _ s.map.grows.entries a
 
 module _ {K V : Type 0} (eq : K → K → Bool) (laws : IsEquivalence eq) (q : K) where
   -- goal: `lookup` after a cache's insert, by the entry that `evicted_by` names
@@ -135,14 +123,6 @@ module _ {K V S : Type 0} (eq : K → K → Bool) (old new : CacheState K V S) (
           → All P (used_by o)
       by None hit miss = miss
       by (Some w) hit miss = hit
-
-module _ {K V S E : Type 0} (eq : K → K → Bool) (old new : CacheState K V S) (k : K) where
-  -- goal: a cache's entries after a use that failed, which are the same. The step is
-  -- `c.get_or_try_insert_with.follows.holds-at-none`, at an `Err`
-  pub failed_entries : (e : TryInsertError K V E) → FailsToUse eq old new k e
-      → new.map.entries ≡ old.map.entries
-  failed_entries (Make q error) s = ap (λ c. c.map.entries) s
-  failed_entries (Memory pair) s = s.map.grows.entries
 
 -- ---- what a push hands out
 

@@ -1,27 +1,22 @@
 //! The draining iterator of a cache.
 ghost use Rattle.std.specs.Prelude.{◌≡◌};
+ghost use Rattle.hashlink_core.specs.Drained.{CanDrain, with_free};
 ghost use Rattle.hashlink_lru.specs.Cached.{state_of};
 
 use crate::cache::LruCache;
-use hashlink_map::{Chain, DefaultHashBuilder, DrainOf, Drainable, drain_of};
+use hashlink_map::{Chain, DefaultHashBuilder, DrainOf, Drainable, FreeBlock};
 use std::hash::{BuildHasher, Hash};
 
 /// An iterator that removes the entries of a cache and returns them, from front to back: the least recently
-/// used first. When it is dropped, exhausted or not, the cache is empty and every node is free.
-///
-/// If it is forgotten (`mem::forget`), the cache is empty too, and keeps its room. The nodes that were free
-/// before and those of the returned entries are free. The entries that were left are then never dropped, and
-/// the memory of their nodes is never returned.
+/// used first. When it is dropped, exhausted or not, the cache is empty and every node is free. If it is
+/// forgotten (`mem::forget`), the cache is empty too, but the entries left are never dropped, and the memory
+/// of their nodes is never returned.
 pub type Drain<'a, K, V, S = DefaultHashBuilder> = DrainOf<'a, LruCache<K, V, S>, K, V>;
 
 impl<K: Eq + Hash, V, S: BuildHasher> Drainable<K, V> for LruCache<K, V, S> {
-    ghost use Rattle.std.specs.Prelude.{ℕ};
-
     ghost Hasher = { S };
 
     ghost map_state = { λ c. (state_of c).map };
-
-    ghost Rest = { ℕ };
 
     ghost rest = { λ c. c.capacity };
 
@@ -30,13 +25,12 @@ impl<K: Eq + Hash, V, S: BuildHasher> Drainable<K, V> for LruCache<K, V, S> {
     }
 
     #[inline(always)]
-    fn pop_front_of(&mut self, chain: &mut Chain<K, V>) -> Option<(K, V)> {
-        self.map.pop_front_of(chain)
-    }
-
-    #[inline(always)]
-    fn pop_back_of(&mut self, chain: &mut Chain<K, V>) -> Option<(K, V)> {
-        self.map.pop_back_of(chain)
+    fn keep_free(&mut self, block: FreeBlock<K, V>)
+        requires { CanDrain (state_of self.old).map 1 }
+        ensures freed { (state_of self.new).map ≡ with_free (state_of self.old).map }
+        ensures same { self.new.capacity ≡ self.old.capacity }
+    {
+        self.map.keep_free(block);
     }
 }
 
@@ -54,6 +48,6 @@ impl<K: Eq + Hash + Drop, V: Drop, S: BuildHasher> LruCache<K, V, S> {
         ensures unchanged { drained_state result ≡ (state_of self.old).map }
         ensures capacity { result.container.now.capacity ≡ self.old.capacity }
     {
-        drain_of(self)
+        DrainOf::new(self)
     }
 }

@@ -3,19 +3,16 @@
 use Rattle.std.proofs.Common.{◌≡◌, ℕ, Bool, true, false, cond, List, [], ◌∷◌, Option, None, Some, Result, Ok}
 use Rattle.std.proofs.Common.{Err, refl, sym, subst, zero, suc, take, drop}
 use Rattle.std.proofs.lemmas.List.Elements.{All-cons, All-head, All-tail, All-same, All-append, All-take}
-use Rattle.std.proofs.lemmas.List.Elements.{All-drop, All-filter}
+use Rattle.std.proofs.lemmas.List.Elements.{All-drop}
 use Rattle.std.proofs.lemmas.Map.Entries.{place_from_lookup}
 use Rattle.std.proofs.lemmas.Option.{none-some, same_Some}
 use Rattle.std.specs.Map.{lookup, set_value, remove_entry}
 use Rattle.std.specs.Option.{UnwrapsOrElse, option_map_or}
 use Rattle.std.specs.Prelude.{slice_get, All, insert, remove}
-use Rattle.hashlink_model.proofs.Filtered.{retained_by_predicate}
 use Rattle.hashlink_model.specs.Entries.{put, place_of, place_left, place_without, moved_at, moved_match}
 use Rattle.hashlink_model.specs.Entries.{set_key_at, stored_key, without}
 use Rattle.hashlink_model.specs.Entry.{value_at}
 use Rattle.hashlink_model.specs.MapState.{MapState, Inserts}
-use Rattle.hashlink_model.specs.Retain.{RetainsInOrder}
-use Rattle.hashlink_model.specs.Steps.{RemovesMatch}
 
 module _ {K V : Type 0} (P : K × V → Type 0) where
   -- ---- a property of each entry, through a change of a list of entries
@@ -99,15 +96,6 @@ module _ {K V : Type 0} (P : K × V → Type 0) where
       by true t h = All-cons P (e.0, w) es (p e.0 t) (All-tail P e es a)
       by false t h = All-cons P e (set_value test es w) (All-head P e es a) h
 
-  -- goal: `All P` of a map's entries after a `retain` whose closure returns a predicate and writes nothing
-  pub All-retains : {F S : Type 0} (T : F → K → V → Bool → V → F → Type 0) (p : K × V → Bool)
-      → ((f : F) (k : K) (v : V) (b : Bool) (w : V) (g : F) → T f k v b w g → (b ≡ p (k, v)) × (w ≡ v))
-      → (f : F) (old new : MapState K V S) (g : F) → RetainsInOrder T f old new g → All P old.entries
-      → All P new.entries
-  All-retains T p says f old new g r a =
-      All-same P new.entries _ (retained_by_predicate T p says f old new g r).entries
-      (All-filter p P old.entries a)
-
   -- ---- the same through a step, whatever the call returns
 
   module _ {S : Type 0} (eq : K → K → Bool) (old new : MapState K V S) (k : K) (v : V) where
@@ -119,14 +107,6 @@ module _ {K V : Type 0} (P : K × V → Type 0) where
     All-inserts b (Ok (Some w)) s p a = All-same P new.entries _ s.puts.entries
         (All-put eq old.entries k v b p a)
     All-inserts b (Err pair) s p a = All-same P new.entries _ s.grows.entries a
-
-  module _ {S : Type 0} (old new : MapState K V S) where
-    -- goal: `All P` of a map's entries after `remove` or `remove_entry`
-    pub All-removes : (test : K → Bool) (r : Option (K × V)) → RemovesMatch test old new r → All P old.entries
-        → All P new.entries
-    All-removes test None s a = subst (λ m. All P m.entries) (sym s.step) a
-    All-removes test (Some e) s a = All-same P new.entries _ s.step.entries
-        (All-remove_entry test old.entries a)
 
 module _ {K V : Type 0} where
   -- goal: `All P` once the key at a place was replaced

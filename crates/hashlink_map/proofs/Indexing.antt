@@ -5,14 +5,15 @@ use Rattle.hashlink_map.proofs.Names.{Keyed, HoldsKey, entries_of, state_of, pai
 use Rattle.hashlink_map.proofs.Names.{Node, renewed_at, HasKey, with_value_at_key, values-renewed_value}
 use Rattle.hashlink_map.proofs.Names.{set_value_at-place, lookup-unplaced}
 use Rattle.std.proofs.Common.{unwrap_or}
+use Rattle.hashlink_core.specs.declared.FoundNode.{FoundNode}
 
 module _ {K V S : Type 0} (eq : K → K → Bool) (m : Keyed K V S) (k : K) where
   not_there : place_of (eq k) (entries_of m) ≡ None → HasKey eq m k → ⊥
   not_there p h = true≢false (sym h ∙ ap is_some (lookup-unplaced (eq k) (entries_of m) p))
 
   -- the lookup finds it
-  pub found_there : (r : Option Node)
-      → MatchOption r (place_of (eq k) (entries_of m) ≡ None) (HoldsKey eq m.nodes k)
+  pub found_there : (r : Option (FoundNode Node))
+      → MatchOption r (place_of (eq k) (entries_of m) ≡ None) (λ f. HoldsKey eq m.nodes k f.node)
       → HasKey eq m k
       → IsSome r
   found_there None f h = absurd (not_there f h)

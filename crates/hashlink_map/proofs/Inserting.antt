@@ -1,54 +1,20 @@
 -- The entries and the look-ups after an insert at a key. The comment over each lemma names the goal that it
 -- closes.
-use Rattle.std.proofs.Common.{◌≡◌, ℕ, Bool, false, List, [], ◌∷◌, ◌++◌, length, Option, None, Some, Result}
-use Rattle.std.proofs.Common.{Ok, Err, refl, sym, ap, subst, ◌∙◌, inl, inr, take, drop, ◌⊎◌}
-use Rattle.std.proofs.lemmas.List.{take-append-drop}
-use Rattle.std.proofs.lemmas.Map.{NonePasses}
+use Rattle.std.proofs.Common.{◌≡◌, ℕ, Bool, [], ◌∷◌, ◌++◌, length, Option, None, Some, Result}
+use Rattle.std.proofs.Common.{Ok, Err, refl, sym, subst, ◌∙◌}
 use Rattle.std.proofs.lemmas.Option.{none-some}
 use Rattle.std.specs.Cmp.{IsEquivalence}
-use Rattle.std.specs.Map.{lookup, remove_entry}
+use Rattle.std.specs.Map.{lookup}
 use Rattle.std.specs.Prelude.{OnOk, MatchResult}
 use Rattle.hashlink_map.proofs.Outcomes.{inserts_entries}
 use Rattle.hashlink_map.specs.EntryLends.{PutsLast}
-use Rattle.hashlink_model.proofs.Afterwards.{lookup-put, lookup-put_same}
-use Rattle.hashlink_model.proofs.Distinct.{none_equal, IsEntries-middle, IsEntries-insert, none_others}
-use Rattle.hashlink_model.proofs.Finds.{stored_key-equal}
 use Rattle.hashlink_model.proofs.Puts.{put_back_absent, put_back}
-use Rattle.hashlink_model.proofs.Splits.{none_from_lookup, splits, Stands, remove_entry-here}
-use Rattle.hashlink_model.proofs.Splits.{remove_entry-none}
+use Rattle.hashlink_model.proofs.Splits.{none_from_lookup}
 use Rattle.hashlink_model.proofs.Updates.{updates-put}
-use Rattle.hashlink_model.specs.Entries.{IsEntries, put, place_without, stored_key, without}
+use Rattle.hashlink_model.specs.Entries.{IsEntries, stored_key, without}
 use Rattle.hashlink_model.specs.Entry.{EntryState, entry_of}
 use Rattle.hashlink_model.specs.Lookups.{Updates, UpdatesLast}
 use Rattle.hashlink_model.specs.MapState.{MapState, Inserts}
-
--- if no two keys are equal after a put, none were before
-module _ {K V : Type 0} (eq : K → K → Bool) (laws : IsEquivalence eq) where
-  distinct_before : (es : List (K × V)) (k : K) (v : V) (b : ℕ) → IsEntries eq (put eq es k v b)
-      → IsEntries eq es
-  distinct_before es k v b d =
-      let j = place_without eq es k b in
-      let zs = without eq es k in
-      let left : IsEntries eq zs
-      = subst (IsEntries eq) (take-append-drop j zs)
-      (IsEntries-middle eq laws (take j zs) (stored_key eq es k, v) (drop j zs) d) in
-      let apart : NonePasses (eq k) zs
-      = none_equal eq laws (stored_key eq es k) k zs
-      (laws.symm (stored_key eq es k) k ∙ stored_key-equal eq laws k es)
-      (subst (NonePasses (eq (stored_key eq es k))) (take-append-drop j zs)
-      (none_others eq laws (take j zs) (stored_key eq es k, v) (drop j zs) d)) in
-      by (splits (eq k) es) left apart
-    where
-      by : NonePasses (eq k) es ⊎ Stands (eq k) es → IsEntries eq (without eq es k)
-          → NonePasses (eq k) (without eq es k)
-          → IsEntries eq es
-      by (inl n) left apart = subst (IsEntries eq) (remove_entry-none (eq k) es n) left
-      by (inr s) left apart =
-          let out : without eq es k ≡ s.0 ++ s.2
-          = ap (remove_entry (eq k)) s.3.is ∙ remove_entry-here (eq k) s.1 s.2 s.3.passes s.0 s.3.before in
-          subst (IsEntries eq) (sym s.3.is) (IsEntries-insert eq laws s.0 s.1 s.2
-          (none_equal eq laws k s.1.0 (s.0 ++ s.2) s.3.passes (subst (NonePasses (eq k)) out apart))
-          (subst (IsEntries eq) out left))
 
 -- ---- each step as an equation of entries
 
@@ -77,30 +43,6 @@ module _ {K V S : Type 0} (eq : K → K → Bool) (old new : MapState K V S) (k 
       let e = inserts_entries eq old new k v (length old.entries) w s in
       (e.1, e.0 ∙ put_back eq old.entries k v)
   inserts_back (Err pair) s = (s.handed_back, s.grows.entries)
-
-  -- no two keys are equal afterwards, as each call ensures
-  module _ (laws : IsEquivalence eq) (d : IsEntries eq new.entries) where
-    -- goal: the value found at the key after an insert that succeeded
-    pub lookup-inserts : (b : ℕ) (r : Result (Option V) (K × V)) → Inserts eq old new k v b r
-        → OnOk r (lookup (eq k) new.entries ≡ Some v)
-    lookup-inserts b (Ok w) s =
-        let e = (inserts_entries eq old new k v b w s).0 in
-        ap (lookup (eq k)) e
-        ∙ lookup-put_same eq laws k old.entries k v b
-        (distinct_before eq laws old.entries k v b (subst (IsEntries eq) e d)) (laws.refl k)
-    lookup-inserts b (Err pair) s = tt
-
-    -- goal: the value found at another key after an insert, whatever its result
-    pub lookup-inserts_other : (b : ℕ) (q : K) → eq k q ≡ false → (r : Result (Option V) (K × V))
-        → Inserts eq old new k v b r
-        → lookup (eq q) new.entries ≡ lookup (eq q) old.entries
-    lookup-inserts_other b q t (Ok w) s =
-        let e = (inserts_entries eq old new k v b w s).0 in
-        ap (lookup (eq q)) e
-        ∙ lookup-put eq laws q old.entries k v b
-        (distinct_before eq laws old.entries k v b (subst (IsEntries eq) e d))
-        ∙ rw t refl
-    lookup-inserts_other b q t (Err pair) s = ap (lookup (eq q)) s.grows.entries
 
   -- goal: the look-ups after an insert that is not refused, or once what an entry lent was written, by the
   -- keys before it, as `c.entry.ensures.distinct` states them

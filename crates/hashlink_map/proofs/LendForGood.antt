@@ -4,6 +4,7 @@ use Rattle.hashlink_map.proofs.Names
 use Names.{◌≡◌, ℕ, List, [], ◌∷◌, ◌++◌, refl, sym, subst, ◌∙◌, Ura, SProp, ent, id⊢, via, emp, ftrue, fsep}
 use Names.{Fn, Ty, Sym, Callee, Kind, named, erased, mut, ty_ptr, ty_ref, ty_struct, tcons, tnil, local}
 use Names.{value_local, place, deref, field, seq, assign, call, return, addr_of, copy, rv_opd, Val, of_list}
+use Names.{facts, ty_int, u64, vint, w64}
 use Names.{vptr, vstruct, Model, WpFn, Closed, Logic, sem, whole, sub, stop, fld, of_opd, addr, and_then}
 use Names.{no_more, returns, enter, alloc_all, pass_all, free_all, look_at, get, get_in, through, sets}
 use Names.{lands_as, ◌⊑◌, fact, Lfts, Outlives, Running, tables, no, yes, Is, shows, layout, param}
@@ -32,7 +33,7 @@ pub record Unread : Type 0 where
   pub self : Callee
   pub lends : Callee
 
--- `let RawOccupiedEntryMut { map, node } = self; map.lends(node)`
+-- `let RawOccupiedEntryMut { map, node, slot: _ } = self; map.lends(node)`
 abbrev pub taking_apart : Unread → Ty → Fn
 taking_apart n τ = record {
   lifetimes = n.lifetimes;
@@ -42,8 +43,8 @@ taking_apart n τ = record {
   params = 1;
   locals =
       local τ value_local
-      ∷ local (ty_struct n.entry (tcons (ty_ref (named 0) mut n.passed) (tcons (layout node_row) tnil)))
-      value_local
+      ∷ local (ty_struct n.entry (tcons (ty_ref (named 0) mut n.passed)
+      (tcons (layout node_row) (tcons (ty_int w64) tnil)))) value_local
       ∷ local (ty_ref erased mut n.held) value_local ∷ local (layout node_row) value_local
       ∷ local (ty_ref erased mut n.held) value_local ∷ [];
   body =
@@ -113,23 +114,25 @@ module _ {M : Type 1} (𝓤 : Ura M) (𝓛 : Logic 𝓤) (𝓜 : Model 𝓤 𝓛
       let G = triple_of 𝓛 (Lender O).signature (closing 𝓛 (Lender O) (lends O)) in
       let y : G.Ghost = ((κs, qs, z.0.2, (r, (n, tt)), (vs, (word n.at ∷ [], tt))), tt) in
       let toks = raw (alive 𝓛 En.signature κs qs) in
-      let held : Val = vstruct (of_list (vs ++ (word n.at ∷ []))) in
+      let slot : Val = vint w64 a.0.slot in
+      let held : Val = vstruct (of_list (vs ++ (word n.at ∷ slot ∷ []))) in
       qed 𝓛 ((toks ⊛ ‵ (owns (types_at En.signature.params κs) a z.0.4)) ∷ raw (asks κs (emp 𝓤)) ∷ []) ∵
       split ! $
       move ! (1 ∷ []) $ fsplit ! $ fpick ! (λ vss. fsplit ! $ feq_l ! (λ is_held. fsplit ! $
       peeks ! Held _ (shows 𝓛 Held) r vss.0 (λ is. let is_ref : vss.0 ≡ vs =
       mut_Tells (named 0) κs.0 (Map K V S T p h b w) r vss.0 is in
       rewrite ! 0 (λ (us : List Val). ‵ (Held.own_val r us)) is_ref refl $ move ! (1 ∷ []) $ fsplit ! $
-      word_had ! n.at vss.1.0 (λ is_node. drop ! $
+      word_had ! n.at vss.1.0 (λ is_node. fsplit ! $
+      facts ! u64 (Is u64) (shows 𝓛 u64) a.0.slot vss.1.1.0 (λ is_slot. drop ! $
       -- [the map's reference; nothing; the tokens; the requires]
       suffices ! (Run (held ∷ [])) (subst (λ (ws : List Val). ent 𝓤 (Run (held ∷ [])) (Run (ws ++ [])))
-      (sym (is_held ∙ (λ i. vstruct (of_list (is_ref i ++ (is_node i ++ []))) ∷ []))) (id⊢ 𝓤 _)) $
+      (sym (is_held ∙ (λ i. vstruct (of_list (is_ref i ++ (is_node i ++ (is_slot.0 i ++ [])))) ∷ [])))
+      (id⊢ 𝓤 _)) $
       enter ! 𝓣.C 𝓣.Λ fn _ Post $
       alloc_all ! (λ l. pass_all ! refl (
-        as_fields (ty_ptr ∷ word_ty [] ∷ []) (vptr r.ref_ptr.0 r.ref_ptr.1 ∷ word n.at ∷ []) (
-          (tt, tt),
-          (word-Good [] n.at, tt),
-        ),
+        as_fields (ty_ptr ∷ word_ty [] ∷ ty_int w64 ∷ [])
+            (vptr r.ref_ptr.0 r.ref_ptr.1 ∷ word n.at ∷ slot ∷ [])
+            ((tt, tt), (word-Good [] n.at, ((tt, record { fits = is_slot.1 }), tt))),
         tt,
       ) $
       sets ! (of_opd ! (get_in ! (fld ! refl (stop !)) (sub ! 0 refl (whole !)))) refl (tt, tt) $
@@ -153,4 +156,4 @@ module _ {M : Type 1} (𝓤 : Ura M) (𝓛 : Logic 𝓤) (𝓜 : Model 𝓤 𝓛
       -- [the result; the tokens; what the call ensures]
       lands_as ! refl refl (good κs q v is_out) $ returns ! (look_at ! 0 refl) $ free_all ! refl $
       nothing ! $ nothing ! $ fjoin ! $ keep ! (2 ∷ 0 ∷ 1 ∷ 3 ∷ []) $
-      by ! (leaves 𝓛 En hs c z v q ((tt, tt), tt) (tt, tt))))))))))))
+      by ! (leaves 𝓛 En hs c z v q ((tt, tt), tt) (tt, tt)))))))))))))

@@ -2,9 +2,8 @@
 -- that it closes.
 use Rattle.std.proofs.Common.{◌≡◌, ℕ, Bool, true, false, cond, List, [], ◌∷◌, ◌++◌, length, Option, None}
 use Rattle.std.proofs.Common.{Some, refl, sym, ap, subst, ◌∙◌, arith, zero, suc, inl, inr, is_some, drop}
-use Rattle.std.proofs.Common.{lt-ltb, ◌⊎◌}
+use Rattle.std.proofs.Common.{◌⊎◌}
 use Rattle.std.proofs.lemmas.List.{map-append}
-use Rattle.std.proofs.lemmas.List.Edits.{insert_end}
 use Rattle.std.proofs.lemmas.Map.{NonePasses, keys-set_value}
 use Rattle.std.proofs.lemmas.Map.Made.{is_some-lookup}
 use Rattle.std.proofs.lemmas.Option.{none-some, same_Some}
@@ -12,14 +11,14 @@ use Rattle.std.specs.Cmp.{IsEquivalence}
 use Rattle.std.specs.Map.{lookup_entry, lookup, keys_of, set_value}
 use Rattle.std.specs.Map.Iter.{TakesFirst}
 use Rattle.std.specs.Option.{option_or, option_map_or}
-use Rattle.std.specs.Prelude.{slice_get, MatchOption, unwrap_or, insert}
+use Rattle.std.specs.Prelude.{slice_get, MatchOption, unwrap_or}
 use Rattle.std.specs.Set.{is_member}
 use Rattle.hashlink_model.proofs.Distinct.{IsEntries-head, none_equal}
 use Rattle.hashlink_model.proofs.Finds.{stored_key-equal}
 use Rattle.hashlink_model.proofs.Puts.{put_back_absent, put_at_its_place}
-use Rattle.hashlink_model.proofs.Splits.{lookup-none, none_from_lookup, splits, lookup-here, Stands}
-use Rattle.hashlink_model.proofs.Splits.{lookup_key-none, place_of-none, place_of-here}
-use Rattle.hashlink_model.specs.Entries.{IsEntries, put, place_of, place_left, place_or_end, moved_match}
+use Rattle.hashlink_model.proofs.Splits.{lookup-none, splits, lookup-here, Stands}
+use Rattle.hashlink_model.proofs.Splits.{place_of-none, place_of-here}
+use Rattle.hashlink_model.specs.Entries.{IsEntries, put, place_of, place_or_end}
 use Rattle.hashlink_model.specs.Entries.{set_key_at, stored_key}
 use Rattle.hashlink_model.specs.Entry.{key_at}
 use Rattle.hashlink_model.specs.Walk.{first_of}
@@ -49,7 +48,7 @@ module _ {X : Type 0} where
   slice_get-pushed (z ∷ xs) x = slice_get-pushed xs x
 
 module _ {K V : Type 0} where
-  -- goal: `lookup` in one list of entries behind another, and `set_value` there
+  -- goal: `lookup` in one list of entries behind another
   pub lookup-append : (test : K → Bool) (xs ys : List (K × V))
       → lookup test (xs ++ ys) ≡ option_or (lookup test xs) (lookup test ys)
   lookup-append test [] ys = refl
@@ -60,33 +59,6 @@ module _ {K V : Type 0} where
           ≡ option_or (cond b (Some x.1) (lookup test xs)) (lookup test ys)
       by true h = refl
       by false h = h
-
-  pub set_value-append : (test : K → Bool) (xs ys : List (K × V)) (w : V)
-      → set_value test (xs ++ ys) w
-      ≡ cond (is_some (lookup test xs)) (set_value test xs w ++ ys) (xs ++ set_value test ys w)
-  set_value-append test [] ys w = refl
-  set_value-append test (x ∷ xs) ys w = by (test x.0) (set_value-append test xs ys w)
-    where
-      further : (b : Bool) → x ∷ cond b (set_value test xs w ++ ys) (xs ++ set_value test ys w)
-          ≡ cond b (x ∷ (set_value test xs w ++ ys)) (x ∷ (xs ++ set_value test ys w))
-      further true = refl
-      further false = refl
-
-      by : (b : Bool) → set_value test (xs ++ ys) w
-          ≡ cond (is_some (lookup test xs)) (set_value test xs w ++ ys) (xs ++ set_value test ys w)
-          → cond b ((x.0, w) ∷ (xs ++ ys)) (x ∷ set_value test (xs ++ ys) w)
-          ≡ cond (is_some (cond b (Some x.1) (lookup test xs)))
-          (cond b ((x.0, w) ∷ xs) (x ∷ set_value test xs w) ++ ys) (x ∷ (xs ++ set_value test ys w))
-      by true h = refl
-      by false h = ap (λ zs. x ∷ zs) h ∙ further (is_some (lookup test xs))
-
-  -- goal: the entries after the first one moved last, as by `to_back` or a cache's `get`
-  pub moved_first : (test : K → Bool) (e : K × V) (es : List (K × V)) → test e.0 ≡ true
-      → moved_match test (e ∷ es) (length (e ∷ es)) ≡ es ++ e ∷ []
-  moved_first test e es t =
-      let end : place_left 0 (length (e ∷ es)) ≡ length es
-      = rw (lt-ltb 0 (suc (length es)) (omega arith)) (omega arith) in
-      rw t (ap (λ b. insert es b e) end ∙ insert_end es e)
 
   -- goal: `put` at the place that a replace uses, written out: the value of a present key changes at its
   -- place, and an absent key is inserted last; and the keys afterwards
@@ -150,11 +122,6 @@ module _ {K V : Type 0} (eq : K → K → Bool) (laws : IsEquivalence eq) (q : K
 -- ---- the stored key object
 
 module _ {K V : Type 0} (eq : K → K → Bool) (es : List (K × V)) (k : K) where
-  -- goal: the stored key of an absent key is the given one
-  pub stored_key-absent : lookup (eq k) es ≡ None → stored_key eq es k ≡ k
-  stored_key-absent none = ap (λ o. unwrap_or o k)
-      (lookup_key-none (eq k) es (none_from_lookup (eq k) es none))
-
   -- goal: f is the same for the stored key and for the given one, if it is the same for equal keys: f is `λ
   -- x. x` for numbers, and `string_bytes` for texts
   pub stored_key-seen : {B : Type 0} → IsEquivalence eq → (f : K → B)

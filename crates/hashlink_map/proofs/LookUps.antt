@@ -62,12 +62,6 @@ pub read-found_or_made : {V B : Type 0} (f : V → B) {b : B} {Makes : V → Typ
 read-found_or_made f {b} {o = None} makes is made = makes _ made ∙ ap (λ o. option_map_or f o b) is
 read-found_or_made f {b} {o = Some x} makes is same = ap f same ∙ ap (λ o. option_map_or f o b) is
 
--- goal: a value that is written at an absent key changes nothing
-pub set_value-absent : {K V : Type 0} (test : K → Bool) (es : List (K × V)) (w : V) → lookup test es ≡ None
-    → set_value test es w ≡ es
-set_value-absent test [] w none = refl
-set_value-absent test (e ∷ es) w none = grind (arith, set_value-absent test es w)
-
 -- ---- keys that are texts
 
 -- goal: a text tests keys, and passes the `String` with its bytes and no other
@@ -83,11 +77,6 @@ texts_apart text other differ key passes =
     ∙ differ
 
 module _ {A V : Type 0} where
-  -- goal: a text finds what the `String` with its bytes finds
-  pub lookup-text : (key : String A) (text : List ℕ) → string_bytes key ≡ text → (es : List (String A × V))
-      → lookup (is_text text) es ≡ lookup (string_eq key) es
-  lookup-text key text same es = ap (λ t. lookup (is_text t) es) (sym same)
-
   -- goal: a text finds a value if and only if it is among the texts of the keys
   pub is_some-lookup_text : (text : List ℕ) (es : List (String A × V))
       → is_some (lookup (is_text text) es) ≡ is_member bytes_eq (map string_bytes (keys_of es)) text
@@ -114,13 +103,6 @@ module _ {A V : Type 0} where
       (texts_apart text other differ)
       ∙ sym (cond-false (bytes_eq text other) w (lookup (is_text other) old) differ))
       (cases_Bool (bytes_eq text other))
-
-  -- goal: the same after a change at a `String`
-  pub lookup-string_updated : (key : String A) (old new : List (String A × V)) (w : Option V)
-      → UpdatesBy string_eq (string_eq key) old new w
-      → (other : List ℕ) → lookup (is_text other) new
-      ≡ cond (bytes_eq (string_bytes key) other) w (lookup (is_text other) old)
-  lookup-string_updated key = lookup-text_updated (string_bytes key)
 
   -- goal: what any text finds after a move, as by a cache's `get`
   pub lookup-text_kept : (test : String A → Bool) (old new : List (String A × V))

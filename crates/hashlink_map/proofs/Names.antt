@@ -66,7 +66,8 @@ pub use denote.{Laws.{Are, Is, Ises, Typed, shows}, Param.{bounded, layout, para
 pub use denote.Param.{Laws.{Laws, of_field, param_laws, row_shared}, Shared.{copy_shared, mut_ref_shared}}
 pub use denote.{RattleType.{RattleType, Valss, flat, owns}, RawPtr.{Ptr, RawPtr, ptr_val}, Struct.Props.props}
 pub use denote.{Ref.{MutRef, NamedLft, ShrRef, mut_Tells, mut_vals, shr_vals}, Triple.End.Kepts}
-pub use denote.{Signature.{Slot, mut_ref_to, named_lft, plain, types_at}, Steps.{heard, nothing, only, peeks}}
+pub use denote.{Signature.{Slot, mut_ref_to, named_lft, plain, types_at}, Steps.{facts, heard, nothing, only}}
+pub use denote.Steps.{peeks}
 pub use denote.Struct.{Laws.{mut_ref_laws, shr_ref_copy, shr_ref_laws}, Struct.{Shape, Struct, as_fields}}
 pub use denote.{Struct.Tuple.{Tuple, tuple_laws}, Triple.Call.{calls_at, calls_from}, Triple.Table.framed}
 pub use denote.Triple.{Clauses.{Clauses, Ended, Lasts, closing, lasts}, Entry.{Args, alive, on_entry}}
@@ -74,7 +75,8 @@ pub use denote.Triple.Spec.{Meets, triple_of}
 pub use denote.Triple.Walked.{AllGo, Fit, Goes-dropped, Goes-spent_ref, Stays, has_of, stay_dropped, walk_of}
 pub use mir.Syntax.{Callee, Dict, Fn, Kind, Sym, Ty, a_type, addr_of, aggregate, arm, assign, call, copy}
 pub use mir.Syntax.{dcons, deref, dnil, erased, field, imm, int, local, mut, named, no_default, place, return}
-pub use mir.Syntax.{rv_opd, seq, switch, tcons, tnil, ttcons, ttnil, ty_enum, ty_ptr, ty_ref, ty_struct}
+pub use mir.Syntax.{rv_opd, seq, switch, tcons, tnil, ttcons, ttnil, ty_enum, ty_int, ty_ptr, ty_ref}
+pub use mir.Syntax.{ty_struct}
 pub use mir.{MapTy.inst_fn, Syntax.{value_local, variant, w64, w8}, Val.{Val, of_list, vint, vptr, vstruct}}
 pub use prog.{Model.Model, Wp.{Closed, Wp, WpFn, after_seq}}
 pub use seplogic.Ra.Ura.{Ura}

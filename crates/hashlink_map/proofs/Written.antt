@@ -33,6 +33,7 @@ module _ {K V S T : Type 0} {g : EqGhosts K} {h : HashGhosts K} {b : BuilderGhos
       record {
         map = record o.map { now = with_value_at o.map.now (n.node o.node) v };
         node = o.node;
+        slot = o.slot;
         key = o.key;
         stands = p;
       }
@@ -60,8 +61,8 @@ module _ {K V S T : Type 0} {g : EqGhosts K} {h : HashGhosts K} {b : BuilderGhos
   pub raw_with-is : (p : Holds (with_value_at o.map.now (n.node o.node) v).nodes (n.node o.node))
       → record {
         map = record o.map { now = with_value_at o.map.now (n.node o.node) v };
-        node =
-            o.node;
+        node = o.node;
+        slot = o.slot;
         stands = p;
       }
       ≡ raw_with o v

@@ -2,17 +2,16 @@
 -- by a cache's `get` and `get_mut`; the keys after an insert at the back. The comment over each lemma names
 -- the goal that it closes.
 use Rattle.std.proofs.Common.{◌≡◌, ℕ, Bool, true, List, [], ◌∷◌, ◌++◌, length, Option, None, Some, refl, sym}
-use Rattle.std.proofs.Common.{ap, ◌∙◌, nat_eq, false, true≢false, arith}
+use Rattle.std.proofs.Common.{ap, ◌∙◌, nat_eq, false, true≢false}
 use Rattle.std.proofs.lemmas.{Bool.eqb-true, Cmp.nat_eq_equiv, List.map-append}
-use Rattle.std.specs.{Cmp.{IsEquivalence, Lexicographic.bytes_decides}, List.{AllByRecursion, IsDistinct}}
+use Rattle.std.specs.{Cmp.{IsEquivalence, Lexicographic.bytes_decides}}
 use Rattle.std.specs.Map.{IsKeyTest, keys_of, lookup, remove_entry, set_value}
 use Rattle.std.specs.Prelude.{IsSome}
-use Rattle.std.specs.Set.{is_member, remove_key}
+use Rattle.std.specs.Set.{remove_key}
 use Rattle.std.specs.{String.{string_bytes, string_eq, string_eq_equiv}, declared.string.String.String}
 use Rattle.hashlink_map.{proofs.LookUps.is_text-tests, specs.Texts.is_text}
 use Rattle.hashlink_model.proofs.Afterwards.{moved-there}
 use Rattle.hashlink_model.proofs.Finds.{stored_key-equal}
-use Rattle.hashlink_model.proofs.Members.{IsDistinct-append}
 use Rattle.hashlink_model.proofs.Puts.{none_without, put_back}
 use Rattle.hashlink_model.proofs.SetElements.{keys-remove_entry}
 use Rattle.hashlink_model.proofs.Splits.{key_from_lookup, set_value-here}
@@ -33,7 +32,7 @@ module _ {K V : Type 0} (eq : K → K → Bool) (laws : IsEquivalence eq) (es : 
       ∙ set_value-here (eq k) (stored_key eq es k, v) [] (stored_key-equal eq laws k es) w (without eq es k)
       (none_without eq laws es k d)
 
-  -- goal: the keys after an insert at the back, and that no two elements are equal after one
+  -- goal: the keys after an insert at the back
   pub keys-put_back : (k : K) (v : V)
       → keys_of (put eq es k v (length es)) ≡ remove_key (eq k) (keys_of es) ++ stored_key eq es k ∷ []
   keys-put_back k v =
@@ -94,14 +93,3 @@ module _ {A V S : Type 0} (text : List ℕ) where
       let all = written_last string_eq string_eq_equiv (is_text text) (is_text-tests text) old new w d
       there s in
       (all.0, sym ((bytes_decides text (string_bytes all.0)).0 all.1), all.2)
-
--- goal: no two elements are equal once one was put last that none equals
-pub IsDistinct-push : {T : Type 0} (eq : T → T → Bool) → IsEquivalence eq → (xs : List T) (x : T)
-    → IsDistinct eq xs → is_member eq xs x ≡ false → IsDistinct eq (xs ++ x ∷ [])
-unfolding IsDistinct
-IsDistinct-push {T} eq laws xs x d absent = IsDistinct-append eq laws xs (x ∷ []) d (tt, tt) (alone xs absent)
-  where
-    alone : (ys : List T) → is_member eq ys x ≡ false
-        → AllByRecursion (λ y. is_member eq (x ∷ []) y ≡ false) ys
-    alone [] m = tt
-    alone (y ∷ ys) m = (grind (arith, m, laws.symm x y), alone ys (grind (arith, m)))

@@ -2,5 +2,5 @@
 pub use Rattle.std.specs.declared.{cmp.PartialEq.{Ghosts as EqGhosts}, hash.Hasher.{Ghosts as HasherGhosts}}
 pub use Rattle.std.specs.declared.hash.{Hash.{Ghosts as HashGhosts}, BuildHasher.{Ghosts as BuilderGhosts}}
 pub use Rattle.hashlink_map.specs.declared.as_node.AsNode.{Ghosts as NodeGhosts}
-pub use Rattle.hashlink_map.specs.declared.as_chain.AsChain.{Ghosts as ChainGhosts}
-pub use Rattle.hashlink_map.specs.declared.drainable.Drainable.{Ghosts as DrainableGhosts}
+pub use Rattle.hashlink_map.specs.declared.drain.AsChain.{Ghosts as ChainGhosts}
+pub use Rattle.hashlink_map.specs.declared.drain.Drainable.{Ghosts as DrainableGhosts}

@@ -138,15 +138,15 @@ impl<K: Eq + Hash, V, S: BuildHasher> LinkedHashMap<K, V, S> {
         (old_key, old_value)
     }
 
-    /// Removes the entry of the node, and returns it.
+    /// Removes the entry of the node, and returns it. `slot` is where a search found the node, or any number.
     #[inline]
-    pub(crate) fn take_at<N: AsNode>(&mut self, node: N) -> (K, V)
+    pub(crate) fn take_at<N: AsNode>(&mut self, node: N, slot: usize) -> (K, V)
         requires held { Holds self.old.nodes (N.node node) }
         ensures takes { TakesEntry (state_of self.old) (state_of self.new)
             (place_number self.old.nodes (Some (N.node node))) result }
         ensures distinct { IsEntries K.eq (entries_of self.old) }
     {
-        self.list.remove(node.as_node())
+        self.list.remove(node.as_node(), slot)
     }
 
     /// Inserts a pair at the back. Its key has to be absent, and `hash` has to be the key's hash.

@@ -1,6 +1,5 @@
 //! Debug texts.
-use crate::drain::DrainOf;
-use crate::drainable::Drainable;
+use crate::drain::{DrainOf, Drainable};
 use crate::entry::{Entry, OccupiedEntry, VacantEntry};
 use crate::iter_mut::IterMut;
 use crate::map::LinkedHashMap;

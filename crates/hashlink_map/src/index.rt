@@ -33,7 +33,7 @@ impl<'q, K: Eq + Hash, V, S: BuildHasher> IndexMut<&'q K> for LinkedHashMap<K, V
         ensures value { lookup (K.eq key.now) (entries_of self.old) ≡ Some result.now }
     {
         let hash = self.list.hash_of(key);
-        let node = self.list.find(hash, key).unwrap();
-        self.list.value_mut(node)
+        let found = self.list.find(hash, key).unwrap();
+        self.list.value_mut(found.node)
     }
 }

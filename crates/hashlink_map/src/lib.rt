@@ -1,7 +1,6 @@
 //! `LinkedHashMap`: a hash map that keeps its entries in an order which the caller controls.
 #![tactic(auto)]
 
-mod as_chain;
 mod as_node;
 mod at_node;
 mod clone;
@@ -9,8 +8,6 @@ mod compare;
 mod cursor;
 mod debug;
 mod drain;
-mod drain_over;
-mod drainable;
 mod emptied;
 mod entry;
 mod extend;
@@ -25,16 +22,13 @@ mod raw_entry;
 mod try_insert_error;
 mod values_mut;
 
-pub use as_chain::AsChain;
 pub use as_node::AsNode;
 pub use cursor::CursorMut;
-pub use drain::{Drain, DrainOf};
-pub use drain_over::{drain_of, drop_rest};
-pub use drainable::Drainable;
+pub use drain::{AsChain, Drain, DrainOf, Drainable};
 pub use entry::{Entry, OccupiedEntry, VacantEntry};
 pub use hashlink_core::{
-    Chain, DefaultHashBuilder, DefaultHasher, Equivalent, ExtendError, IntoIter, Iter, Keys,
-    TryReserveError, Values,
+    Chain, DefaultHashBuilder, DefaultHasher, Equivalent, ExtendError, FreeBlock, IntoIter, Iter,
+    Keys, TryReserveError, Values,
 };
 pub use iter_from::IterFrom;
 pub use iter_mut::IterMut;

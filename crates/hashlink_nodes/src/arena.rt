@@ -20,7 +20,7 @@ use std_alloc::room::Vacant;
 /// tells this but its number, which is `NO_ENTRY` if there is no entry.
 ///
 /// A key and a value of 8 bytes each are in one cache line, wherever `malloc` puts the block.
-pub(crate) struct Block<T> {
+pub struct Block<T> {
     pair: T,
     number: usize,
     links: Links,

@@ -1,16 +1,17 @@
 //! Entries that were taken out of a ring.
-ghost use Rattle.std.specs.Prelude.{◌≡◌, ◌<◌, [], ◌∷◌, ◌++◌};
+ghost use Rattle.std.specs.Prelude.{◌≡◌, [], ◌∷◌, ◌++◌, MatchOption};
 ghost use Rattle.std.specs.Map.Iter.{TakesFirst, TakesLast};
-ghost use Rattle.hashlink_nodes.specs.ChainSteps.{CanTake, TakesFront, TakesBack};
 
 use crate::arena::Block;
 use crate::node::Node;
-use crate::nodes::Nodes;
 use crate::pool::Pool;
 use std::alloc::Global;
 use std::fmt;
 use std::marker::Model;
 use std_alloc::room::Vacant;
+
+/// The block of a node whose entry was taken out. It contains nothing.
+pub type FreeBlock<K, V> = Vacant<Block<(K, V)>, Global>;
 
 /// The entries that were taken out of a ring, in order, each in its node. Contracts see the pairs. It has no
 /// guard and no free node. No step stores a link in it.
@@ -64,62 +65,37 @@ impl<K, V> Chain<K, V> {
         self.alloc
     }
 
-    /// Removes the first entry, and returns it with its block.
+    /// Removes the first entry and returns it with its block, or returns `None` if there is none.
     #[inline(always)]
-    fn take_first(&mut self) -> ((K, V), Vacant<Block<(K, V)>, Global>)
-        requires { 0 < length self.old }
-        ensures { self.old ≡ result.0 ∷ self.new }
+    pub fn take_first(&mut self) -> Option<((K, V), FreeBlock<K, V>)>
+        ensures { MatchOption result ((self.old ≡ []) × (self.new ≡ [])) (λ r. self.old ≡ r.0 ∷ self.new) }
     {
+        if self.len() == 0 {
+            return None;
+        }
         let node = self.first;
         self.first = self.pool.next(node);
         let pair = self.pool.take(node);
         let vacant = self.pool.vacate(node, self.alloc);
         self.len -= 1;
-        (pair, vacant)
+        Some((pair, vacant))
     }
 
-    /// Removes the last entry, and returns it with its block.
+    /// Removes the last entry and returns it with its block, or returns `None` if there is none.
     #[inline(always)]
-    fn take_last(&mut self) -> ((K, V), Vacant<Block<(K, V)>, Global>)
-        requires { 0 < length self.old }
-        ensures { self.old ≡ self.new ++ result.0 ∷ [] }
+    pub fn take_last(&mut self) -> Option<((K, V), FreeBlock<K, V>)>
+        ensures { MatchOption result ((self.old ≡ []) × (self.new ≡ []))
+            (λ r. self.old ≡ self.new ++ r.0 ∷ []) }
     {
+        if self.len() == 0 {
+            return None;
+        }
         let node = self.last;
         self.last = self.pool.prev(node);
         let pair = self.pool.take(node);
         let vacant = self.pool.vacate(node, self.alloc);
         self.len -= 1;
-        (pair, vacant)
-    }
-
-    /// Removes the first entry and returns it, or returns `None` if there is none. Its node is the first free
-    /// node of the ring then. It stores one link.
-    #[inline(always)]
-    pub fn pop_front(&mut self, nodes: &mut Nodes<K, V>) -> Option<(K, V)>
-        requires { CanTake self.old nodes.old }
-        ensures { TakesFront self.old self.new nodes.old nodes.new result }
-    {
-        if self.len() == 0 {
-            return None;
-        }
-        let (pair, vacant) = self.take_first();
-        nodes.keep_free(vacant);
-        Some(pair)
-    }
-
-    /// Removes the last entry and returns it, or returns `None` if there is none. Its node is the first free
-    /// node of the ring then. It stores one link.
-    #[inline(always)]
-    pub fn pop_back(&mut self, nodes: &mut Nodes<K, V>) -> Option<(K, V)>
-        requires { CanTake self.old nodes.old }
-        ensures { TakesBack self.old self.new nodes.old nodes.new result }
-    {
-        if self.len() == 0 {
-            return None;
-        }
-        let (pair, vacant) = self.take_last();
-        nodes.keep_free(vacant);
-        Some(pair)
+        Some((pair, vacant))
     }
 
     /// Removes the first entry, frees its block and returns it, or returns `None` if there is none.
@@ -127,10 +103,7 @@ impl<K, V> Chain<K, V> {
     pub fn release_first(&mut self) -> Option<(K, V)>
         ensures { TakesFirst (λ p. p) self.old result self.new }
     {
-        if self.len() == 0 {
-            return None;
-        }
-        let (pair, vacant) = self.take_first();
+        let (pair, vacant) = self.take_first()?;
         vacant.free();
         Some(pair)
     }
@@ -140,10 +113,7 @@ impl<K, V> Chain<K, V> {
     pub fn release_last(&mut self) -> Option<(K, V)>
         ensures { TakesLast (λ p. p) self.old result self.new }
     {
-        if self.len() == 0 {
-            return None;
-        }
-        let (pair, vacant) = self.take_last();
+        let (pair, vacant) = self.take_last()?;
         vacant.free();
         Some(pair)
     }

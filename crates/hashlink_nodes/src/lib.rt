@@ -9,7 +9,7 @@ mod node;
 mod nodes;
 mod pool;
 
-pub use chain::Chain;
+pub use chain::{Chain, FreeBlock};
 pub use entry::Entry;
 pub use node::Node;
 pub use nodes::Nodes;

@@ -1,8 +1,8 @@
 //! The ring of nodes.
 #![tactic(auto, using(crate::proofs::Calls::ring_calls))]
 
-ghost use Rattle.std.specs.Prelude.{◌≡◌, ◌+◌, ◌^◌, ◌<◌, [], ◌∷◌, ◌++◌, length, drop, Some, IsOk, IfOk, IfErr};
-ghost use Rattle.std.specs.{Prelude.{map, OnOk, OnErr}, Option.option_map, List.IsDistinct};
+ghost use Rattle.std.specs.Prelude.{◌≡◌, ◌+◌, ◌*◌, ◌^◌, ◌<◌, [], ◌∷◌, ◌++◌, length, drop, Some, IsOk, IfOk};
+ghost use Rattle.std.specs.{Prelude.{map, min, IfErr, OnOk, OnErr}, Option.option_map, List.IsDistinct};
 ghost use Rattle.std.specs.Map.{keys_of, lookup, remove_entry};
 ghost use Rattle.hashlink_nodes.specs.Node.{same_node};
 ghost use Rattle.hashlink_nodes.specs.Ring.{ring, held, pair_of, put_before, Holds, IsPlace};
@@ -12,13 +12,11 @@ mod moves;
 mod reads;
 mod values;
 
-use crate::arena::Block;
-use crate::chain::Chain;
+use crate::chain::{Chain, FreeBlock};
 use crate::node::Node;
 use crate::pool::Pool;
 use std::alloc::Global;
 use std::marker::Model;
-use std_alloc::room::Vacant;
 
 /// Entries in a ring of nodes, and free nodes, which later inserts use. Each node is a block of its own.
 pub struct Nodes<K, V> {
@@ -171,7 +169,8 @@ impl<K, V> Nodes<K, V> {
         ensures entries { self.new.entries ≡ [] }
         ensures free { self.new.free ≡ self.old.free }
         ensures unchanged { length self.old.entries ≡ 0 → self.new ≡ self.old }
-        ensures link_writes { 0 < length self.old.entries → self.new.link_writes ≡ self.old.link_writes + 2 }
+        ensures link_writes { self.new.link_writes ≡ self.old.link_writes
+            + min 2 (2 * length self.old.entries) }
         ensures few { length self.old.entries + length self.old.free < 2 ^ 63 }
     {
         if self.len == 0 {
@@ -189,13 +188,15 @@ impl<K, V> Nodes<K, V> {
 
     /// Takes a block over, as the first free node. It stores one link.
     #[inline(always)]
-    pub(crate) fn keep_free(&mut self, vacant: Vacant<Block<(K, V)>, Global>)
+    pub fn keep_free(&mut self, vacant: FreeBlock<K, V>)
         requires guarded { 0 < self.old.link_writes }
         requires few { length self.old.entries + length self.old.free + 1 < 2 ^ 63 }
         ensures { Spares self.old self.new }
     {
+        // It is read before the block is written, so that the block's link is stored once.
+        let first_spare = self.first_spare;
         let node = self.pool.keep(vacant);
-        self.pool.store_next(node, self.first_spare);
+        self.pool.store_next(node, first_spare);
         self.first_spare = node;
         self.spare += 1;
     }

@@ -1,22 +1,17 @@
 -- Lemmas for callers: a set's elements after a call. The comment over each lemma names the goal that it
 -- closes.
-use Rattle.std.proofs.Common.{◌≡◌, Bool, true, false, cond, List, [], ◌∷◌, ◌++◌, length, Option, None, Some}
-use Rattle.std.proofs.Common.{Result, Ok, Err, refl, sym, ap, ◌∙◌, true≢false, not, filter, is_some}
+use Rattle.std.proofs.Common.{◌≡◌, Bool, true, false, cond, [], ◌∷◌, ◌++◌, Option, None, Some}
+use Rattle.std.proofs.Common.{Result, Ok, Err, refl, ap, ◌∙◌, true≢false, not, filter, is_some}
 use Rattle.std.proofs.lemmas.List.{map-append}
 use Rattle.std.proofs.lemmas.Map.Made.{is_some-lookup}
-use Rattle.std.proofs.lemmas.Option.{none-some}
 use Rattle.std.specs.List.{list_any}
 use Rattle.std.specs.Map.{lookup, keys_of}
 use Rattle.std.specs.Prelude.{MatchResult}
 use Rattle.hashlink_map.proofs.Inserting.{inserts_absent}
-use Rattle.hashlink_map.proofs.Listed.{moved_first}
 use Rattle.hashlink_map.proofs.Retained.{retained_where}
 use Rattle.hashlink_model.proofs.SetElements.{keys-filter, set_inserts}
-use Rattle.hashlink_model.proofs.SetViews.{keys_of-pairs_of, pairs_of-keys_of}
-use Rattle.hashlink_model.specs.Entries.{moved_match}
 use Rattle.hashlink_model.specs.Retain.{RetainsInOrder}
-use Rattle.hashlink_model.specs.Sets.{SetState, SetInserts, at_element, elements_of, pairs_of}
-use Rattle.hashlink_model.specs.Steps.{MovesMatch}
+use Rattle.hashlink_model.specs.Sets.{SetState, SetInserts, at_element, elements_of}
 
 -- goal: the same for a set's elements
 pub set_retained_where : {F T S : Type 0} (U : F → T → Bool → F → Type 0) (Holds : F → Type 0)
@@ -49,25 +44,3 @@ module _ {T S : Type 0} (old new : SetState T S) where
           by None h = refl
           by (Some x) h = absurd (true≢false h)
   set_inserts_new eq t none (Err x) s = (ap (λ p. p.0) s.handed_back, ap keys_of s.grows.entries)
-
-  -- goal: the elements after the first one moved last
-  pub set_moves_first : (eq : T → T → Bool) (t : T) (rest : List T) → eq t t ≡ true
-      → elements_of old ≡ t ∷ rest → (r : Option (Unit {0}))
-      → MovesMatch (eq t) old new (length old.entries) r
-      → elements_of new ≡ rest ++ t ∷ []
-  set_moves_first eq t rest same is r s = by r s
-    where
-      first : old.entries ≡ (t, tt) ∷ pairs_of rest
-      first = sym (pairs_of-keys_of old.entries) ∙ ap pairs_of is
-
-      there : lookup (eq t) old.entries ≡ Some tt
-      there = ap (lookup (eq t)) first ∙ rw same refl
-
-      by : (r : Option (Unit {0})) → MovesMatch (eq t) old new (length old.entries) r
-          → elements_of new ≡ rest ++ t ∷ []
-      by None s = absurd (none-some tt (s.answer ∙ there))
-      by (Some w) s =
-          ap keys_of (s.step.entries ∙ ap (λ es. moved_match (eq t) es (length es)) first
-          ∙ moved_first (eq t) (t, tt) (pairs_of rest) same)
-          ∙ map-append (λ e. e.0) (pairs_of rest) ((t, tt) ∷ [])
-          ∙ ap (λ ts. ts ++ t ∷ []) (keys_of-pairs_of rest)

@@ -2,7 +2,7 @@
 use Rattle.hashlink_set.proofs.Names.{◌≡◌, Option, None, Some, Ok, Err, Result, Bool, [], ◌∷◌, refl, sym, ap}
 use Rattle.hashlink_set.proofs.Names.{subst, ◌∙◌, SProp, ent, sep, emp, fact, fact_i, sem, ‵, raw, ◌⊛◌, ◌$◌}
 use Rattle.hashlink_set.proofs.Names.{◌∵◌, !, qed, move, join, split, use0, fpick, Lfts, RattleType, IfOk}
-use Rattle.hashlink_set.proofs.Names.{IfErr, OnOk, IsSome, option_copied, Bor, find, UnwrapsOrElse, SetState}
+use Rattle.hashlink_set.proofs.Names.{IfErr, IsSome, option_copied, Bor, find, UnwrapsOrElse, SetState}
 use Rattle.hashlink_set.proofs.Names.{elements_of, stored_element, GetsOrInserts, last_of, GetsOrMakes}
 use Rattle.hashlink_set.proofs.{Names.{as_seen, PutsElement, MakesElement}, Stored.inserted_last}
 use seplogic.Ra.Ura.{Ura}
@@ -11,7 +11,7 @@ use base.Fml.{ftrue, flft}
 use contract.Lifetimes.{Shares, toks}
 use mathlib.Core.Option.{none}
 use denote.Follow.{follows_by, such_by}
-use Rattle.std.specs.{Prelude.⊤, Borrow.{Fml, GName, follows_so, follows_if}, Result.result_err}
+use Rattle.std.specs.{Prelude.⊤, Borrow.{Fml, GName, follows_so, follows_if}}
 
 module _ {M : Type 1} (𝓤 : Ura M) (A B C : Type 0) where
   -- what a call requires: three facts on lifetimes, and R
@@ -110,12 +110,6 @@ module _ {T S : Type 0} (eq : T → T → Bool) (old new : SetState T S) (t : T)
 -- the same for the elements that a closure may make
 module _ {T S : Type 0} (eq : T → T → Bool) (Makes : T → Type 0) (old new : SetState T S) (t : T) where
   -- the element that was made and refused, from a result that contains it
-  pub element_made : (r : Result (Unit {0}) T) (o : Option T) → o ≡ result_err r
-      → OnOk r ((x : T) × (last_of (elements_of new) ≡ Some x) × GetsOrMakes eq Makes old new t (Ok x))
-      → IfErr r (λ x. GetsOrMakes eq Makes old new t (Err x)) → MakesElement eq Makes old new t o
-  element_made (Ok u) o is moved refused = subst (MakesElement eq Makes old new t) (sym is) moved
-  element_made (Err x) o is moved refused = subst (MakesElement eq Makes old new t) (sym is) refused
-
   pub there_is_made : (y : Option T) (o : Option (Bor T)) → MakesElement eq Makes old new t y
       → option_copied o ≡ last_of (elements_of new) → y ≡ None → IsSome o
   there_is_made None None s is empty = absurd (cc (is, s.1))

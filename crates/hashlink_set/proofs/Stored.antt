@@ -3,9 +3,12 @@ use Rattle.hashlink_set.proofs.Names
 use Names.{◌≡◌, ℕ, Result, Bool, true, false, List, [], ◌∷◌, length, Option, None, Some, Ok, Err, is_some}
 use Names.{refl, sym, ap, subst, ◌∙◌, arith, IfOk, IfErr, IsEquivalence, find, keys_of, is_member, remove_key}
 use Names.{is_some-lookup, SetState, elements_of, put_element, stored_element, SetInserts, SetReplaces, Moves}
-use Names.{last_of, set_inserts, set_replaces, as_value, GetsOrMakes}
+use Names.{last_of, set_inserts, set_replaces, GetsOrMakes}
+use Rattle.std.specs.Map.{lookup}
 use Rattle.std.{proofs.Common.unwrap_or, specs.List.IsDistinct, proofs.lemmas.Map.Entries.length-keys_of}
-use Rattle.hashlink_model.{specs.MapState.{AddsEntry, RefusesEntry}, proofs.SetSteps.IsDistinct-replaced}
+use Rattle.hashlink_map.proofs.Found.{is-found}
+use Rattle.hashlink_model.{specs.MapState.{AddsEntry, MovesAt, RefusesEntry}, specs.Entries.place_of}
+use Rattle.hashlink_model.proofs.{SetSteps.IsDistinct-replaced, Pops.{absent_is_vacant, vacant}}
 use Rattle.hashlink_model.proofs.{Places.last_of-end, SetElements.{moves_elements, put_element_back}}
 
 pub is_some-find : {T : Type 0} (eq : T → T → Bool) (t : T) (ts : List T) → is_some (find (eq t) ts)
@@ -23,15 +26,6 @@ module _ {T S : Type 0} (eq : T → T → Bool) where
     pub inserted_last : (b : Bool) → SetInserts eq old new t (Ok b)
         → last_of (elements_of new) ≡ Some (stored_element eq (elements_of old) t)
     inserted_last b s = ap last_of (set_inserts eq old new t b s).0 ∙ last_put eq (elements_of old) t
-
-    -- an element that was absent before an insert was inserted
-    pub inserts_absent : is_member eq (elements_of old) t ≡ false → (b : Bool)
-        → SetInserts eq old new t (Ok b)
-        → AddsEntry eq old new t tt (length old.entries)
-    inserts_absent m true s = s
-    inserts_absent m false s =
-        let there : true ≡ false = sym (ap is_some s.old_value) ∙ is_some-lookup (eq t) old.entries ∙ m in
-        absurd (cc)
 
     pub added_last : AddsEntry eq old new t tt (length old.entries) → last_of (elements_of new) ≡ Some t
     added_last s =
@@ -69,16 +63,28 @@ module _ {T S : Type 0} (eq : T → T → Bool) where
         subst (λ z. GetsOrMakes eq Makes old new t (Err z)) (sym same)
         (none, made, subst (λ z. RefusesEntry eq old new x tt (z, tt)) same s)
 
--- a move that found nothing: no element is equal, and nothing changed
-pub unmoved : {T S : Type 0} (eq : T → T → Bool) (old new : SetState T S) (t : T) (n : ℕ) (there : Bool)
-    → there ≡ false → Moves eq old new t n (as_value there)
-    → (find (eq t) (elements_of old) ≡ None) × (new ≡ old)
-unmoved eq old new t n true unfound s = absurd (cc)
-unmoved eq old new t n false unfound s =
-    let none : is_some (find (eq t) (elements_of old)) ≡ false
-    = is_some-find eq t (elements_of old) ∙ sym (is_some-lookup (eq t) old.entries)
-    ∙ ap is_some (sym s.answer) in
-    (grind (arith, none), s.step)
+-- by the place of an element
+module _ {T S : Type 0} (eq : T → T → Bool) (laws : IsEquivalence eq) (old : SetState T S) (t : T) where
+  pub none_found : place_of (eq t) old.entries ≡ None → find (eq t) (elements_of old) ≡ None
+  none_found p =
+      let none : is_some (find (eq t) (elements_of old)) ≡ false
+      = is_some-find eq t (elements_of old) ∙ sym (is_some-lookup (eq t) old.entries)
+      ∙ ap is_some (vacant eq laws t old.entries p) in
+      grind (arith, none)
+
+  pub no_place : is_member eq (elements_of old) t ≡ false → place_of (eq t) old.entries ≡ None
+  no_place m =
+      let none : is_some (lookup (eq t) old.entries) ≡ false = is_some-lookup (eq t) old.entries ∙ m in
+      absent_is_vacant eq laws t old.entries (grind (arith, none))
+
+  pub moved_there : (new : SetState T S) (j : ℕ) → place_of (eq t) old.entries ≡ Some j
+      → MovesAt old new j (length old.entries) → Moves eq old new t (length old.entries) (Some tt)
+  moved_there new j p s =
+      record { answer = found (lookup (eq t) old.entries) (is-found (eq t) old.entries j p); step = rw p s }
+    where
+      found : (o : Option (Unit {0})) → true ≡ is_some o → Some tt ≡ o
+      found None e = absurd (cc)
+      found (Some u) e = refl
 
 -- no two elements are equal after a replace, as before
 module _ {T S : Type 0} {eq : T → T → Bool} (laws : IsEquivalence eq) (old new : SetState T S) (t : T) where

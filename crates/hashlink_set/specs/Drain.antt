@@ -3,7 +3,7 @@ use Rattle.std.specs.{Prelude.{◌≡◌, List, Option}, Borrow.MutBor, Map.Iter
 use Rattle.hashlink_model.specs.{Sets.{SetState, elements_of}, Steps.{PopsFront, PopsBack}}
 use Rattle.hashlink_core.specs.Drained.{state_with}
 use Rattle.hashlink_map.specs.Bounds.{EqGhosts, HashGhosts, HasherGhosts, BuilderGhosts}
-use Rattle.hashlink_map.specs.declared.as_chain.AsChain.{Ghosts as ChainGhosts}
+use Rattle.hashlink_map.specs.declared.drain.AsChain.{Ghosts as ChainGhosts}
 use Rattle.hashlink_set.specs.{Answers.as_entry, declared.drain.Drain.Drain}
 
 module _ {T S H : Type 0} {g : EqGhosts T} {h : HashGhosts T} {b : BuilderGhosts S H} {w : HasherGhosts H}

@@ -1,29 +1,41 @@
 //! The draining iterator of a set.
 ghost use Rattle.std.specs.{Prelude.{◌≡◌, Some, IfSome, length}, Iterator.{at_most, UpTo}};
 ghost use Rattle.std.specs.Iterator.SizeHint.{IsWithinCount};
-ghost use Rattle.hashlink_core.specs.Drained.{CanDrain, CanDrain-prop};
+ghost use Rattle.hashlink_core.specs.Drained.{CanDrain, CanDrain-prop, with_free};
 ghost use Rattle.hashlink_model.specs.Steps.{Drains};
 
 use crate::set::LinkedHashSet;
-use hashlink_map::{AsChain, Chain, DefaultHashBuilder, Drainable, drop_rest};
+use hashlink_map::{AsChain, Chain, DefaultHashBuilder, Drainable, FreeBlock};
 use std::hash::{BuildHasher, Hash};
 use std::iter::FusedIterator;
 
 /// An iterator that removes the elements of a set and returns them, from front to back. When it is dropped,
-/// exhausted or not, the set is empty and every node is free.
-///
-/// If it is forgotten (`mem::forget`), the set is empty too, and keeps its room. The nodes that were free
-/// before and those of the returned elements are free. The elements that were left are then never dropped,
-/// and the memory of their nodes is never returned.
+/// exhausted or not, the set is empty and every node is free. If it is forgotten (`mem::forget`), the set is
+/// empty too, but the elements left are never dropped, and the memory of their nodes is never returned.
 pub struct Drain<
     'a,
     T: Eq + Hash,
     S: BuildHasher = DefaultHashBuilder,
     D: AsChain<T, ()> = Chain<T, ()>,
 > {
-    pub(crate) set: &'a mut LinkedHashSet<T, S>,
-    pub(crate) chain: D,
-    ghost fits: { CanDrain set.now (D.pairs chain) } by { CanDrain-prop _ _ },
+    set: &'a mut LinkedHashSet<T, S>,
+    chain: D,
+    ghost fits: { CanDrain set.now (length (D.pairs chain)) } by { CanDrain-prop _ _ },
+}
+
+impl<'a, T: Eq + Hash + Drop, S: BuildHasher, D: AsChain<T, ()> + Drop> Drop
+    for Drain<'a, T, S, D> {
+    ghost use Rattle.hashlink_set.specs.Drain.{drained_set};
+
+    fn drop(mut self)
+        ensures { Drains (drained_set self.entry).now self.exit.0.now }
+    {
+        let mut left = self.chain.take();
+        while let Some((_pair, block)) = left.take_first() {
+            self.set.keep_free(block);
+        }
+        let Drain { set: _, chain: _ } = self;
+    }
 }
 
 impl<T: Eq + Hash, S: BuildHasher> Drainable<T, ()> for LinkedHashSet<T, S> {
@@ -31,35 +43,16 @@ impl<T: Eq + Hash, S: BuildHasher> Drainable<T, ()> for LinkedHashSet<T, S> {
 
     ghost map_state = { λ s. s };
 
-    ghost Rest = { Unit {0} };
-
-    ghost rest = { λ s. tt };
-
     fn take_entries(&mut self) -> Chain<T, ()> {
         self.map.take_entries()
     }
 
     #[inline(always)]
-    fn pop_front_of(&mut self, chain: &mut Chain<T, ()>) -> Option<(T, ())> {
-        self.map.pop_front_of(chain)
-    }
-
-    #[inline(always)]
-    fn pop_back_of(&mut self, chain: &mut Chain<T, ()>) -> Option<(T, ())> {
-        self.map.pop_back_of(chain)
-    }
-}
-
-impl<'a, T: Eq + Hash + Drop, S: BuildHasher, D: AsChain<T, ()>> Drop for Drain<'a, T, S, D> {
-    ghost use Rattle.hashlink_set.specs.Drain.{drained_set};
-
-    fn drop(mut self)
-        ensures { Drains (drained_set self.entry).now self.exit.0.now }
+    fn keep_free(&mut self, block: FreeBlock<T, ()>)
+        requires { CanDrain self.old 1 }
+        ensures freed { self.new ≡ with_free self.old }
     {
-        let rest = self.chain.take();
-        drop_rest(self.set, rest);
-        let Drain { set: _, chain } = self;
-        chain.end();
+        self.map.keep_free(block);
     }
 }
 
@@ -90,7 +83,8 @@ impl<'a, T: Eq + Hash + Drop, S: BuildHasher> Iterator for Drain<'a, T, S> {
 
     #[inline(always)]
     fn next(&mut self) -> Option<T> {
-        let (element, ()) = self.set.pop_front_of(&mut self.chain)?;
+        let ((element, ()), block) = self.chain.take_first()?;
+        self.set.keep_free(block);
         Some(element)
     }
 
@@ -110,7 +104,8 @@ impl<'a, T: Eq + Hash + Drop, S: BuildHasher> DoubleEndedIterator for Drain<'a, 
 
     #[inline(always)]
     fn next_back(&mut self) -> Option<T> {
-        let (element, ()) = self.set.pop_back_of(&mut self.chain)?;
+        let ((element, ()), block) = self.chain.take_last()?;
+        self.set.keep_free(block);
         Some(element)
     }
 }

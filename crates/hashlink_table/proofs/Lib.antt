@@ -1,5 +1,5 @@
 pub mod Names
-pub mod Blocks
+pub mod Records
 pub mod Grids
 pub mod Groups
 pub mod Linking

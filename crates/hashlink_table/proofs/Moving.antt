@@ -2,7 +2,7 @@
 -- not.
 use Rattle.hashlink_table.proofs.Names
 use Names.{◌≡◌, ◌≢◌, ℕ, ◌%◌, ◌/◌, ◌^◌, ◌<◌, ◌≤◌, inl, inr, List, length, get_or, set, IsSome}
-use Names.{Option}
+use Names.{IfSome, Option}
 use Names.{None, Some, false, refl, sym, ap, ◌∙◌, subst, arith, IsPermutation, cases_eq, length-map}
 use Names.{length-set, get_or-set_same, get_or-set_other, same_Some, bit_at, Hashed, Cell, Head, END, kept_at}
 use Names.{next_at, own_at, own_of, guest_at, guest_of, chain_at, chain_of, first_at, mask_at}
@@ -17,6 +17,11 @@ use Rattle.hashlink_table.proofs.Linking.{same_length}
 use Rattle.hashlink_table.proofs.{Nodes.{nodes_in-set, nodes_in-full}, Threads.begun}
 use Rattle.std.specs.Prelude.{bit_or}
 use Rattle.std.proofs.lemmas.Nat.Bits.{bit_at_or, bit_at-pow_same, bit_at-lt}
+
+-- a fact of the node of a cell, if it has one
+pub if_kept : {K : Type 0} (o : Option K) (P : K → Type 0) → ((k : K) → o ≡ Some k → P k) → IfSome o P
+if_kept None P so = tt
+if_kept (Some k) P so = so k refl
 
 -- the group of a guest is among the groups
 pub group_low : (hash m : ℕ) → 0 < m → m % 16 ≡ 0 → hash % m / 16 < m / 16

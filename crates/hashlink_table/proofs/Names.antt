@@ -6,11 +6,11 @@ pub use Rattle.hashlink_table.specs.Chains.{contents}
 pub use Rattle.hashlink_table.specs.Chains.{first_at, guest_at, guest_of, kept_at, links_of}
 pub use Rattle.hashlink_table.specs.Chains.{mask_at, next_at, nodes_in, own_at, own_of, stored_in, with_node}
 pub use Rattle.hashlink_table.specs.Slots.{AreSlots, Grid, IsStored, IsTagged, Row, bare_grid, cells_in}
-pub use Rattle.hashlink_table.specs.Slots.{empty_block, grid_in, kept_may_be}
+pub use Rattle.hashlink_table.specs.Slots.{empty_record, grid_in, kept_may_be}
 pub use Rattle.hashlink_table.specs.Slots.{lanes_of, may_be, slot}
 pub use Rattle.hashlink_table.specs.Slots.{with_guest, with_kept, with_next, without_kept}
-pub use Rattle.hashlink_table.specs.Blocks.{Block, block_of, free_mark, has_guest, has_own, heads_in, is_free}
-pub use Rattle.hashlink_table.specs.Blocks.{is_guest, is_taken, mark_of, marks_in}
+pub use Rattle.hashlink_table.specs.Records.{Record, record_of, free_mark, has_guest, has_own, heads_in}
+pub use Rattle.hashlink_table.specs.Records.{is_free, is_guest, is_taken, mark_of, marks_in}
 pub use Rattle.hashlink_table.specs.Stored.{bare_cell, mask_bit_of, no_guests, tag_of, with_guest_in}
 pub use Rattle.hashlink_table.specs.Contents.{AreBuckets, CanAsk, Contents, agreeing, len_of}
 pub use Rattle.hashlink_table.specs.declared.{hashed.Hashed.Hashed, store.cell.Cell.Cell}

@@ -2,7 +2,7 @@
 use Rattle.hashlink_table.proofs.Names
 use Names.{◌≡◌, ℕ, zero, suc, ◌<◌, ◌≤◌, Bool, true, false, cond, ◌∷◌, eqb, List, [], length}
 use Names.{map, not, take, drop, get_or, set, replicate, Some, None, refl, sym, ap, ◌∙◌, subst, arith}
-use Names.{is_none}
+use Names.{is_none, Option}
 use Names.{is_some, IfSome, All, chunk, false≢true, get_or-map, length-map, map-id}
 use Names.{map-set}
 use Names.{set-get_or, take-map, drop-map, All-get_or, All-head, All-map, All-set, All-tail}
@@ -81,6 +81,28 @@ pub taken_guest : (m : Mark) → is_taken m ≡ true → not m.own ≡ is_guest 
 taken_guest m taken =
     elim m.own as (λ own. cond own true m.guest ≡ true → not own ≡ cond own false m.guest)
     [ true ↦ λ _. refl | false ↦ λ e. sym e ] taken
+
+-- a cell whose mark says so has a node of its group
+pub own_found : {N : Type 0} (m : Mark) (c : Cell N) (n : N) → not m.own ≡ false → is_guest m ≡ c.guest
+    → is_taken m ≡ is_some c.kept
+    → (IsSome (own_of c) → IfSome (own_of c) (λ k. k.node ≡ n))
+    → (hash : ℕ) × (own_of c ≡ Some (record { hash = hash; node = n }))
+own_found {N} m c n own guest there read =
+    elim m.own as (λ own. not own ≡ false → cond own false m.guest ≡ c.guest
+    → cond own true m.guest ≡ is_some c.kept → (hash : ℕ) × (own_of c ≡ Some (at hash n))) [
+      | true ↦ λ _ e t. by c.guest c.kept e t read
+      | false ↦ λ e. absurd (false≢true (sym e))
+    ] own guest there
+  where
+    at : ℕ → N → Hashed N
+    at hash node = record { hash = hash; node = node }
+
+    by : (b : Bool) (o : Option (Hashed N)) → false ≡ b → true ≡ is_some o
+        → (IsSome (cond b None o) → IfSome (cond b None o) (λ k. k.node ≡ n))
+        → (hash : ℕ) × (cond b None o ≡ Some (at hash n))
+    by true o e t read = absurd (false≢true e)
+    by false None e t read = absurd (false≢true (sym t))
+    by false (Some k) e t read = (k.hash, ap (λ m. Some (at k.hash m)) (read refl))
 
 -- the node for which this is stored, if there is one
 abbrev pub node_of : {N : Type 0} → Row N → Hashed N

@@ -1,6 +1,6 @@
 pub mod Contents
 pub mod Stored
-pub mod Blocks
+pub mod Records
 pub mod Chains
 pub mod Slots
 pub mod Refusals

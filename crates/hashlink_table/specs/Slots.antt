@@ -6,7 +6,7 @@ use Rattle.std.specs.Simd.Lanes.{chunk}
 use Rattle.hashlink_table.specs.declared.{hashed.Hashed.Hashed, store.cell.Cell.Cell, store.slots.Rest.Rest}
 use Rattle.hashlink_table.specs.{declared.store.cell.TheConstants.END, Chains.own_of}
 use Rattle.hashlink_table.specs.declared.store.{head.Head.Head, mark.Mark.Mark}
-use Rattle.hashlink_table.specs.Blocks.{Block, free_mark, heads_in, is_guest, is_taken, marks_in}
+use Rattle.hashlink_table.specs.Records.{Record, free_mark, heads_in, is_guest, is_taken, marks_in}
 use Rattle.hashlink_table.specs.Stored.{bare_cell, no_guests, tag_of}
 
 -- the slots as contracts see them: the cells, and the chains of the groups' guests
@@ -46,7 +46,7 @@ module _ {N : Type 0} where
   cells_in ms ns rs =
       map (λ p. slot (record { mark = p.0; node = p.1.0; rest = p.1.1 })) (zip ms (zip ns rs))
 
-  abbrev pub grid_in : List Block → List N → List Rest → Grid N
+  abbrev pub grid_in : List Record → List N → List Rest → Grid N
   grid_in bs ns rs = record { cells = cells_in (marks_in bs) ns rs; heads = heads_in bs }
 
   -- the lists are the parts of one list of rows, one for each slot
@@ -58,7 +58,7 @@ module _ {N : Type 0} where
     pub stored : All IsStored rows
 
   -- the same, and each group has sixteen slots
-  pub record AreSlots (bs : List Block) (ns : List N) (rs : List Rest) : Type 0 where
+  pub record AreSlots (bs : List Record) (ns : List N) (rs : List Rest) : Type 0 where
     pub tagged : IsTagged (marks_in bs) ns rs
     pub even : All (λ b. length b.marks ≡ 16) bs
 
@@ -87,5 +87,5 @@ module _ {N : Type 0} where
   bare_grid n = record { cells = replicate n bare_cell; heads = replicate (n / 16) no_guests }
 
 -- a group without nodes
-abbrev pub empty_block : Block
-empty_block = record { marks = replicate 16 free_mark; head = no_guests }
+abbrev pub empty_record : Record
+empty_record = record { marks = replicate 16 free_mark; head = no_guests }

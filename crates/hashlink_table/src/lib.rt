@@ -14,8 +14,9 @@ mod table;
 
 pub use error::TryReserveError;
 pub use hashed::Hashed;
+pub use search::FoundNode;
 pub use steps::Steps;
-pub use table::{MAX_ROOM, Table};
+pub use table::{MAX_ROOM, NO_SLOT, Table};
 
 // A slot takes 8 bytes and a node, and a group 32 bytes.
 const _: () = prove!(std::mem::size_of::<store::slots::Rest>() == 8);

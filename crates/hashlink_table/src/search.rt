@@ -14,11 +14,11 @@ use super::store::lanes::LANES;
 use super::store::slots::Slots;
 use std::sync::ledger::Ledger;
 
-/// The result of a search: a node, and its slot.
+/// The result of a search: a node, and its slot. Later changes of the table may move the node.
 #[derive(Clone, Copy)]
 pub struct FoundNode<N> {
-    pub at: usize,
     pub node: N,
+    pub slot: usize,
 }
 
 // Searches are inlined into the lookups of the layers above, which are inlined into their callers.
@@ -41,7 +41,7 @@ fn seek_slots<N: Copy, F: Fn(N) -> bool, L: Ledger>(
     requires telling { (at : ℕ) (kept : Hashed N) → own_at slots.now.cells at ≡ Some kept
         → F.post is_match.now kept.node true → kept.hash ≡ hash }
     ensures found { IfSome result
-        (λ f. (own_at slots.now.cells f.at ≡ Some (record { hash = hash; node = f.node }))
+        (λ f. (own_at slots.now.cells f.slot ≡ Some (record { hash = hash; node = f.node }))
         × F.post is_match.now f.node true) }
     ensures none { IfNone result
         ((at : ℕ) (node : N) → base ≤ at → at < base + LANES
@@ -57,7 +57,7 @@ fn seek_slots<N: Copy, F: Fn(N) -> bool, L: Ledger>(
         at += skipped as usize;
         let node = slots.look(at, steps);
         if is_match(node) {
-            return Some(FoundNode { at, node });
+            return Some(FoundNode { node, slot: at });
         }
         at += 1;
         hits = (hits >> skipped) / 2;
@@ -128,7 +128,7 @@ pub fn seek<N: Copy, F: Fn(N) -> bool, L: Ledger>(
         → Contains (nodes_in slots.now.cells) (record { hash = h; node = node })
         → F.post is_match node true → h ≡ hash }
     ensures found { IfSome result
-        (λ f. (kept_at slots.now.cells f.at ≡ Some (record { hash = hash; node = f.node }))
+        (λ f. (kept_at slots.now.cells f.slot ≡ Some (record { hash = hash; node = f.node }))
         × F.post is_match f.node true) }
     ensures none { IfNone result ((node : N)
         → Contains (nodes_in slots.now.cells) (record { hash = hash; node = node })
@@ -148,6 +148,6 @@ pub fn seek<N: Copy, F: Fn(N) -> bool, L: Ledger>(
     let mut at = head.first as usize;
     match seek_guests(slots, &mut at, hash, is_match, steps) {
         None => None,
-        Some(node) => Some(FoundNode { at, node }),
+        Some(node) => Some(FoundNode { node, slot: at }),
     }
 }

@@ -7,7 +7,7 @@ ghost use Rattle.hashlink_table.specs.Contents.{Keeps};
 
 use crate::error::TryReserveError;
 use crate::hashed::Hashed;
-use crate::search;
+use crate::search::{self, FoundNode};
 use crate::steps::Steps;
 use crate::store::bucket::slots_for;
 use crate::store::lanes::LANES;
@@ -19,6 +19,9 @@ use std::sync::ledger::{Blank, Ledger};
 
 /// The greatest room that a table can be asked for.
 pub const MAX_ROOM: usize = 1 << 62;
+
+/// A slot that no table has.
+pub const NO_SLOT: usize = usize::MAX;
 
 // The greatest number of slots, so that the index of each fits into a link. A request for more fails as a
 // failed allocation does.
@@ -200,11 +203,51 @@ impl<N: Copy> Table<N> {
         match search::seek(&self.slots, hash, is_match, steps) {
             None => None,
             Some(found) => {
-                removal::take(&mut self.slots, found.at);
+                removal::take(&mut self.slots, found.slot);
                 self.len -= 1;
                 Some(found.node)
             }
         }
+    }
+
+    /// Does the same as `remove`, but looks first at `slot`, which may be any number. If a search found the
+    /// node there, and the node has not moved since, there is no second search.
+    #[inline(always)]
+    pub fn remove_at<F: Fn(N) -> bool>(&mut self, slot: usize, hash: u32, is_match: F) -> Option<N>
+        requires callable { (h : ℕ) (node : N) → Keeps self.old h node → F.pre is_match node }
+        requires telling { AcceptsOnly self.old hash (λ node. F.post is_match node true) }
+        ensures removed { IfSome result (λ node. IsPermutation self.old.nodes
+            (record { hash = hash; node = node } ∷ self.new.nodes)
+            × F.post is_match node true) }
+        ensures none { IfNone result
+            ((node : N) → Keeps self.old hash node → F.post is_match node false) }
+        ensures unchanged { IfNone result (self.new ≡ self.old) }
+        ensures room { self.new.room ≡ self.old.room }
+    {
+        if let Some(node) = self.slots.own_node(slot) {
+            if is_match(node) {
+                removal::take(&mut self.slots, slot);
+                self.len -= 1;
+                return Some(node);
+            }
+        }
+        self.remove_elsewhere(hash, is_match)
+    }
+
+    // `remove`, out of line.
+    #[inline(never)]
+    fn remove_elsewhere<F: Fn(N) -> bool>(&mut self, hash: u32, is_match: F) -> Option<N>
+        requires callable { CanAsk self.old hash (λ node. F.pre is_match node) }
+        requires telling { AcceptsOnly self.old hash (λ node. F.post is_match node true) }
+        ensures removed { IfSome result (λ node. IsPermutation self.old.nodes
+            (record { hash = hash; node = node } ∷ self.new.nodes)
+            × F.post is_match node true) }
+        ensures none { IfNone result
+            ((node : N) → Keeps self.old hash node → F.post is_match node false) }
+        ensures unchanged { IfNone result (self.new ≡ self.old) }
+        ensures room { self.new.room ≡ self.old.room }
+    {
+        self.remove(hash, is_match)
     }
 
     /// Returns a node of this hash that matches: the first at which it looks. It looks at the nodes of the
@@ -226,48 +269,67 @@ impl<N: Copy> Table<N> {
         ensures goes_on { steps.old ≤ steps.new }
         ensures cost { (m : ℕ) × AreBuckets self.now m × (steps.new ≤ steps.old + agreeing self.now hash m) }
     {
-        if self.len == 0 {
-            return None;
-        }
-        match search::seek(&self.slots, hash, is_match, steps) {
+        match self.locate(hash, is_match, steps) {
             None => None,
             Some(found) => Some(found.node),
         }
     }
 
-    /// `find` without a counter of the caller's.
+    // `find`, which returns the slot too.
     #[inline(always)]
-    pub fn look_up<F: Fn(N) -> bool>(&self, hash: u32, is_match: F) -> Option<N>
+    fn locate<F: Fn(N) -> bool, L: Ledger>(
+        &self,
+        hash: u32,
+        is_match: F,
+        steps: &mut Steps<L>,
+    ) -> Option<FoundNode<N>>
+        requires callable { CanAsk self.now hash (λ node. F.pre is_match node) }
+        requires telling { AcceptsOnly self.now hash (λ node. F.post is_match node true) }
+        ensures found { IfSome result (λ f. Keeps self.now hash f.node × F.post is_match f.node true) }
+        ensures none { IfNone result
+            ((node : N) → Keeps self.now hash node → F.post is_match node false) }
+        ensures goes_on { steps.old ≤ steps.new }
+        ensures cost { (m : ℕ) × AreBuckets self.now m × (steps.new ≤ steps.old + agreeing self.now hash m) }
+    {
+        if self.len == 0 {
+            return None;
+        }
+        search::seek(&self.slots, hash, is_match, steps)
+    }
+
+    /// Does the same as `find`, without a counter of the caller's, and returns the slot too.
+    #[inline(always)]
+    pub fn look_up<F: Fn(N) -> bool>(&self, hash: u32, is_match: F) -> Option<FoundNode<N>>
         requires callable { CanAsk self.now hash (λ node. F.pre is_match node) }
         requires telling { AcceptsOnly self.now hash (λ node. F.post is_match node true) }
         ensures found { IfSome result
-            (λ node. Keeps self.now hash node × F.post is_match node true) }
+            (λ f. Keeps self.now hash f.node × F.post is_match f.node true) }
         ensures none { IfNone result
             ((node : N) → Keeps self.now hash node → F.post is_match node false) }
     {
         self.find_from::<F, Brand>(hash, is_match, Blank::new(1))
     }
 
-    // `find`, with a counter of its own.
+    // `locate`, with a counter of its own.
     #[inline(always)]
     fn find_from<F: Fn(N) -> bool, L: Ledger>(
         &self,
         hash: u32,
         is_match: F,
         blank: Blank,
-    ) -> Option<N>
+    ) -> Option<FoundNode<N>>
         requires name { blank.name ≡ L.name }
         requires parts { blank.parts ≡ L.parts }
         requires some_part { 0 < blank.parts }
         requires callable { CanAsk self.now hash (λ node. F.pre is_match node) }
         requires telling { AcceptsOnly self.now hash (λ node. F.post is_match node true) }
         ensures found { IfSome result
-            (λ node. Keeps self.now hash node × F.post is_match node true) }
+            (λ f. Keeps self.now hash f.node × F.post is_match f.node true) }
         ensures none { IfNone result
             ((node : N) → Keeps self.now hash node → F.post is_match node false) }
     {
         let mut steps = Steps::<L>::new(blank);
-        self.find(hash, is_match, &mut steps)
+        self.locate(hash, is_match, &mut steps)
     }
 
     /// Removes every node, and keeps the room. It takes linear time in the number of slots.

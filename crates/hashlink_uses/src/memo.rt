@@ -1,7 +1,7 @@
 //! Memos. A type states that each of its entries is right. So a caller that locks a memo, and knows only what
 //! its type states, knows what the memo returns.
-ghost use Rattle.std.specs.Prelude.{◌≡◌, ◌≤◌, ◌<◌, ◌^◌, ◌*◌, ◌↔◌, All, Err, IfOk, IfSome, Ok, Some, nat_eq};
-ghost use Rattle.std.specs.Map.{lookup};
+ghost use Rattle.std.specs.Prelude.{◌≡◌, ◌≤◌, ◌<◌, ◌^◌, ◌*◌, ◌↔◌, All, Err, IfOk, IfSome, Ok, OnErr, Some};
+ghost use Rattle.std.specs.{Map.lookup, Prelude.nat_eq};
 ghost use Rattle.hashlink.specs.Cached.{entries_of, state_of};
 ghost use Rattle.hashlink_uses.specs.declared.memo.CubeError.TheVariants.{Memory, TooLarge};
 
@@ -81,6 +81,7 @@ impl Cubes {
         ensures memory { result ≡ Err Memory → (state_of self.old.cache).map.spare ≡ 0 }
         ensures remembered { IfOk result
             (λ cube. lookup (nat_eq number) (entries_of self.new.cache) ≡ Some cube) }
+        ensures unchanged { OnErr result (entries_of self.new.cache ≡ entries_of self.old.cache) }
     {
         let made = self
             .cache

@@ -1,6 +1,6 @@
 //! A cache of names, each with an address that is valid until a time.
 ghost use Rattle.std.specs.Prelude.{◌≡◌, ◌≤◌, [], ◌∷◌, ◌++◌, IfErr, IfOk, IsFalse, IsTrue, OnErr, OnOk};
-ghost use Rattle.std.specs.{Prelude.{String, filter, is_some, length, string_bytes}, Global.Global};
+ghost use Rattle.std.specs.{Prelude.{List, String, filter, is_some, length, string_bytes, ℕ}, Global.Global};
 ghost use Rattle.std.specs.String.{string_eq};
 ghost use Rattle.std.specs.{Option.option_and_then, Map.{lookup, remove_entry}};
 ghost use Rattle.hashlink.specs.{Cache.cache_put, Cached.{entries_of, state_of}, Texts.is_text};
@@ -42,7 +42,10 @@ pub fn address_of<S: BuildHasher>(
     name: &str,
     now: u64,
 ) -> Option<u32>
-    ensures { result ≡ option_and_then (address_at now) (lookup (is_text name.now) (entries_of names.old)) }
+    ensures address { result
+        ≡ option_and_then (address_at now) (lookup (is_text name.now) (entries_of names.old)) }
+    ensures kept { (text : List ℕ) → lookup (is_text text) (entries_of names.new)
+        ≡ lookup (is_text text) (entries_of names.old) }
 {
     let answer = names.get(name)?;
     if answer.expires <= now {

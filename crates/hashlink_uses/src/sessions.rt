@@ -1,7 +1,8 @@
 //! Sessions by the time of their last use. Those that were not used for long expire.
 ghost use Rattle.std.specs.Prelude.{◌≡◌, ◌≤◌, ◌++◌, ◌∷◌, [], ℕ, All, IsFalse, IsTrue, List, OnErr, OnOk};
 ghost use Rattle.std.specs.Prelude.{filter, is_some, length, nat_eq, nat_le};
-ghost use Rattle.std.specs.{List.Sorted.IsNonDecreasingBy, Map.{lookup, remove_entry}};
+ghost use Rattle.std.specs.{List.Sorted.IsNonDecreasingBy, Map.{keys_of, lookup, remove_entry}};
+ghost use Rattle.std.specs.Set.{remove_key};
 ghost use Rattle.hashlink.specs.Keyed.{entries_of};
 
 use hashlink::LinkedHashMap;
@@ -38,6 +39,8 @@ impl Sessions {
         requires { All (λ e. e.1 ≤ now) self.old }
         ensures opened { OnOk result
             (self.new ≡ remove_entry (nat_eq session) self.old ++ (session, now) ∷ []) }
+        ensures order { OnOk result
+            (keys_of self.new ≡ remove_key (nat_eq session) (keys_of self.old) ++ session ∷ []) }
         ensures unchanged { OnErr result (self.new ≡ self.old) }
     {
         let Ok(_) = self.last_uses.insert(session, now) else {

@@ -1,8 +1,8 @@
 //! Settings in the order in which they were first set, and other settings that override them.
 ghost use Rattle.std.specs.Prelude.{◌≡◌, ◌++◌, ◌∷◌, Bool, IfErr, IsOk, IsSome, List, OnErr, OnOk, true};
-ghost use Rattle.std.specs.{Cmp.IsEquivalence, Map.{keys_of, lookup}, Option.option_or, Set.is_member};
-ghost use Rattle.std.specs.String.{string_eq};
-ghost use Rattle.hashlink.specs.{Entries.{IsEntries, place_or_end, put}, Keyed.entries_of};
+ghost use Rattle.std.specs.{Cmp.IsEquivalence, Map.{keys_of, lookup, remove_entry}, Set.is_member};
+ghost use Rattle.std.specs.{Option.{option_map, option_or}, String.string_eq};
+ghost use Rattle.hashlink.specs.{Entries.{IsEntries, place_or_end, put}, Keyed.entries_of, Texts.is_text};
 ghost use Rattle.hashlink_uses.specs.{Appearances.first_appearances, Merged.merged};
 ghost use Rattle.hashlink_uses.specs.Sections.{StopsLaying, laid_over, settings_in};
 
@@ -75,9 +75,39 @@ pub fn lay_over(sections: &mut Sections, others: Sections) -> Result<(), AllocEr
     Ok(())
 }
 
+/// Sets a whole section. A present one keeps its place; a new one goes to the back. If memory runs out,
+/// nothing changes.
+pub fn set_section(
+    sections: &mut Sections,
+    name: String,
+    settings: LinkedHashMap<String, String>,
+) -> Result<(), AllocError>
+    ensures set { OnOk result (settings_in (entries_of sections.new)
+        ≡ put string_eq (settings_in (entries_of sections.old)) name (entries_of settings)
+        (place_or_end string_eq (settings_in (entries_of sections.old)) name)) }
+    ensures unchanged { OnErr result
+        (settings_in (entries_of sections.new) ≡ settings_in (entries_of sections.old)) }
+    ensures distinct { IsEntries string_eq (settings_in (entries_of sections.new)) }
+{
+    let Ok(_) = sections.replace(name, settings) else {
+        return Err(AllocError);
+    };
+    Ok(())
+}
+
+/// Removes a section, and returns its settings.
+pub fn remove_section(sections: &mut Sections, name: &str) -> Option<LinkedHashMap<String, String>>
+    ensures found { option_map entries_of result
+        ≡ lookup (is_text name.now) (settings_in (entries_of sections.old)) }
+    ensures left { settings_in (entries_of sections.new)
+        ≡ remove_entry (is_text name.now) (settings_in (entries_of sections.old)) }
+{
+    sections.remove(name)
+}
+
 /// After a merge each key has the other value if there is one, and else its own. The present keys keep their
-/// order, and the new keys follow in the order of the others. No key is lost. The function has an empty body:
-/// its contract is the theorem.
+/// order, and the new keys follow in the order of the others. No key is lost or doubled. The function has an
+/// empty body: its contract is the theorem.
 pub fn what_a_merge_leaves<K, V>()
     ensures wins { (eq : K → K → Bool) → IsEquivalence eq → (key : K) (es others : List (K × V))
         → IsEntries eq es → IsEntries eq others
@@ -86,4 +116,6 @@ pub fn what_a_merge_leaves<K, V>()
         ≡ keys_of es ++ first_appearances eq (keys_of es) (keys_of others) }
     ensures kept { (eq : K → K → Bool) (key : K) (es others : List (K × V))
         → is_member eq (keys_of es) key ≡ true → is_member eq (keys_of (merged eq es others)) key ≡ true }
+    ensures distinct { (eq : K → K → Bool) → IsEquivalence eq → (es others : List (K × V))
+        → IsEntries eq es → IsEntries eq (merged eq es others) }
 {}

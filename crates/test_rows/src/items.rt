@@ -12,7 +12,9 @@ mod steps;
 mod walk;
 mod words;
 
-pub use answers::{Answer, Answers, Name, Named, Pair, Stop, Tally, Word, are_written, number};
+pub use answers::{
+    Answer, Answers, Name, Named, Pair, Stop, Tally, Word, are_written, find, number,
+};
 pub use counts::{Counts, add};
 pub use entry_call::{Add, Ask, EntryCall, Make, Put, Vacant};
 pub use items::{Home, Item};

@@ -8,6 +8,25 @@
 //! the reference model.
 #![tactic(auto)]
 
+/// A `match` on a word, for at most twenty texts. The word is looked up first, since in a `match` on texts a
+/// proof goes through several states for each text, each with all variables.
+macro_rules! match_word {
+    (@($word:expr, $other:expr) $left:tt ($(($n:literal, $text:literal, $then:expr))*)) => {
+        match $crate::items::find(&[$(($text, $n)),*], $word) {
+            $(Some($n) => $then,)*
+            _ => $other,
+        }
+    };
+    (@$ends:tt ($n:literal $($left:literal)*) ($($done:tt)*) ($text:literal, $then:expr) $($more:tt)*) => {
+        match_word!(@$ends ($($left)*) ($($done)* ($n, $text, $then)) $($more)*)
+    };
+    ($word:expr, $($($text:literal)|+ => $then:expr,)* _ => $other:expr $(,)?) => {
+        match_word!(
+            @($word, $other) (0 1 2 3 4 5 6 7 8 9 10 11 12 13 14 15 16 17 18 19) () $($(($text, $then))+)*
+        )
+    };
+}
+
 mod calls;
 mod copied;
 mod hashers;

@@ -40,7 +40,7 @@ fn run_under_all<'f>(row: Row<'f>, line: &mut Line<'f>) -> Result<(), Stop> {
         return run_under(row, hashing, line);
     }
     let words = line.words;
-    match line.words.word() {
+    match_word!(line.words.word(),
         "pair_commands" => run_on_pair(row, line),
         "uses" => run_as_uses(row, line),
         "text" => run_as_text(row, line),
@@ -50,14 +50,14 @@ fn run_under_all<'f>(row: Row<'f>, line: &mut Line<'f>) -> Result<(), Stop> {
                 run_under(row, hashing, line)?;
             }
             Ok(())
-        }
-    }
+        },
+    )
 }
 
 /// Runs the row under one hasher. The words name the container.
 fn run_under<'f>(row: Row<'f>, hashing: Hashing, line: &mut Line<'f>) -> Result<(), Stop> {
     begin(row, hashing, line);
-    match line.words.word() {
+    match_word!(line.words.word(),
         "map" => speak::<Map>(row, line),
         "set" => speak::<Set>(row, line),
         "cache" => speak::<Cache>(row, line),
@@ -68,7 +68,7 @@ fn run_under<'f>(row: Row<'f>, hashing: Hashing, line: &mut Line<'f>) -> Result<
         "commands" => run_list::<LinkedHashMap<u64, u64, Hashing>>(row, line),
         "cache_commands" => run_list::<LruCache<u64, u64, Hashing>>(row, line),
         _ => Err(Stop::Unread),
-    }
+    )
 }
 
 /// Prints the row and the hasher to which the following output belongs.

@@ -73,9 +73,10 @@ impl<K: Eq + Hash, V, S: BuildHasher> KeyedList<K, V, S> {
     }
 
     /// Removes the node's entry and returns it. The node is then free. It does not allocate, and stores three
-    /// links.
+    /// links. `slot` may be any number, such as `NO_SLOT`. If a search found the node at this slot, the table
+    /// need not search again.
     #[inline]
-    pub fn remove(&mut self, node: Node) -> (K, V)
+    pub fn remove(&mut self, node: Node, slot: usize) -> (K, V)
         requires { Holds self.old.nodes node }
         ensures pair { slice_get (entries_of self.old) (place_number self.old.nodes (Some node))
             ≡ Some result }
@@ -91,7 +92,7 @@ impl<K: Eq + Hash, V, S: BuildHasher> KeyedList<K, V, S> {
             requires { Holds nodes.now.entries other ⊎ Contains nodes.now.free other }
             ensures { not (is_some (lookup (same_node other) nodes.entry.now.entries)) ≡ result }
         { !nodes.has_entry(other) };
-        self.table.remove(number as u32, is_free);
+        self.table.remove_at(slot, number as u32, is_free);
         pair
     }
 

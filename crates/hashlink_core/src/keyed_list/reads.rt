@@ -12,6 +12,7 @@ use super::{KeyedList, short_hash};
 use crate::equivalent::Equivalent;
 use crate::iter::{Iter, Keys, Values};
 use hashlink_nodes::Node;
+use hashlink_table::FoundNode;
 use std::hash::{BuildHasher, Hash};
 
 // A lookup is inlined wherever it is called, down to the table's loop. As a call it would return its result
@@ -26,14 +27,14 @@ impl<K: Eq + Hash, V, S: BuildHasher> KeyedList<K, V, S> {
         self.hash_builder.hash_one(key)
     }
 
-    /// Returns the node whose key the query matches. `hash` has to be the query's hash. The table compares
-    /// only nodes of one bucket.
+    /// Returns the node whose key the query matches, and its slot in the table. `hash` has to be the query's
+    /// hash. The table compares only nodes of one bucket.
     #[inline(always)]
-    pub fn find<Q: Equivalent<K>>(&self, hash: u64, key: Q) -> Option<Node>
+    pub fn find<Q: Equivalent<K>>(&self, hash: u64, key: Q) -> Option<FoundNode<Node>>
         requires { hash ≡ hash_with S.build_hasher S.Hasher.write S.Hasher.finish Q.hash_input
             self.now.hasher key }
         ensures found { MatchOption result (place_of (Q.matches key) (entries_of self.now) ≡ None)
-            (HoldsMatch (Q.matches key) self.now.nodes) }
+            (λ f. HoldsMatch (Q.matches key) self.now.nodes f.node) }
         ensures sound { IsKeyed K.eq self.now }
     {
         let nodes = &self.nodes;
@@ -45,11 +46,11 @@ impl<K: Eq + Hash, V, S: BuildHasher> KeyedList<K, V, S> {
         self.table.look_up(short_hash(hash), holds_match)
     }
 
-    /// Returns the node whose key is equal to a certain key, which need not be given. `hash` has to be this
-    /// key's hash. `is_match` has to return, for each key in the list, whether it is equal to it. The table
-    /// asks about nodes of one bucket only.
+    /// Returns the node whose key is equal to a certain key, which need not be given, and its slot. `hash`
+    /// has to be this key's hash. `is_match` has to return, for each key in the list, whether it is equal to
+    /// it. The table asks about nodes of one bucket only.
     #[inline(always)]
-    pub fn find_with<F: Fn(&K) -> bool>(&self, hash: u64, is_match: F) -> Option<Node>
+    pub fn find_with<F: Fn(&K) -> bool>(&self, hash: u64, is_match: F) -> Option<FoundNode<Node>>
         requires { (k : K) × Tells F.Fn K.eq
             (hash_with S.build_hasher S.Hasher.write S.Hasher.finish K.hash_input self.now.hasher)
             (keys_of (entries_of self.now)) is_match hash k }
@@ -57,7 +58,7 @@ impl<K: Eq + Hash, V, S: BuildHasher> KeyedList<K, V, S> {
             (hash_with S.build_hasher S.Hasher.write S.Hasher.finish K.hash_input self.now.hasher)
             (keys_of (entries_of self.now)) is_match hash k
             → MatchOption result (place_of (K.eq k) (entries_of self.now) ≡ None)
-            (HoldsKey K.eq self.now.nodes k) }
+            (λ f. HoldsKey K.eq self.now.nodes k f.node) }
         ensures sound { IsKeyed K.eq self.now }
     {
         let nodes = &self.nodes;

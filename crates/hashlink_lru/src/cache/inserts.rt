@@ -22,7 +22,7 @@ impl<K: Eq + Hash, V, S: BuildHasher> LruCache<K, V, S> {
     /// or, at capacity 0, `get_or_insert_with` or `get_or_try_insert_with` have exceeded the capacity. It
     /// stores at most six links if the key is present, four if it is absent, and three for each entry that it
     /// evicts.
-    #[inline]
+    #[inline(always)]
     pub fn insert(&mut self, key: K, value: V) -> Result<Option<V>, (K, V)>
     where
         K: Drop,

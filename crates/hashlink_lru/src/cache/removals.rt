@@ -85,6 +85,7 @@ impl<K: Eq + Hash, V, S: BuildHasher> LruCache<K, V, S> {
     }
 
     /// Evicts entries from the front until there are at most `count`.
+    #[inline]
     pub(super) fn keep_last(&mut self, count: usize)
     where
         K: Drop,

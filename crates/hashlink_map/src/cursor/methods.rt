@@ -7,7 +7,7 @@ ghost use Rattle.hashlink_core.specs.{Keyed.entries_of, Places.{Holds, IsPlace, 
 
 use super::CursorMut;
 use crate::raw_entry::RawOccupiedEntryMut;
-use hashlink_core::Node;
+use hashlink_core::{NO_SLOT, Node};
 use std::hash::{BuildHasher, Hash};
 
 impl<'a, K: Eq + Hash, V, S: BuildHasher> CursorMut<'a, K, V, S> {
@@ -160,7 +160,11 @@ impl<'a, K: Eq + Hash, V, S: BuildHasher> CursorMut<'a, K, V, S> {
     {
         let CursorMut { map, place } = self;
         match place {
-            Some(node) => Ok(RawOccupiedEntryMut { map, node }),
+            Some(node) => Ok(RawOccupiedEntryMut {
+                map,
+                node,
+                slot: NO_SLOT,
+            }),
             None => Err(CursorMut { map, place: None }),
         }
     }
@@ -179,7 +183,11 @@ impl<'a, K: Eq + Hash, V, S: BuildHasher> CursorMut<'a, K, V, S> {
     {
         let CursorMut { map, place } = self;
         let node = place?;
-        Some(RawOccupiedEntryMut { map, node })
+        Some(RawOccupiedEntryMut {
+            map,
+            node,
+            slot: NO_SLOT,
+        })
     }
 
     /// Returns the entry at the cursor, or `None` at the guard. It takes constant time and hashes nothing.
@@ -222,6 +230,7 @@ impl<'a, K: Eq + Hash, V, S: BuildHasher> CursorMut<'a, K, V, S> {
     /// It allocates only if the key is absent and no node is free. A full table then grows first, in linear
     /// time in the new capacity. If an allocation fails, it returns the pair in `Err` and changes no entry;
     /// the room may have grown.
+    #[inline(always)]
     pub fn insert_before(&mut self, key: K, value: V) -> Result<Option<V>, (K, V)>
     where
         K: Drop,
@@ -238,6 +247,7 @@ impl<'a, K: Eq + Hash, V, S: BuildHasher> CursorMut<'a, K, V, S> {
     /// Inserts the pair directly after the cursor, as `insert_before` does before it, and at the same cost.
     /// At the guard, the pair goes to the front. If an allocation fails, it returns the pair in `Err` and
     /// changes no entry; the room may have grown.
+    #[inline(always)]
     pub fn insert_after(&mut self, key: K, value: V) -> Result<Option<V>, (K, V)>
     where
         K: Drop,

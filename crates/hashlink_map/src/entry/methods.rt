@@ -26,9 +26,10 @@ impl<K: Eq + Hash, V, S: BuildHasher> LinkedHashMap<K, V, S> {
     {
         let hash = self.list.hash_of(&key);
         match self.list.find(hash, &key) {
-            Some(node) => Entry::Occupied(OccupiedEntry {
+            Some(found) => Entry::Occupied(OccupiedEntry {
                 map: self,
-                node,
+                node: found.node,
+                slot: found.slot,
                 key,
             }),
             None => Entry::Vacant(VacantEntry {

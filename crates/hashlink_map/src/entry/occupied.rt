@@ -26,6 +26,8 @@ pub struct OccupiedEntry<
 > {
     pub(crate) map: &'a mut LinkedHashMap<K, V, S>,
     pub(crate) node: N,
+    // Where the search found the node in the table: a hint for a removal.
+    pub(crate) slot: usize,
     pub(crate) key: K,
     ghost stands: { HoldsKey K.eq map.now.nodes key (N.node node) },
 }
@@ -73,7 +75,12 @@ impl<'a, K: Eq + Hash, V, S: BuildHasher> OccupiedEntry<'a, K, V, S> {
             ≡ Some result.now }
         ensures written { (w : V) → IsWritten self.entry w (occupied_with self.entry w) }
     {
-        let OccupiedEntry { map, node, key: _ } = self;
+        let OccupiedEntry {
+            map,
+            node,
+            slot: _,
+            key: _,
+        } = self;
         map.value_at_mut(node)
     }
 
@@ -90,7 +97,12 @@ impl<'a, K: Eq + Hash, V, S: BuildHasher> OccupiedEntry<'a, K, V, S> {
         ensures updates { IfOk result (λ _. UpdatesLast K.eq (occupied_state self.entry).map.entries
             (occupied_state self.entry).key) }
     {
-        let OccupiedEntry { map, node, key: _ } = self;
+        let OccupiedEntry {
+            map,
+            node,
+            slot: _,
+            key: _,
+        } = self;
         map.move_to_back(node);
         Ok(map.value_at_mut(node))
     }
@@ -189,6 +201,7 @@ impl<'a, K: Eq + Hash, V, S: BuildHasher> OccupiedEntry<'a, K, V, S> {
         let OccupiedEntry {
             map: _,
             node: _,
+            slot: _,
             key,
         } = self;
         key
@@ -202,7 +215,12 @@ impl<'a, K: Eq + Hash, V, S: BuildHasher> OccupiedEntry<'a, K, V, S> {
         ensures unchanged { (cursor_map result).now ≡ (occupied_map self.entry).now }
         ensures stands { (cursor_state result).place ≡ occupied_place self.entry }
     {
-        let OccupiedEntry { map, node, key: _ } = self;
+        let OccupiedEntry {
+            map,
+            node,
+            slot: _,
+            key: _,
+        } = self;
         CursorMut {
             map,
             place: Some(node),
@@ -217,8 +235,13 @@ impl<'a, K: Eq + Hash, V, S: BuildHasher> OccupiedEntry<'a, K, V, S> {
         ensures unchanged { (raw_occupied_map result).now ≡ (occupied_map self.entry).now }
         ensures stands { raw_place result ≡ occupied_place self.entry }
     {
-        let OccupiedEntry { map, node, key: _ } = self;
-        RawOccupiedEntryMut { map, node }
+        let OccupiedEntry {
+            map,
+            node,
+            slot,
+            key: _,
+        } = self;
+        RawOccupiedEntryMut { map, node, slot }
     }
 
     /// Removes the entry and returns its value. The given key and the stored key are dropped. It stores at
@@ -235,7 +258,8 @@ impl<'a, K: Eq + Hash, V, S: BuildHasher> OccupiedEntry<'a, K, V, S> {
             (entries_of self.exit.0.now) (occupied_state self.entry).key None }
     {
         let node = self.node;
-        let (_, value) = self.map.take_at(node);
+        let slot = self.slot;
+        let (_, value) = self.map.take_at(node, slot);
         value
     }
 
@@ -251,6 +275,7 @@ impl<'a, K: Eq + Hash, V, S: BuildHasher> OccupiedEntry<'a, K, V, S> {
             (entries_of self.exit.0.now) (occupied_state self.entry).key None }
     {
         let node = self.node;
-        self.map.take_at(node)
+        let slot = self.slot;
+        self.map.take_at(node, slot)
     }
 }

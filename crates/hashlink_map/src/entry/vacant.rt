@@ -6,7 +6,7 @@ ghost use Rattle.hashlink_core.specs.{Keyed.{entries_of, state_of}, Tied.hash_wi
 use crate::map::LinkedHashMap;
 use crate::raw_entry::{RawOccupiedEntryMut, RawVacantEntryMut};
 use crate::try_insert_error::TryInsertError;
-use hashlink_core::DefaultHashBuilder;
+use hashlink_core::{DefaultHashBuilder, NO_SLOT};
 use std::hash::{BuildHasher, Hash};
 
 /// A vacant entry. It holds the given key, which is absent from the map.
@@ -116,7 +116,11 @@ impl<'a, K: Eq + Hash, V, S: BuildHasher> VacantEntry<'a, K, V, S> {
     {
         let VacantEntry { map, hash, key } = self;
         let node = map.push_back(hash, key, value)?;
-        Ok(RawOccupiedEntryMut { map, node })
+        Ok(RawOccupiedEntryMut {
+            map,
+            node,
+            slot: NO_SLOT,
+        })
     }
 
     /// Returns the raw entry at this place. The given key is dropped. It takes constant time.

@@ -35,10 +35,11 @@ impl<K: Eq + Hash, V, S: BuildHasher> LinkedHashMap<K, V, S> {
         ensures distinct { IsEntries K.eq (entries_of self.new) }
     {
         let hash = self.list.hash_of(&key);
-        let Some(node) = self.list.find(hash, &key) else {
+        let Some(found) = self.list.find(hash, &key) else {
             self.list.insert_before(place, hash, key, value)?;
             return Ok(None);
         };
+        let node = found.node;
         let old = self.list.replace_value(node, value);
         if self.list.is_at(node, place) {
             return Ok(Some(old));
@@ -118,8 +119,8 @@ impl<K: Eq + Hash, V, S: BuildHasher> LinkedHashMap<K, V, S> {
         ensures distinct { IsEntries K.eq (entries_of self.new) }
     {
         let hash = self.list.hash_of(&key);
-        if let Some(node) = self.list.find(hash, &key) {
-            return Ok(Some(self.list.replace_value(node, value)));
+        if let Some(found) = self.list.find(hash, &key) {
+            return Ok(Some(self.list.replace_value(found.node, value)));
         }
         self.list.insert_before(None, hash, key, value)?;
         Ok(None)
@@ -153,9 +154,9 @@ impl<K: Eq + Hash, V, S: BuildHasher> LinkedHashMap<K, V, S> {
     {
         let hash = self.list.hash_of(&key);
         match self.list.find(hash, &key) {
-            Some(node) => {
-                self.move_to_back(node);
-                Ok(self.value_at_mut(node))
+            Some(found) => {
+                self.move_to_back(found.node);
+                Ok(self.value_at_mut(found.node))
             }
             None => {
                 let node = self.push_back(hash, key, make())?;

@@ -20,7 +20,8 @@ impl<K: Eq + Hash, V, S: BuildHasher> LinkedHashMap<K, V, S> {
             (HoldsMatch (Q.matches key) self.now.nodes) }
         ensures distinct { IsEntries K.eq (entries_of self.now) }
     {
-        self.list.find(self.list.hash_of(key), key)
+        let found = self.list.find(self.list.hash_of(key), key)?;
+        Some(found.node)
     }
 
     /// Returns a reference to the value of the key, or `None` if it is absent. The order does not change. It

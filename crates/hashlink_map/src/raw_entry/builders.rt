@@ -8,7 +8,7 @@ ghost use Rattle.hashlink_map.specs.{RawEntry.{raw_occupied_map, raw_place}, Raw
 
 use super::{RawEntryMut, RawOccupiedEntryMut, RawVacantEntryMut};
 use crate::map::LinkedHashMap;
-use hashlink_core::{DefaultHashBuilder, Equivalent};
+use hashlink_core::{DefaultHashBuilder, Equivalent, NO_SLOT};
 use std::hash::{BuildHasher, Hash};
 
 /// A builder that finds entries to read.
@@ -53,7 +53,11 @@ impl<K: Eq + Hash, V, S: BuildHasher> LinkedHashMap<K, V, S> {
         ensures none { IfNone result (entries_of self.old ≡ []) }
     {
         let node = self.list.front()?;
-        Some(RawOccupiedEntryMut { map: self, node })
+        Some(RawOccupiedEntryMut {
+            map: self,
+            node,
+            slot: NO_SLOT,
+        })
     }
 
     /// Returns the entry at the back, or `None` if the map is empty. It takes constant time and hashes
@@ -66,7 +70,11 @@ impl<K: Eq + Hash, V, S: BuildHasher> LinkedHashMap<K, V, S> {
         ensures none { IfNone result (entries_of self.old ≡ []) }
     {
         let node = self.list.back()?;
-        Some(RawOccupiedEntryMut { map: self, node })
+        Some(RawOccupiedEntryMut {
+            map: self,
+            node,
+            slot: NO_SLOT,
+        })
     }
 }
 
@@ -94,8 +102,8 @@ impl<'a, K: Eq + Hash, V, S: BuildHasher> RawEntryBuilder<'a, K, V, S> {
             (entries_of (read_map self.entry)) }
     {
         let map = self.map;
-        let node = map.list.find(hash, key)?;
-        Some(map.pair_at(node))
+        let found = map.list.find(hash, key)?;
+        Some(map.pair_at(found.node))
     }
 
     /// Returns the stored pair whose key has this hash and passes the test `is_match`, or `None` if there is
@@ -114,8 +122,8 @@ impl<'a, K: Eq + Hash, V, S: BuildHasher> RawEntryBuilder<'a, K, V, S> {
             → option_map deref_pair result ≡ lookup_entry (K.eq k) (entries_of (read_map self.entry)) }
     {
         let map = self.map;
-        let node = map.list.find_with(hash, is_match)?;
-        Some(map.pair_at(node))
+        let found = map.list.find_with(hash, is_match)?;
+        Some(map.pair_at(found.node))
     }
 }
 
@@ -156,7 +164,11 @@ impl<K: Eq + Hash, V, S: BuildHasher> LinkedHashMap<K, V, S> {
         ensures distinct { IsEntries K.eq (entries_of self.old) }
     {
         match self.list.find(hash, key) {
-            Some(node) => RawEntryMut::Occupied(RawOccupiedEntryMut { map: self, node }),
+            Some(found) => RawEntryMut::Occupied(RawOccupiedEntryMut {
+                map: self,
+                node: found.node,
+                slot: found.slot,
+            }),
             None => RawEntryMut::Vacant(RawVacantEntryMut { map: self }),
         }
     }
@@ -193,7 +205,11 @@ impl<K: Eq + Hash, V, S: BuildHasher> LinkedHashMap<K, V, S> {
         ensures distinct { IsEntries K.eq (entries_of self.old) }
     {
         match self.list.find_with(hash, is_match) {
-            Some(node) => RawEntryMut::Occupied(RawOccupiedEntryMut { map: self, node }),
+            Some(found) => RawEntryMut::Occupied(RawOccupiedEntryMut {
+                map: self,
+                node: found.node,
+                slot: found.slot,
+            }),
             None => RawEntryMut::Vacant(RawVacantEntryMut { map: self }),
         }
     }

@@ -31,9 +31,9 @@ impl<'a, K: Eq + Hash, V, S: BuildHasher> RawEntryMut<'a, K, V, S> {
     {
         match self {
             RawEntryMut::Occupied(entry) => {
-                let RawOccupiedEntryMut { map, node } = entry;
+                let RawOccupiedEntryMut { map, node, slot } = entry;
                 map.move_to_back(node);
-                Ok(RawOccupiedEntryMut { map, node })
+                Ok(RawOccupiedEntryMut { map, node, slot })
             }
             RawEntryMut::Vacant(entry) => entry.insert_entry(default_key, default_value),
         }
@@ -82,9 +82,9 @@ impl<'a, K: Eq + Hash, V, S: BuildHasher> RawEntryMut<'a, K, V, S> {
     {
         match self {
             RawEntryMut::Occupied(entry) => {
-                let RawOccupiedEntryMut { map, node } = entry;
+                let RawOccupiedEntryMut { map, node, slot } = entry;
                 map.move_to_back(node);
-                Ok(RawOccupiedEntryMut { map, node })
+                Ok(RawOccupiedEntryMut { map, node, slot })
             }
             RawEntryMut::Vacant(entry) => {
                 let (key, value) = default();

@@ -22,6 +22,8 @@ pub struct RawOccupiedEntryMut<
 > {
     pub(crate) map: &'a mut LinkedHashMap<K, V, S>,
     pub(crate) node: N,
+    // Where a search found the node in the table, or any number: a hint for a removal.
+    pub(crate) slot: usize,
     ghost stands: { Holds map.now.nodes (N.node node) },
 }
 
@@ -85,7 +87,7 @@ impl<'a, K: Eq + Hash, V, S: BuildHasher> RawOccupiedEntryMut<'a, K, V, S> {
             ≡ Some result.now }
         ensures written { (w : V) → RawIsWritten self.entry w (raw_with self.entry w) }
     {
-        let RawOccupiedEntryMut { map, node } = self;
+        let RawOccupiedEntryMut { map, node, slot: _ } = self;
         map.value_at_mut(node)
     }
 
@@ -95,7 +97,7 @@ impl<'a, K: Eq + Hash, V, S: BuildHasher> RawOccupiedEntryMut<'a, K, V, S> {
         ensures key { key_at (raw_occupied_state self.entry).map.entries (raw_place self.entry)
             ≡ Some result.now }
     {
-        let RawOccupiedEntryMut { map, node } = self;
+        let RawOccupiedEntryMut { map, node, slot: _ } = self;
         map.key_for_good(node)
     }
 
@@ -107,7 +109,7 @@ impl<'a, K: Eq + Hash, V, S: BuildHasher> RawOccupiedEntryMut<'a, K, V, S> {
         ensures pair { slice_get (raw_occupied_state self.entry).map.entries (raw_place self.entry)
             ≡ Some (result.0.now, result.1.now) }
     {
-        let RawOccupiedEntryMut { map, node } = self;
+        let RawOccupiedEntryMut { map, node, slot: _ } = self;
         map.pair_at_mut(node)
     }
 
@@ -117,7 +119,7 @@ impl<'a, K: Eq + Hash, V, S: BuildHasher> RawOccupiedEntryMut<'a, K, V, S> {
         ensures unchanged { (cursor_map result).now ≡ (raw_occupied_map self.entry).now }
         ensures stands { (cursor_state result).place ≡ raw_place self.entry }
     {
-        let RawOccupiedEntryMut { map, node } = self;
+        let RawOccupiedEntryMut { map, node, slot: _ } = self;
         CursorMut {
             map,
             place: Some(node),
@@ -210,7 +212,8 @@ impl<'a, K: Eq + Hash, V, S: BuildHasher, N: AsNode> RawOccupiedEntryMut<'a, K, 
             (entries_of self.exit.0.now) (raw_place self.entry) None }
     {
         let node = self.node;
-        let (_, value) = self.map.take_at(node);
+        let slot = self.slot;
+        let (_, value) = self.map.take_at(node, slot);
         value
     }
 
@@ -223,6 +226,7 @@ impl<'a, K: Eq + Hash, V, S: BuildHasher, N: AsNode> RawOccupiedEntryMut<'a, K, 
             (entries_of self.exit.0.now) (raw_place self.entry) None }
     {
         let node = self.node;
-        self.map.take_at(node)
+        let slot = self.slot;
+        self.map.take_at(node, slot)
     }
 }

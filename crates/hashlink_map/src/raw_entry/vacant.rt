@@ -5,7 +5,7 @@ ghost use Rattle.hashlink_core.specs.{Keyed.{state_of, entries_of}, Tied.hash_wi
 
 use super::RawOccupiedEntryMut;
 use crate::map::LinkedHashMap;
-use hashlink_core::DefaultHashBuilder;
+use hashlink_core::{DefaultHashBuilder, NO_SLOT};
 use std::hash::{BuildHasher, Hash};
 
 /// A vacant raw entry: a pair whose key is absent can be inserted here.
@@ -104,7 +104,11 @@ impl<'a, K: Eq + Hash, V, S: BuildHasher> RawVacantEntryMut<'a, K, V, S> {
         let RawVacantEntryMut { map } = self;
         let hash = map.list.hash_of(&key);
         let node = map.push_back(hash, key, value)?;
-        Ok(RawOccupiedEntryMut { map, node })
+        Ok(RawOccupiedEntryMut {
+            map,
+            node,
+            slot: NO_SLOT,
+        })
     }
 
     /// Inserts the pair at the back, and returns its entry. The key has to be absent, and `hash` has to be
@@ -135,7 +139,11 @@ impl<'a, K: Eq + Hash, V, S: BuildHasher> RawVacantEntryMut<'a, K, V, S> {
     {
         let RawVacantEntryMut { map } = self;
         let node = map.push_back(hash, key, value)?;
-        Ok(RawOccupiedEntryMut { map, node })
+        Ok(RawOccupiedEntryMut {
+            map,
+            node,
+            slot: NO_SLOT,
+        })
     }
 
     /// Does the same as `insert_entry_hashed_nocheck`. For the new key and every key of the map, `hasher` has

@@ -9,7 +9,7 @@ ghost use Rattle.hashlink_core.specs.Keyed.{state_of};
 ghost use Rattle.hashlink_set.specs.Made.{CanMakeAbsent, GetsOrMakes};
 
 use super::LinkedHashSet;
-use hashlink_map::{Entry, LinkedHashMap};
+use hashlink_map::{Entry, LinkedHashMap, RawEntryMut};
 use std::hash::{BuildHasher, Hash};
 
 impl<T: Eq + Hash, S: BuildHasher> LinkedHashSet<T, S> {
@@ -142,8 +142,10 @@ impl<T: Eq + Hash, S: BuildHasher> LinkedHashSet<T, S> {
         ensures makes { MakesElement T.eq (FnOnceReturnsAt F.FnOnce f value.now) self.old
             result.0.now value.now result.1 }
     {
-        let refused = self.move_or_make(value, f).err();
-        (self, refused)
+        match move_or_make(&mut self.map, value, f) {
+            Ok(()) => (self, None),
+            Err((made, ())) => (self, Some(made)),
+        }
     }
 
     /// Returns `refused` in `Err` if there is one, and otherwise `lent`.
@@ -160,37 +162,31 @@ impl<T: Eq + Hash, S: BuildHasher> LinkedHashSet<T, S> {
             Some(value) => Err(value),
         }
     }
+}
 
-    /// Does the same as `get_or_insert_with`, and returns no reference.
-    #[inline(always)]
-    fn move_or_make<F: FnOnce(&T) -> T>(&mut self, value: &T, f: F) -> Result<(), T>
-    where
-        T: Drop,
-        F: Drop,
-        requires { CanMakeAbsent T.eq F.FnOnce f self.old value.now }
-        ensures moved { OnOk result ((x : T) × (last_of (elements_of self.new) ≡ Some x)
-            × GetsOrMakes T.eq (FnOnceReturnsAt F.FnOnce f value.now) self.old self.new value.now (Ok x)) }
-        ensures refused { IfErr result (λ x. GetsOrMakes T.eq (FnOnceReturnsAt F.FnOnce f value.now) self.old
-            self.new value.now (Err x)) }
-    {
-        if self.to_back(value) {
-            return Ok(());
+/// Does the same as `get_or_insert_with`, on the map, and returns no reference. It searches once.
+#[inline(always)]
+fn move_or_make<T: Eq + Hash + Drop, S: BuildHasher, F: FnOnce(&T) -> T + Drop>(
+    map: &mut LinkedHashMap<T, (), S>,
+    value: &T,
+    f: F,
+) -> Result<(), (T, ())>
+    requires { CanMakeAbsent T.eq F.FnOnce f (state_of map.old) value.now }
+    ensures moved { OnOk result ((x : T) × (last_of (elements_of (state_of map.new)) ≡ Some x)
+        × GetsOrMakes T.eq (FnOnceReturnsAt F.FnOnce f value.now) (state_of map.old) (state_of map.new)
+        value.now (Ok x)) }
+    ensures refused { IfErr result (λ pair. GetsOrMakes T.eq (FnOnceReturnsAt F.FnOnce f value.now)
+        (state_of map.old) (state_of map.new) value.now (Err pair.0)) }
+{
+    match map.raw_entry_of(value) {
+        RawEntryMut::Occupied(mut entry) => {
+            entry.to_back();
+            Ok(())
         }
-        match self.insert_made(f(value)) {
-            Ok(_) => Ok(()),
-            Err(made) => Err(made),
+        RawEntryMut::Vacant(entry) => {
+            entry.insert_entry(f(value), ())?;
+            Ok(())
         }
-    }
-
-    /// Does the same as `insert`.
-    // It is not inlined, since only an element that was absent needs it.
-    #[inline(never)]
-    fn insert_made(&mut self, made: T) -> Result<bool, T>
-    where
-        T: Drop,
-        ensures inserts { SetInserts T.eq self.old self.new made result }
-    {
-        self.insert(made)
     }
 }
 

@@ -1,7 +1,7 @@
 //! What is stored for a group of sixteen slots.
 ghost use Rattle.std.specs.Prelude.{◌≡◌, ◌≢◌, ℕ, ◌<◌, cond, false, map, replicate, slice_index_or, true};
 ghost use Rattle.std.specs.{Int.{bit_at}, Prelude.{slice_set}, Simd.Lanes.{mask_l}};
-ghost use Rattle.hashlink_table.specs.{Blocks.{free_mark, has_own, is_free, is_taken}, Stored.{no_guests}};
+ghost use Rattle.hashlink_table.specs.{Records.{free_mark, has_own, is_free, is_taken}, Stored.{no_guests}};
 
 use super::head::{Head, NO_GUESTS};
 use super::lanes::LANES;
@@ -21,11 +21,11 @@ pub struct Group {
 }
 
 impl Model for Group {
-    ghost use Rattle.hashlink_table.specs.Blocks.{Block, block_of};
+    ghost use Rattle.hashlink_table.specs.Records.{Record, record_of};
 
-    ghost Value = { Block };
+    ghost Value = { Record };
 
-    ghost view = { λ g. block_of g.tags g.owns g.guests g.first g.mask };
+    ghost view = { λ g. record_of g.tags g.owns g.guests g.first g.mask };
 }
 
 // Returns bits of which one is set or cleared.

@@ -1,9 +1,10 @@
 //! Removals of a node from its slot.
 ghost use Rattle.std.specs.Prelude.{◌≡◌, ◌≢◌, ℕ, ◌*◌, ◌/◌, ◌%◌, ◌<◌, ◌≤◌, ◌∷◌, IfSome, IsPermutation, IsSome};
-ghost use Rattle.std.specs.Prelude.{Some};
+ghost use Rattle.std.specs.Prelude.{Some, false, slice_index_or};
 ghost use Rattle.std.specs.{Prelude.length, Int.IsPowerOfTwo};
-ghost use Rattle.hashlink_table.specs.Chains.{cell_at, chain_at, kept_at, nodes_in, IsArranged, IsLinked};
-ghost use Rattle.hashlink_table.specs.Chains.{IsLinkedBut, SameMasks, SameNodes};
+ghost use Rattle.hashlink_table.specs.Chains.{cell_at, chain_at, first_at, kept_at, nodes_in};
+ghost use Rattle.hashlink_table.specs.Chains.{IsArranged, IsLinked, IsLinkedBut, SameMasks, SameNodes};
+ghost use Rattle.hashlink_table.specs.Stored.{bare_cell};
 
 use super::bucket::bucket_of;
 use super::cell::END;
@@ -57,7 +58,31 @@ fn take_out<N: Copy>(slots: &mut Slots<N>, group: usize, guest: usize) -> Hashed
 
 /// Removes the node that a search found. If it was no guest and its group has guests, the first of them moves
 /// to the slot. It returns nothing, so that no caller can read a hash by it.
+#[inline(always)]
 pub fn take<N: Copy>(slots: &mut Slots<N>, at: usize)
+    requires masked { IsPowerOfTwo (length slots.old.cells) }
+    requires whole { length slots.old.cells % LANES ≡ 0 }
+    requires small { length slots.old.cells ≤ END }
+    requires there { IsSome (kept_at slots.old.cells at) }
+    requires arranged { IsArranged slots.old.cells slots.old.heads }
+    ensures arranged { IsArranged slots.new.cells slots.new.heads }
+    ensures len { length slots.new.cells ≡ length slots.old.cells }
+    ensures nodes { IfSome (kept_at slots.old.cells at)
+        (λ kept. IsPermutation (nodes_in slots.old.cells) (kept ∷ nodes_in slots.new.cells)) }
+{
+    if slots.is_guest(at) || slots.head(at / LANES).first as usize != END {
+        take_linked(slots, at);
+        return;
+    }
+    slots.set_free(at);
+}
+
+// `take`, if the node is a guest or its group has guests. It is rare, and so out of line.
+#[cold]
+#[inline(never)]
+fn take_linked<N: Copy>(slots: &mut Slots<N>, at: usize)
+    requires linked { (slice_index_or slots.old.cells at bare_cell).guest ≡ false
+        → first_at slots.old.heads (at / LANES) ≢ END }
     requires masked { IsPowerOfTwo (length slots.old.cells) }
     requires whole { length slots.old.cells % LANES ≡ 0 }
     requires small { length slots.old.cells ≤ END }
@@ -75,10 +100,6 @@ pub fn take<N: Copy>(slots: &mut Slots<N>, at: usize)
     }
     let group = at / LANES;
     let first = slots.head(group).first as usize;
-    if first == END {
-        slots.set_free(at);
-        return;
-    }
     let follower = take_out(slots, group, first);
     slots.put(at, follower);
 }

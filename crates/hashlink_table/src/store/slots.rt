@@ -3,10 +3,10 @@ ghost use Rattle.std.specs.Prelude.{◌≡◌, ◌+◌, ◌%◌, ◌/◌, ◌^�
 ghost use Rattle.std.specs.Prelude.{IsTrue, Some, is_none, is_some, length, map, replicate, slice_index_or};
 ghost use Rattle.std.specs.Prelude.{slice_set, vec_capacity, vec_len, ℕ};
 ghost use Rattle.std.specs.Simd.Lanes.{mask_l};
-ghost use Rattle.hashlink_table.specs.Slots.{bare_grid, empty_block, kept_may_be, lanes_of, may_be};
+ghost use Rattle.hashlink_table.specs.Slots.{bare_grid, empty_record, kept_may_be, lanes_of, may_be};
 ghost use Rattle.hashlink_table.specs.Slots.{with_guest, with_kept, with_next, without_kept};
 ghost use Rattle.hashlink_table.specs.Chains.{guest_at, kept_at, next_at, own_at};
-ghost use Rattle.hashlink_table.specs.Blocks.{has_guest, is_guest, is_taken};
+ghost use Rattle.hashlink_table.specs.Records.{has_guest, is_guest, is_taken};
 ghost use Rattle.hashlink_table.specs.Stored.{bare_cell, no_guests, tag_of};
 
 use super::bucket::tag;
@@ -32,7 +32,7 @@ pub struct Rest {
 /// The slots. Sixteen make a group. A hash belongs to a group, and its node may be in any slot of it, or as a
 /// guest in a slot of any group.
 ///
-/// Apart from the slots each group has a block: a tag of the hash of each of its slots, which of them have
+/// Apart from the slots each group has a record: a tag of the hash of each of its slots, which of them have
 /// nodes of the group, which have guests, and the chain of the group's own guests. A search compares the tags
 /// at once.
 #[derive(Drop)]
@@ -69,7 +69,7 @@ fn has_guest_with(mark: Mark, tag: u8) -> bool
 // Adds groups without nodes. There has to be room for them.
 fn add_groups(groups: &mut Vec<Group>, count: usize)
     requires roomy { vec_len groups.old + count ≤ vec_capacity groups.old }
-    ensures { groups.new.items ≡ groups.old.items ++ replicate count empty_block }
+    ensures { groups.new.items ≡ groups.old.items ++ replicate count empty_record }
 {
     for added in 0..count {
         groups.push_reserved(Group::new());
@@ -189,6 +189,18 @@ impl<N: Copy> Slots<N> {
     {
         steps.tick();
         self.nodes[at]
+    }
+
+    /// Returns the node of a slot, or `None` if there is no such slot or it has no node of its group.
+    #[inline]
+    pub fn own_node(&self, at: usize) -> Option<N>
+        ensures { IfSome result (λ node. (hash : ℕ)
+            × (own_at self.now.cells at ≡ Some (record { hash = hash; node = node }))) }
+    {
+        if at >= self.len() || !self.mark(at).own {
+            return None;
+        }
+        Some(self.nodes[at])
     }
 
     /// Returns the hash and the node of a slot that has to have a guest, for a search. It takes a step.

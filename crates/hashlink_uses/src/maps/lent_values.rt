@@ -1,6 +1,7 @@
 //! Values that a map lends for writing, and what the caller knows about the map afterwards.
-ghost use Rattle.std.specs.{Prelude.{◌≡◌, IsFalse, IsTrue, is_some, length}, Map.lookup};
-ghost use Rattle.hashlink.specs.{Keyed.{entries_of, state_of}, Steps.{MovesAndWrites, with_value_of}};
+ghost use Rattle.std.specs.{Prelude.{◌≡◌, IsFalse, IsTrue, OnOk, Some, is_some, length}, Map.lookup};
+ghost use Rattle.hashlink.specs.{Keyed.{entries_of, state_of}, Lookups.Updates};
+ghost use Rattle.hashlink.specs.Steps.{MovesAndWrites, with_value_of};
 
 use hashlink::LinkedHashMap;
 use std::hash::{BuildHasher, Hash};
@@ -63,4 +64,18 @@ pub fn write_to_back<K: Eq + Hash, V: Drop, S: BuildHasher>(
         }
         None => false,
     }
+}
+
+/// Writes the value of a key, which is then the last one, and first makes a value if the key is absent.
+pub fn write_or_make<K: Eq + Hash + Drop, S: BuildHasher, F: FnOnce() -> u64 + Drop>(
+    map: &mut LinkedHashMap<K, u64, S>,
+    key: K,
+    value: u64,
+    make: F,
+) -> Result<(), (K, u64)>
+    requires callable { F.pre make }
+    ensures { OnOk result (Updates K.eq (entries_of map.old) (entries_of map.new) key (Some value)) }
+{
+    *map.get_or_insert_with(key, make)? = value;
+    Ok(())
 }

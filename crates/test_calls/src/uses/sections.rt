@@ -1,7 +1,7 @@
 //! Settings in sections, laid over others.
 use crate::few::passes;
 use hashlink::LinkedHashMap;
-use hashlink_uses::settings::{Sections, lay_over};
+use hashlink_uses::settings::{Sections, lay_over, remove_section, set_section};
 use std::alloc::{AllocError, Global};
 use std::process::ExitCode;
 
@@ -33,7 +33,7 @@ fn put(
     section: LinkedHashMap<String, String>,
 ) -> bool {
     match String::from_str(alloc, name) {
-        Ok(name) => sections.insert(name, section).is_ok(),
+        Ok(name) => set_section(sections, name, section).is_ok(),
         Err(_) => false,
     }
 }
@@ -64,13 +64,15 @@ fn lay_others(alloc: Global, sections: &mut Sections, mut others: Sections) -> b
         & lay_over(sections, others).is_ok()
 }
 
-/// Whether a section takes the other's settings, and a new section is there.
+/// Whether a section takes the other's settings, and a new section is there until it is removed.
 fn are_laid_over(alloc: Global, sections: &mut Sections) -> bool {
     put_setting(alloc, sections, "editor", "tabs", "8")
         & lay_others(alloc, sections, LinkedHashMap::new(alloc))
         & is_set(sections, "editor", "tabs", "4")
         & is_set(sections, "shell", "prompt", "$")
         & (sections.len() == 2)
+        & remove_section(sections, "shell").is_some()
+        & (sections.len() == 1)
 }
 
 #[test]

@@ -19,7 +19,7 @@ impl Spoken for Cache {
 
     fn call(&mut self, _other: &Cache, line: &mut Line<'_>) -> Result<(), Stop> {
         let name = line.words.word();
-        let word = match name {
+        let word = match_word!(name,
             "len" => Word::count(self.len()),
             "is_empty" => Word::Is(self.is_empty()),
             "capacity" => Word::count(self.capacity()),
@@ -33,7 +33,7 @@ impl Spoken for Cache {
             "new" => Word::count(new(line.home.alloc, self.capacity()).capacity()),
             "set_capacity" => self.set_capacity(line.words.size()).shown(),
             _ => return call_many(self, name, line),
-        };
+        );
         line.say(word)
     }
 }
@@ -55,7 +55,7 @@ fn new(alloc: Global, capacity: usize) -> LruCache<Name, Name> {
 /// written, if a name follows.
 pub fn call_of_key(cache: &mut Cache, name: &str, line: &mut Line<'_>) -> Result<(), Stop> {
     let key = line.item()?;
-    let word = match name {
+    let word = match_word!(name,
         "get" => cache.get(&key).shown(),
         "peek" => cache.peek(&key).shown(),
         "contains_key" => Word::Is(cache.contains_key(&key)),
@@ -66,14 +66,14 @@ pub fn call_of_key(cache: &mut Cache, name: &str, line: &mut Line<'_>) -> Result
         "peek_mut" => write(cache.peek_mut(&key), line.words.optional()),
         "get_or_try_insert_with" => return put_tried(cache, key, line),
         _ => return put_pair(cache, name, key, line),
-    };
+    );
     line.say(word)
 }
 
 /// Makes the call of this name, if it takes a key, and the value that the next word names.
 fn put_pair(cache: &mut Cache, name: &str, key: Item, line: &mut Line<'_>) -> Result<(), Stop> {
     let value = line.item()?;
-    let answer = match name {
+    let answer = match_word!(name,
         "insert" => put(cache.insert(key, value)),
         "push" => put(cache.push(key, value)),
         "get_or_insert_with" => match cache.get_or_insert_with(key, || value) {
@@ -81,7 +81,7 @@ fn put_pair(cache: &mut Cache, name: &str, key: Item, line: &mut Line<'_>) -> Re
             Err(pair) => no_memory(pair),
         },
         _ => return Err(Stop::Unread),
-    };
+    );
     line.give(answer)
 }
 

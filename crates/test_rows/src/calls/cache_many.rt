@@ -15,7 +15,7 @@ use std::vec::IntoIter;
 
 /// Makes the call of this name, if it is one of these.
 pub fn call_many(cache: &mut Cache, name: &str, line: &mut Line<'_>) -> Result<(), Stop> {
-    match name {
+    match_word!(name,
         "retain" | "retain_from" => retain(cache, name, line),
         "inside" => call_map(cache.map_mut(), line),
         "entry" => call_entry(cache.entry(line.item()?), line),
@@ -28,9 +28,9 @@ pub fn call_many(cache: &mut Cache, name: &str, line: &mut Line<'_>) -> Result<(
         "drain" => walk_whole(cache.drain(), line),
         "forgotten_drain" => walk_and_forget(cache.drain(), 2, line),
         "into_iter" => walk_whole(Exact(take(cache, line.home.alloc).into_iter()), line),
-        name if name.starts_with("extend") => put_rest(cache, name, line),
+        "extend" | "extend_from" | "extend_kept" | "extend_by_trait" => put_rest(cache, name, line),
         _ => call_of_key(cache, name, line),
-    }
+    )
 }
 
 impl TakesMany<(Item, Item)> for Cache {
@@ -43,14 +43,16 @@ impl TakesMany<(Item, Item)> for Cache {
     }
 }
 
+/// Whether a retain keeps `even` values, or else `odd` keys.
+const IS_EVEN: [(&str, bool); 2] = [("even", true), ("odd", false)];
+
 /// Keeps what the next word names, by the call of this name.
 fn retain(cache: &mut Cache, name: &str, line: &mut Line<'_>) -> Result<(), Stop> {
-    match (name, line.words.word()) {
-        ("retain", "even") => cache.retain(is_even),
-        ("retain", "odd") => cache.retain(is_raised),
-        (_, "even") => cache.retain_from(&mut is_even),
-        (_, "odd") => cache.retain_from(&mut is_raised),
-        _ => return Err(Stop::Unread),
+    match (name == "retain", line.words.named(&IS_EVEN)?) {
+        (true, true) => cache.retain(is_even),
+        (true, false) => cache.retain(is_raised),
+        (false, true) => cache.retain_from(&mut is_even),
+        (false, false) => cache.retain_from(&mut is_raised),
     }
     line.say(Word::Done)
 }
@@ -65,13 +67,12 @@ fn take(cache: &mut Cache, alloc: Global) -> Cache {
 fn call_raw(cache: &mut Cache, line: &mut Line<'_>) -> Result<(), Stop> {
     let _way = line.words.word();
     let key = line.item()?;
-    let entries = cache.raw_entry_mut();
     match RawCall::read(&mut line.words)? {
         RawCall::Make(call) => {
             let (value, new) = line.lent_item()?;
-            line.give(put_found(entries, call, key, value, new))
+            line.give(put_found(cache.raw_entry_mut(), call, key, value, new))
         }
-        call => call_found(entries.from_key(&key), call, line),
+        call => call_found(cache.raw_entry_mut().from_key(&key), call, line),
     }
 }
 

@@ -7,13 +7,13 @@ use std::hash::{BuildHasher, Hash};
 /// Compares two containers by `eq`, `cmp` or `partial_cmp`, in both directions, or records whether they feed
 /// a hasher the same bytes.
 pub fn compare<C: Ord + Hash>(one: &C, other: &C, line: &mut Line<'_>) -> Result<(), Stop> {
-    match line.words.word() {
+    match_word!(line.words.word(),
         "eq" => line.say(equal(one, other)),
         "less" => line.say(less(one, other)),
         "cmp" => line.say_all(&ordered(one, other)),
         "hash" => line.say(hashed_alike(one, other)),
         _ => Err(Stop::Unread),
-    }
+    )
 }
 
 /// Whether the two are equal, if both directions agree.

@@ -30,7 +30,7 @@ impl Spoken for Curve {
     }
 
     fn call(&mut self, _other: &Curve, line: &mut Line<'_>) -> Result<(), Stop> {
-        let word = match line.words.word() {
+        let word = match_word!(line.words.word(),
             "distinct" => Word::count(self.distinct()),
             "accesses" => Word::Item(self.accesses(), 0),
             "misses" => Word::Item(self.misses(line.words.size()), 0),
@@ -39,7 +39,7 @@ impl Spoken for Curve {
             "record" => return record(self, line),
             "record_with" => return record_with(self, line),
             _ => return Err(Stop::Unread),
-        };
+        );
         line.say(word)
     }
 }

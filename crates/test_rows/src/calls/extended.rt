@@ -21,13 +21,13 @@ pub fn put_rest<T: Read + Drop, C: TakesMany<T> + Extend<T>>(
     requires { (c : C) → (items : List T) → C.Extend.can_extend c items }
 {
     let items = &mut rest_of(line)?.into_iter();
-    let answer = match name {
+    let answer = match_word!(name,
         "extend" => return line.give(container.extend_by(false, items)),
         "extend_kept" => container.extend_by(false, items),
         "extend_from" => container.extend_by(true, items),
         "extend_by_trait" => Answer::Word(container.extend(&mut *items).shown()),
         _ => return Err(Stop::Unread),
-    };
+    );
     say_kept(answer, items.len(), line)
 }
 

@@ -13,7 +13,7 @@ pub type Map = LinkedHashMap<Item, Item, Hashing>;
 /// Makes the call that a line names.
 pub fn call_map(map: &mut Map, line: &mut Line<'_>) -> Result<(), Stop> {
     let name = line.words.word();
-    let word = match name {
+    let word = match_word!(name,
         "front" => map.front().shown(),
         "back" => map.back().shown(),
         "len" => Word::count(map.len()),
@@ -26,8 +26,17 @@ pub fn call_map(map: &mut Map, line: &mut Line<'_>) -> Result<(), Stop> {
         "try_take" => taken(mem::try_take(map)),
         "new" => Word::count(LinkedHashMap::<Name, Name>::new(line.home.alloc).capacity()),
         "back_value_mut" => write(map.back_value_mut(), line.words.optional()),
-        _ => return call_of_number(map, name, line),
-    };
+        "reserve" => map.reserve(line.words.size()).shown(),
+        "try_reserve" => map.try_reserve(line.words.size()).shown(),
+        "room" => has_room(map.capacity(), map.len(), line.words.size()),
+        "capacity" => Word::Is(map.capacity() == line.words.size()),
+        "under" => Word::Is(map.capacity() < line.words.size()),
+        "with_capacity" => made(
+            LinkedHashMap::with_capacity_and_hasher(line.home.alloc, line.words.size(), *map.hasher()),
+            map,
+        ),
+        _ => return call_many(map, name, line),
+    );
     line.say(word)
 }
 
@@ -39,31 +48,11 @@ fn taken(taken: Result<Map, AllocError>) -> Word {
     }
 }
 
-/// Makes the call of this name, if it takes the number that comes next.
-fn call_of_number(map: &mut Map, name: &str, line: &mut Line<'_>) -> Result<(), Stop> {
-    let word = match name {
-        "reserve" => map.reserve(line.words.size()).shown(),
-        "try_reserve" => map.try_reserve(line.words.size()).shown(),
-        "room" => has_room(map.capacity(), map.len(), line.words.size()),
-        "capacity" => Word::Is(map.capacity() == line.words.size()),
-        "under" => Word::Is(map.capacity() < line.words.size()),
-        "with_capacity" => {
-            let (alloc, size) = (line.home.alloc, line.words.size());
-            made(
-                LinkedHashMap::with_capacity_and_hasher(alloc, size, *map.hasher()),
-                map,
-            )
-        }
-        _ => return call_many(map, name, line),
-    };
-    line.say(word)
-}
-
 /// Makes the call of this name, if it takes the key that the next word names. What is lent for writing is
 /// written, if a name follows.
 pub fn call_of_key(map: &mut Map, name: &str, line: &mut Line<'_>) -> Result<(), Stop> {
     let key = line.item()?;
-    let word = match name {
+    let word = match_word!(name,
         "get" => map.get(&key).shown(),
         "contains_key" => Word::Is(map.contains_key(&key)),
         "get_key_value" => map.get_key_value(&key).shown(),
@@ -75,7 +64,7 @@ pub fn call_of_key(map: &mut Map, name: &str, line: &mut Line<'_>) -> Result<(),
         "to_back" => write(map.to_back(&key), line.words.optional()),
         "index_mut" => index_mut(map, &key, line.words.optional()),
         _ => return put_pair(map, name, key, line),
-    };
+    );
     line.say(word)
 }
 
@@ -96,7 +85,7 @@ fn index_mut(map: &mut Map, key: &Item, new: Option<Name>) -> Word {
 /// Makes the call of this name, if it takes a key, and the value that the next word names.
 fn put_pair(map: &mut Map, name: &str, key: Item, line: &mut Line<'_>) -> Result<(), Stop> {
     let value = line.item()?;
-    let answer = match name {
+    let answer = match_word!(name,
         "insert" => put(map.insert(key, value)),
         "insert_front" => put(map.insert_front(key, value)),
         "replace" => put(map.replace(key, value)),
@@ -105,6 +94,6 @@ fn put_pair(map: &mut Map, name: &str, key: Item, line: &mut Line<'_>) -> Result
             Err(pair) => no_memory(pair),
         },
         _ => return Err(Stop::Unread),
-    };
+    );
     line.give(answer)
 }

@@ -15,7 +15,7 @@ pub fn call_cursor(map: &mut Map, line: &mut Line<'_>) -> Result<(), Stop> {
     let is_front = line.words.named(&ENDS)?;
     let mut cursor = cursor_at(map, is_front);
     let last = take_steps(&mut cursor, line)?;
-    line.give(match last {
+    line.give(match_word!(last,
         "entry" => match cursor.current_entry() {
             Ok(entry) => Answer::Word(entry.get_key_value().shown()),
             Err(cursor) => Answer::Around(around(&cursor)),
@@ -29,7 +29,7 @@ pub fn call_cursor(map: &mut Map, line: &mut Line<'_>) -> Result<(), Stop> {
             None => Answer::Word(Word::Nothing),
         },
         _ => Answer::Silent,
-    })
+    ))
 }
 
 fn cursor_at<'m>(map: &'m mut Map, is_front: bool) -> Cursor<'m> {
@@ -90,12 +90,12 @@ fn put_pair(cursor: &mut Cursor<'_>, is_before: bool, line: &mut Line<'_>) -> Re
 
 fn write_at(cursor: &mut Cursor<'_>, name: &str, line: &mut Line<'_>) -> Result<(), Stop> {
     let new = Some(line.words.name());
-    let word = match name {
+    let word = match_word!(name,
         "write" => write(cursor.current_value(), new),
         "write_pair" => write_pair(cursor.current(), new),
         "write_next" => write_pair(cursor.peek_next(), new),
         "write_prev" => write_pair(cursor.peek_prev(), new),
         _ => return Err(Stop::Unread),
-    };
+    );
     line.say(word)
 }

@@ -16,7 +16,7 @@ use std::vec::IntoIter;
 
 /// Makes the call of this name, if it is one of these.
 pub fn call_many(map: &mut Map, name: &str, line: &mut Line<'_>) -> Result<(), Stop> {
-    match name {
+    match_word!(name,
         "from_iter" => make_of_rest(map, line),
         "from_iter_kept" => make_of_kept(map, line),
         "collect" => line.say(collect(map, line.home.alloc)),
@@ -28,12 +28,12 @@ pub fn call_many(map: &mut Map, name: &str, line: &mut Line<'_>) -> Result<(), S
         "raw_read" => read_raw(map, line),
         "front_entry" | "back_entry" => call_end(map, name == "front_entry", line),
         _ => walk_map(map, name, line),
-    }
+    )
 }
 
 /// Takes the steps of the iterator of this name, if there is one. Else it makes the call of this name.
 fn walk_map(map: &mut Map, name: &str, line: &mut Line<'_>) -> Result<(), Stop> {
-    match name {
+    match_word!(name,
         "iter" => walk_and_clone(map.iter(), line),
         "keys" => walk_and_clone(map.keys(), line),
         "values" => walk_and_clone(map.values(), line),
@@ -43,9 +43,9 @@ fn walk_map(map: &mut Map, name: &str, line: &mut Line<'_>) -> Result<(), Stop> 
         "forgotten_drain" => walk_and_forget(map.drain(), 2, line),
         "into_iter" => walk_whole(Exact(take(map, line.home.alloc).into_iter()), line),
         "iter_from" => walk_from(map, line),
-        name if name.starts_with("extend") => put_rest(map, name, line),
+        "extend" | "extend_from" | "extend_kept" | "extend_by_trait" => put_rest(map, name, line),
         _ => call_of_key(map, name, line),
-    }
+    )
 }
 
 impl TakesMany<(Item, Item)> for Map {

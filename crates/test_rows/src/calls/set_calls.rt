@@ -11,7 +11,7 @@ pub type Set = LinkedHashSet<Item, Hashing>;
 /// Makes the call that a line names.
 pub fn call_set(set: &mut Set, line: &mut Line<'_>) -> Result<(), Stop> {
     let name = line.words.word();
-    let word = match name {
+    let word = match_word!(name,
         "front" => set.front().shown(),
         "back" => set.back().shown(),
         "len" => Word::count(set.len()),
@@ -23,8 +23,17 @@ pub fn call_set(set: &mut Set, line: &mut Line<'_>) -> Result<(), Stop> {
         "clone" => made(set.clone(), set),
         "try_take" => taken(mem::try_take(set)),
         "new" => Word::count(LinkedHashSet::<Name>::new(line.home.alloc).capacity()),
-        _ => return call_of_number(set, name, line),
-    };
+        "reserve" => set.reserve(line.words.size()).shown(),
+        "try_reserve" => set.try_reserve(line.words.size()).shown(),
+        "room" => has_room(set.capacity(), set.len(), line.words.size()),
+        "capacity" => Word::Is(set.capacity() == line.words.size()),
+        "under" => Word::Is(set.capacity() < line.words.size()),
+        "with_capacity" => made(
+            LinkedHashSet::with_capacity_and_hasher(line.home.alloc, line.words.size(), *set.hasher()),
+            set,
+        ),
+        _ => return call_many(set, name, line),
+    );
     line.say(word)
 }
 
@@ -36,30 +45,10 @@ fn taken(taken: Result<Set, AllocError>) -> Word {
     }
 }
 
-/// Makes the call of this name, if it takes the number that comes next.
-fn call_of_number(set: &mut Set, name: &str, line: &mut Line<'_>) -> Result<(), Stop> {
-    let word = match name {
-        "reserve" => set.reserve(line.words.size()).shown(),
-        "try_reserve" => set.try_reserve(line.words.size()).shown(),
-        "room" => has_room(set.capacity(), set.len(), line.words.size()),
-        "capacity" => Word::Is(set.capacity() == line.words.size()),
-        "under" => Word::Is(set.capacity() < line.words.size()),
-        "with_capacity" => {
-            let (alloc, size) = (line.home.alloc, line.words.size());
-            made(
-                LinkedHashSet::with_capacity_and_hasher(alloc, size, *set.hasher()),
-                set,
-            )
-        }
-        _ => return call_many(set, name, line),
-    };
-    line.say(word)
-}
-
 /// Makes the call of this name, if it takes the element that the next word names.
 pub fn call_of_element(set: &mut Set, name: &str, line: &mut Line<'_>) -> Result<(), Stop> {
     let element = line.item()?;
-    let word = match name {
+    let word = match_word!(name,
         "contains" => Word::Is(set.contains(&element)),
         "get" => set.get(&element).shown(),
         "to_front" => Word::Is(set.to_front(&element)),
@@ -67,13 +56,13 @@ pub fn call_of_element(set: &mut Set, name: &str, line: &mut Line<'_>) -> Result
         "remove" => Word::Is(set.remove(&element)),
         "take" => set.take(&element).shown(),
         _ => return put_in(set, name, element, line),
-    };
+    );
     line.say(word)
 }
 
 /// Makes the call of this name, if it puts the element in.
 fn put_in(set: &mut Set, name: &str, element: Item, line: &mut Line<'_>) -> Result<(), Stop> {
-    let answer = match name {
+    let answer = match_word!(name,
         "insert" => match set.insert(element) {
             Ok(is_new) => Answer::Word(Word::Is(is_new)),
             Err(element) => no_memory(element),
@@ -81,6 +70,6 @@ fn put_in(set: &mut Set, name: &str, element: Item, line: &mut Line<'_>) -> Resu
         "replace" => put(set.replace(element)),
         "get_or_insert" => put(set.get_or_insert(element)),
         _ => return Err(Stop::Unread),
-    };
+    );
     line.give(answer)
 }

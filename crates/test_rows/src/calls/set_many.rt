@@ -14,7 +14,7 @@ use std::vec::IntoIter;
 
 /// Makes the call of this name, if it is one of these.
 pub fn call_many(set: &mut Set, name: &str, line: &mut Line<'_>) -> Result<(), Stop> {
-    match name {
+    match_word!(name,
         "get_or_insert_with" => put_made(set, line),
         "from_iter" => make_of_rest(set, line),
         "from_iter_kept" => make_of_kept(set, line),
@@ -23,9 +23,9 @@ pub fn call_many(set: &mut Set, name: &str, line: &mut Line<'_>) -> Result<(), S
         "drain" => walk_whole(set.drain(), line),
         "forgotten_drain" => walk_and_forget(set.drain(), 1, line),
         "into_iter" => walk_whole(Exact(take(set, line.home.alloc).into_iter()), line),
-        name if name.starts_with("extend") => put_rest(set, name, line),
+        "extend" | "extend_from" | "extend_kept" | "extend_by_trait" => put_rest(set, name, line),
         _ => call_of_element(set, name, line),
-    }
+    )
 }
 
 fn put_made(set: &mut Set, line: &mut Line<'_>) -> Result<(), Stop> {

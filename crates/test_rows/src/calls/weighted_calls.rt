@@ -16,7 +16,7 @@ impl Spoken for Weighted {
     /// Makes the call of a line. The number of a value is its weight.
     fn call(&mut self, _other: &Weighted, line: &mut Line<'_>) -> Result<(), Stop> {
         let name = line.words.word();
-        let word = match name {
+        let word = match_word!(name,
             "len" => Word::count(self.len()),
             "is_empty" => Word::Is(self.is_empty()),
             "total" => Word::Item(self.total(), 0),
@@ -30,7 +30,7 @@ impl Spoken for Weighted {
             "insert_evicting" => return put_evicting(self, line),
             "iter" => return walk_and_clone(self.iter(), line),
             _ => return Err(Stop::Unread),
-        };
+        );
         line.say(word)
     }
 }

@@ -1,5 +1,6 @@
 use Rattle.hashlink.specs.Entries.{place_or_end, put}
-use Rattle.hashlink.proofs.CallerLemmas.{is_member-combined, keys-put_in_place, lookup-replaced_each}
+use Rattle.hashlink.proofs.CallerLemmas.{IsEntries-combined, is_member-combined, keys-put_in_place}
+use Rattle.hashlink.proofs.CallerLemmas.{lookup-replaced_each}
 use Rattle.hashlink_uses.proofs.Common.{◌≡◌, Bool, List, [], ◌∷◌, ◌++◌, ap, sym, ◌∙◌, keys_of, append-nil}
 use Rattle.hashlink_uses.proofs.{Appearing.appears, Common.{first_appearances, merged}}
 use Rattle.hashlink_uses.proofs.settings.what_a_merge_leaves.Goals as goal
@@ -17,4 +18,5 @@ returns g c = record {
   wins = lookup-replaced_each;
   order = keys-merged;
   kept = λ eq. is_member-combined eq (λ old new. new);
+  distinct = λ eq. IsEntries-combined eq (λ old new. new);
 }

@@ -1,4 +1,4 @@
-use Rattle.hashlink_core.proofs.{Names.◌∙◌, Draining.pairs-mapped}
+use Rattle.hashlink_core.proofs.{Names.◌∙◌, Stepping.pairs-mapped}
 use Rattle.hashlink_core.proofs.into_iter.IntoIter.new.Goals as goal
 
 pub returns : goal.returns

@@ -27,7 +27,7 @@ pub returns-clause-found : goal.returns-clause-found
 returns-clause-found g c =
     rw (← c.self.view_is) (found-by_table g.met.K.Eq.laws c.self.invariant
     (search-key g (goal.at.returns-clause-found g c).After-short_hash)
-    (g.met.Q.Equivalent.finds_equal c.args.key) c.look_up.result c.look_up.ensures.found
+    (g.met.Q.Equivalent.finds_equal c.args.key) (λ f. f.node) c.look_up.result c.look_up.ensures.found
     c.look_up.ensures.none)
 
 pub returns-clause-sound : goal.returns-clause-sound

@@ -37,7 +37,7 @@ pub returns-clause-found : goal.returns-clause-found
 returns-clause-found g c k tells =
     let after = (goal.at.returns-clause-found g c).After-short_hash in
     rw (← c.self.view_is) (found-by_table g.met.K.Eq.laws c.self.invariant (search-key g after k tells)
-    (g.met.K.Eq.laws.congr k) c.look_up.result c.look_up.ensures.found c.look_up.ensures.none)
+    (g.met.K.Eq.laws.congr k) (λ f. f.node) c.look_up.result c.look_up.ensures.found c.look_up.ensures.none)
 
 pub look_up-requires-clause-callable : goal.look_up-requires-clause-callable
 look_up-requires-clause-callable g c number node there _ =

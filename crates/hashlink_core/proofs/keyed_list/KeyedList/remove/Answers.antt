@@ -29,15 +29,16 @@ overflow_cast-number g c =
     let small = asked-short c.self.invariant c.args.node _ d.held d.is in
     search rules
 
-pub remove-requires-clause-callable : goal.remove-requires-clause-callable
-remove-requires-clause-callable g c number node there _ =
+pub remove_at-requires-clause-callable : goal.remove_at-requires-clause-callable
+remove_at-requires-clause-callable g c number node there =
     left-known c.self.invariant
-    (detached g (goal.at.remove-requires-clause-callable g c).After-detach_into_free-pair) number node there
+    (detached g (goal.at.remove_at-requires-clause-callable g c).After-detach_into_free-pair)
+    number node there
 
-pub remove-requires-clause-telling : goal.remove-requires-clause-telling
-remove-requires-clause-telling g c =
+pub remove_at-requires-clause-telling : goal.remove_at-requires-clause-telling
+remove_at-requires-clause-telling g c =
     left-told c.self.invariant
-    (detached g (goal.at.remove-requires-clause-telling g c).After-detach_into_free-pair)
+    (detached g (goal.at.remove_at-requires-clause-telling g c).After-detach_into_free-pair)
 
 pub returns-clause-pair : goal.returns-clause-pair
 returns-clause-pair g c =
@@ -46,7 +47,7 @@ returns-clause-pair g c =
 
 pub invariant_of-self : goal.invariant_of-self
 invariant_of-self g c =
-    let t = c.remove in
+    let t = c.remove_at in
     let d = c.detach_into_free-pair.ensures in
     removed-step g.met.K.Eq.laws c.self.view_is c.self.invariant c.args.node c.requires
     c.detach_into_free-pair.new.self t.new.self c.number-number.result c.number-number.ensures
@@ -55,7 +56,7 @@ invariant_of-self g c =
 
 pub returns-clause-removed : goal.returns-clause-removed
 returns-clause-removed g c =
-    let t = c.remove in
+    let t = c.remove_at in
     let d = c.detach_into_free-pair.ensures in
     removed-node g.met.K.Eq.laws c.self.view_is c.self.invariant c.args.node c.requires
     c.detach_into_free-pair.new.self t.new.self c.number-number.result c.number-number.ensures

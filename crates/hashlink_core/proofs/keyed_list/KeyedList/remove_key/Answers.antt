@@ -31,7 +31,7 @@ returns-in_err-node-clause-removes g c =
     let passes = g.Q.Equivalent.matches c.args.key in
     let absent = found-by_table g.met.K.Eq.laws c.self.invariant
     (search-key g (goal.at.returns-in_err-node-clause-removes g c).After-short_hash-hash)
-    (g.met.Q.Equivalent.finds_equal c.args.key) None tt c.in_err-node.ensures.none in
+    (g.met.Q.Equivalent.finds_equal c.args.key) (λ n. n) None tt c.in_err-node.ensures.none in
     rw c.from_residual.ensures
     (record {
       answer = sym (lookup_entry-unplaced passes (entries_of c.args.self.now)
@@ -55,7 +55,7 @@ found g c =
     let r = c.in_ok-node.ensures.removed in
     rw (← c.self.view_is) (found-by_table g.met.K.Eq.laws c.self.invariant
     (search-key g (goal.at.returns-clause-removes g c).After-short_hash-hash)
-    (g.met.Q.Equivalent.finds_equal c.args.key) (Some c.in_ok-node.node)
+    (g.met.Q.Equivalent.finds_equal c.args.key) (λ n. n) (Some c.in_ok-node.node)
     (was-kept c.self.inside.table c.remove.new.self _ _ r.0, r.1) tt)
 
 pub invariant_of-self-2 : goal.invariant_of-self-2

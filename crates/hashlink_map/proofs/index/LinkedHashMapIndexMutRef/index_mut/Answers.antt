@@ -2,8 +2,8 @@ use Rattle.hashlink_map.proofs.Names.{refl, subst, sym, HasKey, stored-value}
 use Rattle.hashlink_map.proofs.Indexing.{found_there, written_there}
 use Rattle.hashlink_map.proofs.index.LinkedHashMapIndexMutRef.index_mut.Goals as goal
 
-pub unwrap-node-requires : goal.unwrap-node-requires
-unwrap-node-requires g c =
+pub unwrap-found-requires : goal.unwrap-found-requires
+unwrap-found-requires g c =
     let eq = g.K.PartialEq.eq in let k = c.args.key.now in
     found_there eq c.self.inside.list k c.find.result c.find.ensures.found
     (subst (λ l. HasKey eq l k) (sym c.self.view_is) c.requires)
@@ -11,8 +11,8 @@ unwrap-node-requires g c =
 pub returns : goal.returns
 returns g c =
     let eq = g.K.PartialEq.eq in let k = c.args.key.now in
-    let m = c.self.inside.list in let n = c.unwrap-node.result in
-    let found = rw c.unwrap-node.ensures at c.find.ensures.found in
+    let m = c.self.inside.list in let n = c.unwrap-found.result.node in
+    let found = rw c.unwrap-found.ensures at c.find.ensures.found in
     rw (← c.self.view_is) (
       (refl, written_there eq m k n found),
       record {

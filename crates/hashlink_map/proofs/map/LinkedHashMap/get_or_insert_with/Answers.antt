@@ -7,7 +7,7 @@ pub returns-in-Some : goal.returns-in-Some
 returns-in-Some g c =
     let eq = g.K.PartialEq.eq in let old = state_of c.args.self.now in
     let new = c.move_to_back.new.self in let k = c.args.key in
-    let n = c.in-Some.node in
+    let n = c.in-Some.found.node in
     let found = rw c.self.view_is at c.in-Some.ensures.found in
     let distinct = rw c.self.view_is at c.in-Some.ensures.sound.distinct in
     let e = c.move_to_back.ensures in

@@ -34,7 +34,7 @@ returns-in_default g c =
 
 pub is_at-requires-clause-node : goal.is_at-requires-clause-node
 is_at-requires-clause-node g c =
-    written-holds c.replace_value-old.ensures.written c.in-Some.node c.in-Some.ensures.found.within
+    written-holds c.replace_value-old.ensures.written c.in-Some.found.node c.in-Some.ensures.found.within
 
 pub is_at-requires-clause-place : goal.is_at-requires-clause-place
 is_at-requires-clause-place g c =
@@ -45,7 +45,7 @@ is_at-requires-clause-place g c =
 pub returns-then-is_at : goal.returns-then-is_at
 returns-then-is_at g c =
     let old = c.self.inside.list in let w = c.replace_value-old in
-    let at : c.args.place ≡ Some c.in-Some.node = c.is_at.ensures.0 (search rules) in
+    let at : c.args.place ≡ Some c.in-Some.found.node = c.is_at.ensures.0 (search rules) in
     rw (← c.self.view_is) (inserted g.met.K.Eq.laws w.ensures.was_sound w.ensures.sound c.args.key
     c.args.value (Ok (Some w.result)) c.args.place
     (rw at (stays-key g.K.PartialEq.eq (state_of old) (state_of w.new.self) c.args.key _
@@ -55,23 +55,23 @@ returns-then-is_at g c =
 
 pub move_before-requires-clause-node : goal.move_before-requires-clause-node
 move_before-requires-clause-node g c =
-    written-holds c.replace_value-old.ensures.written c.in-Some.node c.in-Some.ensures.found.within
+    written-holds c.replace_value-old.ensures.written c.in-Some.found.node c.in-Some.ensures.found.within
 
 pub move_before-requires-clause-place : goal.move_before-requires-clause-place
 move_before-requires-clause-place g c =
     let old = c.self.inside.list in
     let new = c.replace_value-old.new.self in let w = c.replace_value-old.ensures in
-    left-place new.nodes w.sound.apart c.in-Some.node c.args.place (λ same. search rules)
+    left-place new.nodes w.sound.apart c.in-Some.found.node c.args.place (λ same. search rules)
     (keys-place old new (keys-written old new w.written) c.args.place (rw c.self.view_is c.requires.within))
 
 pub returns : goal.returns
 returns g c =
     let old = c.self.inside.list in let w = c.replace_value-old in let t = c.move_before in
-    let held = written-holds w.ensures.written c.in-Some.node c.in-Some.ensures.found.within in
+    let held = written-holds w.ensures.written c.in-Some.found.node c.in-Some.ensures.found.within in
     rw (← c.self.view_is) (inserted g.met.K.Eq.laws w.ensures.was_sound t.ensures.sound c.args.key
     c.args.value (Ok (Some w.result)) c.args.place
-    (put g.K.PartialEq.eq old t.new.self c.args.key c.in-Some.node c.in-Some.ensures.found w.new.self
+    (put g.K.PartialEq.eq old t.new.self c.args.key c.in-Some.found.node c.in-Some.ensures.found w.new.self
     c.args.value w.result _ _ (written-number w.ensures.written c.args.place) w.ensures.value
     w.ensures.written t.ensures.moved)
     (keys_twice old w.new.self t.new.self (keys-written old w.new.self w.ensures.written)
-    (keys-moved w.new.self t.new.self w.ensures.sound.apart c.in-Some.node held t.ensures.moved)))
+    (keys-moved w.new.self t.new.self w.ensures.sound.apart c.in-Some.found.node held t.ensures.moved)))

@@ -12,4 +12,4 @@ returns-in-None-clause-pair g c k told =
 
 pub returns-in-Some-clause-equal : goal.returns-in-Some-clause-equal
 returns-in-Some-clause-equal g c k told =
-    holds-passes (g.K.PartialEq.eq k) c.args.self.now c.in-Some.node (search rules)
+    holds-passes (g.K.PartialEq.eq k) c.args.self.now c.in-Some.found.node (search rules)

@@ -13,4 +13,4 @@ returns-in-None-clause-pair g c =
 
 pub returns-in-Some-clause-equal : goal.returns-in-Some-clause-equal
 returns-in-Some-clause-equal g c =
-    holds-passes (g.Q.Equivalent.matches c.args.key) c.args.self.now c.in-Some.node (search rules)
+    holds-passes (g.Q.Equivalent.matches c.args.key) c.args.self.now c.in-Some.found.node (search rules)

@@ -1,30 +1,31 @@
 use Rattle.std.proofs.Common.{map}
-use Rattle.hashlink_nodes.proofs.Names.{◌∷◌, ◌∙◌, sym, ap, is_some, refl, pair_of}
+use Rattle.hashlink_nodes.proofs.Names.{arith, ◌∷◌, ◌∙◌, sym, ap, is_some, refl, pair_of}
 use Rattle.hashlink_nodes.proofs.Chains.{at_front}
 use Rattle.hashlink_nodes.proofs.chain.Chain.take_first.Goals as goal
 
 pub next-self-inside-requires : goal.next-self-inside-requires
-next-self-inside-requires g c = (at_front c.self.invariant c.self.view_is c.requires refl).end.has
+next-self-inside-requires g c =
+    (at_front c.self.invariant c.self.view_is (omega (arith, c.len.ensures)) refl).end.has
 
 pub take-pair-requires : goal.take-pair-requires
-take-pair-requires g c = ap is_some (at_front c.self.invariant c.self.view_is c.requires refl).end.holds
+take-pair-requires g c =
+    ap is_some (at_front c.self.invariant c.self.view_is (omega (arith, c.len.ensures)) refl).end.holds
 
-pub vacate-vacant-requires-clause-has : goal.vacate-vacant-requires-clause-has
-vacate-vacant-requires-clause-has g c =
-    (at_front c.self.invariant c.self.view_is c.requires refl).end.has_yet c.take-pair.ensures.is
-
-pub vacate-vacant-requires-clause-bare : goal.vacate-vacant-requires-clause-bare
-vacate-vacant-requires-clause-bare g c =
-    (at_front c.self.invariant c.self.view_is c.requires refl).end.bare c.take-pair.ensures.is
+pub vacate-vacant-requires : goal.vacate-vacant-requires
+vacate-vacant-requires g c =
+    let end = (at_front c.self.invariant c.self.view_is (omega (arith, c.len.ensures)) refl).end in
+    record { has = end.has_yet c.take-pair.ensures.is; bare = end.bare c.take-pair.ensures.is }
 
 pub invariant_of-self : goal.invariant_of-self
 invariant_of-self g c =
-    ((at_front c.self.invariant c.self.view_is c.requires c.next-self-inside.ensures).end.leaves
-    c.take-pair.ensures.is c.vacate-vacant.ensures).whole
+    let e = at_front c.self.invariant c.self.view_is (omega (arith, c.len.ensures))
+    c.next-self-inside.ensures in
+    (e.end.leaves c.take-pair.ensures.is c.vacate-vacant.ensures).whole
 
 pub returns : goal.returns
 returns g c =
-    let e = at_front c.self.invariant c.self.view_is c.requires c.next-self-inside.ensures in
+    let e = at_front c.self.invariant c.self.view_is (omega (arith, c.len.ensures))
+    c.next-self-inside.ensures in
     let l = e.end.leaves c.take-pair.ensures.is c.vacate-vacant.ensures in
     let pair = e.end.pair c.take-pair.ensures.was in
     sym c.self.view_is ∙ ap (map (λ x. pair_of x.1)) e.is

@@ -1,5 +1,5 @@
 use Rattle.std.proofs.Common.{map, rules}
-use Rattle.hashlink_nodes.proofs.{Names.{ap, ◌∙◌, sym, pair_of}, Opening.seal}
+use Rattle.hashlink_nodes.proofs.{Names.{ap, arith, ◌∙◌, sym, pair_of}, Opening.{known, seal}}
 use Rattle.hashlink_nodes.proofs.Chains.{all_entries, all_taken, are_len, are_path, guard_has, no_entries}
 use Rattle.hashlink_nodes.proofs.nodes.Nodes.take_entries.Goals as goal
 
@@ -57,6 +57,7 @@ returns-clause-free g c =
     c.part-chain.ensures.left c.store_next.ensures.stored c.store_prev.ensures.stored).free
 
 pub returns-clause-link_writes : goal.returns-clause-link_writes
-returns-clause-link_writes g c = λ _.
-    (all_taken c.self.invariant c.self.view_is c.unwrap-guard.ensures c.next-first.ensures
-    c.part-chain.ensures.left c.store_next.ensures.stored c.store_prev.ensures.stored).link_writes
+returns-clause-link_writes g c =
+    let taken = all_taken c.self.invariant c.self.view_is c.unwrap-guard.ensures c.next-first.ensures
+    c.part-chain.ensures.left c.store_next.ensures.stored c.store_prev.ensures.stored in
+    omega (arith, taken.link_writes, (known c.self.invariant c.self.view_is).is_len)

@@ -2,8 +2,8 @@ use Rattle.hashlink_map.proofs.Names.{sym, ap, ◌∙◌, rules, option_map, der
 use Rattle.hashlink_map.proofs.Names.{lookup_entry-place, lookup_entry-unplaced}
 use Rattle.hashlink_map.proofs.raw_entry.builders.RawEntryBuilder.from_key_hashed_nocheck.Goals as goal
 
-pub returns-in_err-node : goal.returns-in_err-node
-returns-in_err-node g c =
+pub returns-in_err-found : goal.returns-in_err-found
+returns-in_err-found g c =
     ap (option_map deref_pair) c.from_residual.ensures
     ∙ sym (lookup_entry-unplaced (g.Q.Equivalent.matches c.args.key) (entries_of c.args.self.map.now)
     (search rules))

@@ -1,10 +1,10 @@
 use Rattle.hashlink_table.proofs.Names.{arith, ap, ◌∙◌, map, mask_l}
-use Rattle.hashlink_table.proofs.Blocks.{taken_mask}
-use Rattle.hashlink_table.specs.Blocks.{Block, is_taken}
+use Rattle.hashlink_table.proofs.Records.{taken_mask}
+use Rattle.hashlink_table.specs.Records.{Record, is_taken}
 use Rattle.hashlink_table.proofs.store.group.Group.taken.Goals as goal
 
 pub returns : goal.returns
 returns c =
     let t = c.self.inside in
     c.from.ensures ∙ taken_mask t.tags t.owns t.guests (omega arith) (omega arith)
-    ∙ ap (λ (b : Block). mask_l (map is_taken b.marks)) c.self.view_is
+    ∙ ap (λ (b : Record). mask_l (map is_taken b.marks)) c.self.view_is

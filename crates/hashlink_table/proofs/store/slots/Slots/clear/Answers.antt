@@ -1,5 +1,5 @@
-use Rattle.hashlink_table.proofs.Names.{◌≡◌, ◌++◌, ◌/◌, List, length, ap, arith, ◌∙◌, replicate, Block}
-use Rattle.hashlink_table.proofs.Names.{empty_block, bare_grid}
+use Rattle.hashlink_table.proofs.Names.{◌≡◌, ◌++◌, ◌/◌, List, length, ap, arith, ◌∙◌, replicate, Record}
+use Rattle.hashlink_table.proofs.Names.{empty_record, bare_grid}
 use Rattle.hashlink_table.proofs.{Grids.{slots_long, stores-bare, Stores}}
 use Rattle.hashlink_table.proofs.store.slots.Slots.clear.Given as given
 use Rattle.hashlink_table.proofs.store.slots.Slots.clear.Goals.{After-fill}
@@ -15,8 +15,8 @@ cleared g c =
     let count : c.len-count.result ≡ n / 16 = omega (arith, c.len-count.ensures, t.groups.ok.0, long.groups)
     in
     rw (
-      c.add_groups.ensures ∙ ap (λ (bs : List Block). bs ++ replicate c.len-count.result empty_block)
-          c.clear.ensures.items ∙ ap (λ k. replicate k empty_block) count,
+      c.add_groups.ensures ∙ ap (λ (bs : List Record). bs ++ replicate c.len-count.result empty_record)
+          c.clear.ensures.items ∙ ap (λ k. replicate k empty_record) count,
       c.fill.ensures.items (λ y e. e),
     )
     (stores-bare t.nodes.items n _ long.nodes (omega (arith, t.rests.ok.0, long.rests)) (omega (

@@ -1,12 +1,12 @@
 use Rattle.hashlink_table.proofs.Names.{◌++◌, ◌/◌, List, length, ap, refl, ◌∙◌, length-replicate, replicate}
-use Rattle.hashlink_table.proofs.Names.{Block, empty_block}
+use Rattle.hashlink_table.proofs.Names.{Record, empty_record}
 use Rattle.hashlink_table.proofs.Grids.{stores-bare}
 use Rattle.hashlink_table.proofs.store.slots.Slots.with_cells.Goals as goal
 
 pub invariant_of-result : goal.invariant_of-result
 invariant_of-result g c =
     rw (
-      c.add_groups.ensures ∙ ap (λ (bs : List Block). bs ++ replicate (c.args.count / 16) empty_block)
+      c.add_groups.ensures ∙ ap (λ (bs : List Record). bs ++ replicate (c.args.count / 16) empty_record)
           c.in_ok-groups.ensures.items,
       c.in_ok-rests.ensures,
     )
@@ -16,7 +16,7 @@ invariant_of-result g c =
 pub returns : goal.returns
 returns g c =
     rw (
-      c.add_groups.ensures ∙ ap (λ (bs : List Block). bs ++ replicate (c.args.count / 16) empty_block)
+      c.add_groups.ensures ∙ ap (λ (bs : List Record). bs ++ replicate (c.args.count / 16) empty_record)
           c.in_ok-groups.ensures.items,
       c.in_ok-rests.ensures,
     )

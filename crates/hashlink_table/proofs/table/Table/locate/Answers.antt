@@ -1,5 +1,6 @@
+use Rattle.std.proofs.lemmas.Option.{IfSome_then}
 use Rattle.hashlink_table.proofs.{Nodes.contains-at, Views.{can_ask, no_cost, search_cost}}
-use Rattle.hashlink_table.proofs.table.Table.find.Goals as goal
+use Rattle.hashlink_table.proofs.table.Table.locate.Goals as goal
 
 pub seek-requires-clause-arranged : goal.seek-requires-clause-arranged
 seek-requires-clause-arranged g c = c.self.invariant.arranged
@@ -12,23 +13,16 @@ pub seek-requires-clause-telling : goal.seek-requires-clause-telling
 seek-requires-clause-telling g c =
     λ h node there. c.requires.telling h node (rw (← c.self.view_is) there)
 
-pub returns-in-None-clause-none : goal.returns-in-None-clause-none
-returns-in-None-clause-none g c = rw (← c.self.view_is) c.in-None.ensures.none
+pub returns-clause-none : goal.returns-clause-none
+returns-clause-none g c = rw (← c.self.view_is) c.seek.ensures.none
 
-pub returns-in-None-clause-cost : goal.returns-in-None-clause-cost
-returns-in-None-clause-cost g c =
-    search_cost c.self.invariant c.self.view_is c.args.hash _ _ c.if-self-eq0.false c.seek.ensures.cost
+pub returns-clause-found : goal.returns-clause-found
+returns-clause-found g c =
+    rw (← c.self.view_is) (IfSome_then c.seek.result c.seek.ensures.found (λ f found.
+    (contains-at c.self.inside.slots.cells f.slot _ found.0, found.1)))
 
-pub returns-in-Some-clause-found : goal.returns-in-Some-clause-found
-returns-in-Some-clause-found g c =
-    let found = c.in-Some.ensures.found in (
-      rw (← c.self.view_is) (contains-at c.self.inside.slots.cells
-          c.in-Some.found.at _ found.0),
-      found.1,
-    )
-
-pub returns-in-Some-clause-cost : goal.returns-in-Some-clause-cost
-returns-in-Some-clause-cost g c =
+pub returns-clause-cost : goal.returns-clause-cost
+returns-clause-cost g c =
     search_cost c.self.invariant c.self.view_is c.args.hash _ _ c.if-self-eq0.false c.seek.ensures.cost
 
 pub returns-then-self-eq0-clause-cost : goal.returns-then-self-eq0-clause-cost

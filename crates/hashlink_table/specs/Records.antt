@@ -4,7 +4,7 @@ use Rattle.std.specs.{Int.{bit_at}, List.{range_with_len}}
 use Rattle.hashlink_table.specs.declared.store.{head.Head.Head, mark.Mark.Mark}
 
 -- a group as contracts see it: the marks of its slots, and its chain
-pub record Block : Type 0 where
+pub record Record : Type 0 where
   pub marks : List Mark
   pub head : Head
 
@@ -13,8 +13,8 @@ abbrev pub mark_of : List ℕ → ℕ → ℕ → ℕ → Mark
 mark_of tags owns guests j =
     record { tag = slice_index tags j; own = bit_at owns j == 1; guest = bit_at guests j == 1 }
 
-abbrev pub block_of : List ℕ → ℕ → ℕ → ℕ → ℕ → Block
-block_of tags owns guests first mask = record {
+abbrev pub record_of : List ℕ → ℕ → ℕ → ℕ → ℕ → Record
+record_of tags owns guests first mask = record {
   marks = map (mark_of tags owns guests) (range_with_len 0 16);
   head = record { first = first; mask = mask };
 }
@@ -41,9 +41,9 @@ abbrev pub has_guest : ℕ → Mark → Bool
 has_guest tag m = cond (is_guest m) (m.tag == tag) false
 
 -- the marks of the slots of all groups, and the chains of all groups
-abbrev pub marks_in : List Block → List Mark
+abbrev pub marks_in : List Record → List Mark
 marks_in [] = []
 marks_in (b ∷ bs) = b.marks ++ marks_in bs
 
-abbrev pub heads_in : List Block → List Head
+abbrev pub heads_in : List Record → List Head
 heads_in bs = map (λ b. b.head) bs

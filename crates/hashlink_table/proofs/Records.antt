@@ -5,7 +5,7 @@ use Rattle.hashlink_table.proofs.Names.{eqb, List, map, length, get_or, set, max
 use Rattle.hashlink_table.proofs.Names.{cases_eq, set-get_or}
 use Rattle.hashlink_table.proofs.Names.{get_or-set_same, get_or-set_other, get_or-map, length-map, length-set}
 use Rattle.hashlink_table.proofs.Names.{bit_and, bit_at, mask_l}
-use Rattle.hashlink_table.specs.Blocks.{has_own, is_free, is_taken, mark_of, free_mark}
+use Rattle.hashlink_table.specs.Records.{has_own, is_free, is_taken, mark_of, free_mark}
 use Rattle.hashlink_table.specs.declared.store.mark.Mark.{Mark}
 use Rattle.std.specs.{List.range_with_len, Prelude.{bit_or, min}}
 use Rattle.std.proofs.Common.{w16}
