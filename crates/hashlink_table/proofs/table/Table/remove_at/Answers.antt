@@ -1,4 +1,4 @@
-use Rattle.hashlink_table.proofs.Names.{◌∷◌, ◌≡◌, ℕ, arith, length_permutation, subst, IsPermutation}
+use Rattle.hashlink_table.proofs.Names.{◌∷◌, ◌≡◌, ℕ, ap, arith, length_permutation, subst, IsPermutation}
 use Rattle.hashlink_table.proofs.Names.{Contents, nodes_in}
 use Rattle.hashlink_table.proofs.{Linking.{own_kept}, Nodes.contains-at, Sound.sound-take}
 use Rattle.hashlink_table.proofs.table.Table.remove_at.Given as given
@@ -32,14 +32,19 @@ invariant_of-self g c =
     sound-take c.take.new.slots.cells c.take.new.slots.heads _ c.self.invariant c.take.ensures.len
     c.take.ensures.arranged (gone g (goal.at.invariant_of-self g c).After-take)
 
-pub returns-then-is_match-clause-removed : goal.returns-then-is_match-clause-removed
-returns-then-is_match-clause-removed g c = (
-  subst (λ (u : Contents g.row.N.Denot). IsPermutation u.nodes
-      (record { hash = c.args.hash; node = c.in-Some.node } ∷ nodes_in c.take.new.slots.cells))
-      c.self.view_is
-      (gone g (goal.at.returns-then-is_match-clause-removed g c).After-take),
-  c.if-is_match.ensures,
-)
+pub returns-then-is_match : goal.returns-then-is_match
+returns-then-is_match g c = record {
+  removed = (
+    subst (λ (u : Contents g.row.N.Denot). IsPermutation u.nodes
+        (record { hash = c.args.hash; node = c.in-Some.node } ∷ nodes_in c.take.new.slots.cells))
+        c.self.view_is
+        (gone g (goal.at.returns-then-is_match g c).After-take),
+    c.if-is_match.ensures,
+  );
+  none = tt;
+  unchanged = tt;
+  room = ap (λ (u : Contents g.row.N.Denot). u.room) c.self.view_is;
+}
 
 pub remove_elsewhere-requires-clause-callable : goal.remove_elsewhere-requires-clause-callable
 remove_elsewhere-requires-clause-callable g c h node there _ = c.requires.callable h node there

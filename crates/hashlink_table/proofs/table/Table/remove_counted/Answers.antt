@@ -1,6 +1,6 @@
 use Rattle.hashlink_table.proofs.table.Table.remove_counted.Given as given
 use Rattle.hashlink_table.proofs.table.Table.remove_counted.Goals as goal
-use Rattle.hashlink_table.proofs.Names.{◌∷◌, subst, IsPermutation, Contents}
+use Rattle.hashlink_table.proofs.Names.{◌∷◌, ap, refl, subst, IsPermutation, Contents}
 use Rattle.hashlink_table.proofs.{Names.nodes_in, Sound.sound-take, Views.{can_ask, no_cost, search_cost}}
 use Rattle.hashlink_table.proofs.table.Table.remove_counted.Goals.{After-take}
 
@@ -15,8 +15,13 @@ pub seek-requires-clause-telling : goal.seek-requires-clause-telling
 seek-requires-clause-telling g c =
     λ h node there. c.requires.telling h node (rw (← c.self.view_is) there)
 
-pub returns-in-None-clause-none : goal.returns-in-None-clause-none
-returns-in-None-clause-none g c = rw (← c.self.view_is) c.in-None.ensures.none
+pub returns-in-None-clause-removes : goal.returns-in-None-clause-removes
+returns-in-None-clause-removes g c = record {
+  removed = tt;
+  none = rw (← c.self.view_is) c.in-None.ensures.none;
+  unchanged = refl;
+  room = refl;
+}
 
 pub returns-in-None-clause-cost : goal.returns-in-None-clause-cost
 returns-in-None-clause-cost g c =
@@ -36,14 +41,19 @@ invariant_of-self g c =
     sound-take c.take.new.slots.cells c.take.new.slots.heads _ c.self.invariant c.take.ensures.len
     c.take.ensures.arranged (gone g (goal.at.invariant_of-self g c).After-take)
 
-pub returns-in-Some-clause-removed : goal.returns-in-Some-clause-removed
-returns-in-Some-clause-removed g c = (
-  subst (λ (u : Contents g.row.N.Denot). IsPermutation u.nodes
-      (record { hash = c.args.hash; node = c.in-Some.found.node } ∷ nodes_in c.take.new.slots.cells))
-      c.self.view_is
-      (gone g (goal.at.returns-in-Some-clause-removed g c).After-take),
-  c.in-Some.ensures.found.1,
-)
+pub returns-in-Some-clause-removes : goal.returns-in-Some-clause-removes
+returns-in-Some-clause-removes g c = record {
+  removed = (
+    subst (λ (u : Contents g.row.N.Denot). IsPermutation u.nodes
+        (record { hash = c.args.hash; node = c.in-Some.found.node } ∷ nodes_in c.take.new.slots.cells))
+        c.self.view_is
+        (gone g (goal.at.returns-in-Some-clause-removes g c).After-take),
+    c.in-Some.ensures.found.1,
+  );
+  none = tt;
+  unchanged = tt;
+  room = ap (λ (u : Contents g.row.N.Denot). u.room) c.self.view_is;
+}
 
 pub returns-in-Some-clause-cost : goal.returns-in-Some-clause-cost
 returns-in-Some-clause-cost g c =
