@@ -182,27 +182,31 @@ impl<N: Copy> Table<N> {
         if self.len == 0 {
             return None;
         }
-        match search::seek(&self.slots, hash, is_match, steps) {
-            None => None,
-            Some(found) => {
-                removal::take(&mut self.slots, found.slot);
-                self.len -= 1;
-                Some(found.node)
-            }
-        }
+        let found = search::seek(&self.slots, hash, is_match, steps)?;
+        removal::take(&mut self.slots, found.slot);
+        self.len -= 1;
+        Some(found.node)
     }
 
-    /// Does the same as `remove`, but looks first at `slot`, which may be any number. If a search found the
-    /// node there, and the node has not moved since, there is no second search.
+    /// Does the same as `remove`, but looks first at `slot`, if there is one. It may be any number. If a
+    /// search found the node there, and the node has not moved since, there is no second search.
     #[inline(always)]
-    pub fn remove_at<F: Fn(N) -> bool>(&mut self, slot: usize, hash: u32, is_match: F) -> Option<N>
+    pub fn remove_at<F: Fn(N) -> bool>(
+        &mut self,
+        slot: Option<usize>,
+        hash: u32,
+        is_match: F,
+    ) -> Option<N>
         requires callable { (h : ℕ) (node : N) → Keeps self.old h node → F.pre is_match node }
         requires telling { AcceptsOnly self.old hash (λ node. F.post is_match node true) }
         ensures { Removes self.old self.new hash (F.post is_match) result }
     {
-        if let Some(node) = self.slots.own_node(slot) {
+        let Some(at) = slot else {
+            return self.remove(hash, is_match);
+        };
+        if let Some(node) = self.slots.own_node(at) {
             if is_match(node) {
-                removal::take(&mut self.slots, slot);
+                removal::take(&mut self.slots, at);
                 self.len -= 1;
                 return Some(node);
             }
@@ -211,6 +215,7 @@ impl<N: Copy> Table<N> {
     }
 
     // `remove`, out of line.
+    #[cold]
     #[inline(never)]
     fn remove_elsewhere<F: Fn(N) -> bool>(&mut self, hash: u32, is_match: F) -> Option<N>
         requires callable { CanAsk self.old hash (λ node. F.pre is_match node) }
