@@ -146,7 +146,7 @@ impl<K: Eq + Hash, V, S: BuildHasher> LinkedHashMap<K, V, S> {
             (place_number self.old.nodes (Some (N.node node))) result }
         ensures distinct { IsEntries K.eq (entries_of self.old) }
     {
-        self.list.remove(node.as_node(), slot)
+        self.list.remove(node.as_node(), Some(slot))
     }
 
     /// Inserts a pair at the back. Its key has to be absent, and `hash` has to be the key's hash.

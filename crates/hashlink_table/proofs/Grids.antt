@@ -10,8 +10,9 @@ use Names.{length-set, length-map, map-set_same}
 use Names.{Record, Cell, Grid, Mark, Rest, AreSlots, cells_in, empty_record, free_mark, grid_in}
 use Names.{heads_in}
 use Names.{marks_in, no_guests}
+use Names.{cleared}
 use Names.{Head, Hashed, END, Bool, true, false, bare_grid, map-set, tag_of, with_kept, with_guest}
-use Rattle.hashlink_table.proofs.Storing.{AreCells, bare, bare_cells, sizes, put_in, guest_put_in}
+use Rattle.hashlink_table.proofs.Storing.{AreCells, bare, bare_cells, emptied_all, sizes, put_in, guest_put_in}
 use Rattle.std.proofs.lemmas.{List.{same_lists, replicate-append-replicate}, List.Elements.{All-replicate}}
 
 abbrev pub AreEven : List Record → Type 0
@@ -207,6 +208,14 @@ module _ {N : Type 0} {bs : List Record} {ns : List N} {rs : List Rest} {o : Gri
     omega (arith, low, long.nodes),
     omega (arith, low, long.rests),
   )
+
+  -- no slot has a node any more
+  pub stores-cleared : Stores (replicate (length o.cells / 16) empty_record) ns rs (cleared o)
+  stores-cleared =
+      let groups = length o.cells / 16 in
+      let all : 16 * groups ≡ length o.cells = omega (arith, slots_long.groups) in
+      stores (empty_even groups)
+      (rw (marks-empty groups) (emptied_all h.tagged cells_are (16 * groups) all)) (heads-empty groups)
 
   -- a mark is set
   pub stores-mark : (i : ℕ) (m : Mark) (e b : Record) {ms : List N} {ds : List Rest} {v : List (Cell N)}

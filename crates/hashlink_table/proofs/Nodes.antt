@@ -6,7 +6,7 @@ use Names.{refl, sym, ap, ◌∙◌, subst}
 use Names.{arith, Contains}
 use Names.{IsPermutation, take_more, take-append-drop, length-append, IsPermutation-refl, IsPermutation-trans}
 use Names.{IsPermutation-cons, IsPermutation-middle, IsPermutation-to_front, Hashed, Cell, kept_at, stored_in}
-use Names.{with_node, nodes_in, SameNodes, bare_cell, append-nil}
+use Names.{with_node, nodes_in, SameNodes, bare_cell, append-nil, emptied, map}
 
 module _ {N : Type 0} where
   -- two nodes may change places
@@ -82,6 +82,10 @@ module _ {N : Type 0} where
   pub nodes_in-bare : (n : ℕ) → nodes_in (replicate n (bare_cell {N = N})) ≡ []
   nodes_in-bare zero = refl
   nodes_in-bare (suc n) = nodes_in-bare n
+
+  pub nodes_in-emptied : (cells : List (Cell N)) → nodes_in (map emptied cells) ≡ []
+  nodes_in-emptied [] = refl
+  nodes_in-emptied (c ∷ cs) = nodes_in-emptied cs
 
   -- if each cell has a node, there are as many nodes as cells
   pub nodes_in-full : (cells : List (Cell N)) → ((i : ℕ) → i < length cells → is_some (kept_at cells i)

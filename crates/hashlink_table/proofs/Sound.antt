@@ -1,14 +1,13 @@
 -- The fields of a table agree.
 use Rattle.hashlink_table.proofs.Names
 use Names.{◌≡◌, ℕ, zero, suc, ◌+◌, ◌-◌, ◌/◌, ◌<◌, ◌≤◌, List, [], ◌∷◌, length}
-use Names.{get_or}
 use Names.{replicate, None, refl, sym, ap, ◌∙◌, arith, IsPermutation}
 use Names.{length-replicate, length-map, length_permutation, Hashed, Cell, Head, END}
-use Names.{guest_at}
-use Names.{own_of, guest_of, chain_of, chain_at, links_of, first_at, nodes_in, contents, AreSizes, IsArranged}
+use Names.{Bool, Option, cell_at, cond, emptied, false, guest_at, map, own_at}
+use Names.{chain_of, chain_at, links_of, first_at, nodes_in, contents, AreSizes, IsArranged}
 use Names.{IsSound}
 use Names.{IsLinked, bare_cell, no_guests, Contents}
-use Rattle.hashlink_table.proofs.Nodes.{nodes_in-bare}
+use Rattle.hashlink_table.proofs.Nodes.{nodes_in-emptied}
 
 -- no chain has a guest
 pub first-none : (n b : ℕ) → first_at (replicate n no_guests) b ≡ END
@@ -16,11 +15,20 @@ first-none zero b = refl
 first-none (suc n) zero = refl
 first-none (suc n) (suc b) = first-none n b
 
--- a bare cell reads like a cell past the last one
-bare_read : (N : Type 0) (n i : ℕ) → get_or (replicate n (bare_cell {N = N})) i bare_cell ≡ bare_cell
-bare_read N zero i = refl
-bare_read N (suc n) zero = refl
-bare_read N (suc n) (suc i) = bare_read N n i
+-- no cell has a node
+abbrev AreFree : {N : Type 0} → List (Cell N) → Type 0
+AreFree slots = (i : ℕ) → cell_at slots i ≡ (None, false)
+
+-- n bare cells have none, and cells that lost theirs
+free-bare : (N : Type 0) (n : ℕ) → AreFree (replicate n (bare_cell {N = N}))
+free-bare N zero i = refl
+free-bare N (suc n) zero = refl
+free-bare N (suc n) (suc i) = free-bare N n i
+
+free-emptied : {N : Type 0} (slots : List (Cell N)) → AreFree (map emptied slots)
+free-emptied [] i = refl
+free-emptied (c ∷ cs) zero = refl
+free-emptied (c ∷ cs) (suc i) = free-emptied cs i
 
 module _ {N : Type 0} where
   -- the chains of slots without guests are empty
@@ -50,27 +58,52 @@ module _ {N : Type 0} where
       }
 
   -- slots without nodes
+  arranged-free : (slots : List (Cell N)) (h : ℕ) → AreFree slots → h ≡ length slots / 16
+      → IsArranged slots (replicate h no_guests)
+  arranged-free slots h free paired =
+      let guest : (i : ℕ) → guest_at slots i ≡ None
+      = λ i. ap (λ (w : Option (Hashed N) × Bool). cond w.1 w.0 None) (free i) in
+      let own : (i : ℕ) → own_at slots i ≡ None
+      = λ i. ap (λ (w : Option (Hashed N) × Bool). cond w.1 None w.0) (free i) in
+      record {
+        linked = linked-none slots h (omega (arith, paired)) guest;
+        in_place = λ at k is. absurd (cc (sym (own at) ∙ is));
+        covered = λ at k is. absurd (cc (sym (guest at) ∙ is));
+        paired = length-replicate h no_guests ∙ paired;
+      }
+
   pub arranged-bare : (n h : ℕ) → h ≡ n / 16
       → IsArranged (replicate n (bare_cell {N = N})) (replicate h no_guests)
   arranged-bare n h paired =
-      let long = length-replicate n (bare_cell {N = N}) in
-      record {
-        linked =
-            linked-none (replicate n bare_cell) h (omega (arith, long, paired))
-            (λ i. rw (bare_read N n i) refl);
-        in_place = λ at k is. absurd (cc (sym (ap (λ (c : Cell N). own_of c) (bare_read N n at)) ∙ is));
-        covered = λ at k is. absurd (cc (sym (ap (λ (c : Cell N). guest_of c) (bare_read N n at)) ∙ is));
-        paired = omega (arith, length-replicate h no_guests, long, paired);
-      }
+      arranged-free (replicate n bare_cell) h (free-bare N n)
+      (omega (arith, paired, length-replicate n (bare_cell {N = N})))
 
-  pub sound-bare : (n h room : ℕ) → h ≡ n / 16 → AreSizes n room
-      → IsSound (replicate n (bare_cell {N = N})) (replicate h no_guests) 0 room
-  sound-bare n h room paired sizes = record {
-    arranged = arranged-bare n h paired;
-    sizes = rw (length-replicate n (bare_cell {N = N})) sizes;
-    counted = rw (nodes_in-bare {N = N} n) refl;
+  pub sound-new : IsSound {N = N} [] [] 0 0
+  sound-new = record {
+    arranged = arranged-bare 0 0 refl;
+    sizes = record {
+      headed = omega arith;
+      bounded = omega arith;
+      none = λ _. refl;
+      small = omega arith;
+      masked = λ h. absurd (omega (arith, h));
+      whole = omega arith;
+    };
+    counted = refl;
     held = omega arith;
   }
+
+  pub sound-cleared : {slots : List (Cell N)} {heads : List Head} {len room : ℕ}
+      → IsSound slots heads len room
+      → IsSound (map emptied slots) (replicate (length slots / 16) no_guests) 0 room
+  sound-cleared {slots} s =
+      let long = length-map slots (emptied {N = N}) in
+      record {
+        arranged = arranged-free (map emptied slots) _ (free-emptied slots) (omega (arith, long));
+        sizes = rw long s.sizes;
+        counted = rw (nodes_in-emptied slots) refl;
+        held = omega arith;
+      }
 
   -- the same nodes in other slots, with another room
   pub sound-resized : {slots : List (Cell N)} {heads : List Head} {len room : ℕ} (later : List (Cell N))
@@ -112,8 +145,8 @@ module _ {N : Type 0} where
   }
 
 -- a contract sees no nodes of it
-pub contents-bare : (N : Type 0) (n room : ℕ)
-    → contents (replicate n (bare_cell {N = N})) room ≡ record { nodes = []; room = room }
-contents-bare N n room = ap (λ (ks : List (Hashed N)). let t : Contents N = record { nodes = ks; room = room }
-    in t)
-    (nodes_in-bare {N = N} n)
+pub contents-cleared : {N : Type 0} (slots : List (Cell N)) (room : ℕ)
+    → contents (map emptied slots) room ≡ record { nodes = []; room = room }
+contents-cleared {N} slots room =
+    ap (λ (ks : List (Hashed N)). let t : Contents N = record { nodes = ks; room = room } in t)
+    (nodes_in-emptied slots)

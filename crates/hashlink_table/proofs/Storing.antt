@@ -12,7 +12,8 @@ use Names.{bare_cell, tag_of, slot, cells_in, may_be, kept_may_be, with_guest, w
 use Names.{without_kept, IsStored, IsTagged, Row, Mark, free_mark, has_guest, has_own, is_free}
 use Names.{is_guest}
 use Names.{is_taken}
-use Rattle.std.specs.{Prelude.IsSome, Simd.Lanes.mask_l}
+use Names.{emptied, same_Some, some_kept}
+use Rattle.std.specs.{Prelude.IsSome, Option.option_map, Simd.Lanes.mask_l}
 
 -- what a bare slot stores besides its node
 abbrev pub bare : Rest
@@ -86,23 +87,26 @@ taken_guest m taken =
 pub own_found : {N : Type 0} (m : Mark) (c : Cell N) (n : N) → not m.own ≡ false → is_guest m ≡ c.guest
     → is_taken m ≡ is_some c.kept
     → (IsSome (own_of c) → IfSome (own_of c) (λ k. k.node ≡ n))
-    → (hash : ℕ) × (own_of c ≡ Some (record { hash = hash; node = n }))
+    → option_map (λ k. k.node) (own_of c) ≡ Some n
 own_found {N} m c n own guest there read =
     elim m.own as (λ own. not own ≡ false → cond own false m.guest ≡ c.guest
-    → cond own true m.guest ≡ is_some c.kept → (hash : ℕ) × (own_of c ≡ Some (at hash n))) [
+    → cond own true m.guest ≡ is_some c.kept → option_map (λ k. k.node) (own_of c) ≡ Some n) [
       | true ↦ λ _ e t. by c.guest c.kept e t read
       | false ↦ λ e. absurd (false≢true (sym e))
     ] own guest there
   where
-    at : ℕ → N → Hashed N
-    at hash node = record { hash = hash; node = node }
-
     by : (b : Bool) (o : Option (Hashed N)) → false ≡ b → true ≡ is_some o
         → (IsSome (cond b None o) → IfSome (cond b None o) (λ k. k.node ≡ n))
-        → (hash : ℕ) × (cond b None o ≡ Some (at hash n))
+        → option_map (λ (k : Hashed N). k.node) (cond b None o) ≡ Some n
     by true o e t read = absurd (false≢true e)
     by false None e t read = absurd (false≢true (sym t))
-    by false (Some k) e t read = (k.hash, ap (λ m. Some (at k.hash m)) (read refl))
+    by false (Some k) e t read = ap (λ m. Some m) (read refl)
+
+-- the hash of the node that a cell has
+pub own_hash : {N : Type 0} (o : Option (Hashed N)) (n : N) → option_map (λ k. k.node) o ≡ Some n
+    → (hash : ℕ) × (o ≡ some_kept hash n)
+own_hash None n is = absurd (cc is)
+own_hash (Some k) n is = (k.hash, ap (some_kept k.hash) (same_Some _ _ is))
 
 -- the node for which this is stored, if there is one
 abbrev pub node_of : {N : Type 0} → Row N → Hashed N
@@ -189,6 +193,21 @@ module _ {N : Type 0} {ts : List Mark} {ns : List N} {rs : List Rest} {v : List 
       part : {X : Type 0} (f : Row N → X) (xs ys : List X) → xs ≡ map f h.rows → ys ≡ set xs i (f row)
           → ys ≡ map f (set h.rows i row)
       part f xs ys is to = cc (map-set f h.rows i row)
+
+  -- all cells lose their nodes
+  pub emptied_all : (n : ℕ) → n ≡ length v → AreCells (replicate n free_mark) ns rs (map emptied v)
+  emptied_all n is =
+      let bare_row : Row N → Row N = λ row. record row { mark = free_mark } in
+      by_rows (map bare_row h.rows) _ _ _ _
+      (All-map IsStored bare_row h.rows (λ k d low. record {
+        tagged = λ e. absurd (false≢true e);
+        small = (All-get_or IsStored h.rows k d low h.stored).small;
+      }))
+      (splat_is_map h.rows n free_mark (sym (is ∙ ap length cells ∙ length-map h.rows slot))
+      ∙ sym (map-map (λ (r : Row N). r.mark) bare_row h.rows))
+      (h.nodes ∙ sym (map-map (λ (r : Row N). r.node) bare_row h.rows))
+      (h.rests ∙ sym (map-map (λ (r : Row N). r.rest) bare_row h.rows))
+      (ap (map emptied) cells ∙ map-map emptied slot h.rows ∙ sym (map-map slot bare_row h.rows))
 
   -- the cell at i
   module _ (i : ℕ) (low : i < length v) where

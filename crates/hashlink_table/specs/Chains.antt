@@ -1,6 +1,6 @@
 -- How a `Table` keeps nodes in its slots, and chains guests. No public clause uses this module.
 use Rattle.std.specs.Prelude.{◌≡◌, ◌≢◌, ℕ, ◌*◌, ◌/◌, ◌%◌, ◌^◌, ◌<◌, ◌≤◌, Bool, cond, List, [], ◌∷◌, map}
-use Rattle.std.specs.Prelude.{length, max, Option, Some, None, slice_index_or}
+use Rattle.std.specs.Prelude.{Contains, length, max, Option, Some, None, slice_index_or}
 use Rattle.std.specs.Int.{IsPowerOfTwo, bit_at}
 use Rattle.hashlink_table.specs.{Contents.Contents, declared.hashed.Hashed.Hashed}
 use Rattle.hashlink_table.specs.Stored.{bare_cell, no_guests, mask_bit_of}
@@ -48,6 +48,13 @@ module _ {N : Type 0} where
   abbrev pub nodes_in : List (Cell N) → List (Hashed N)
   nodes_in [] = []
   nodes_in (c ∷ cs) = with_node c.kept (nodes_in cs)
+
+  -- a node under its hash, as a slot has it; and one of these cells has it
+  abbrev pub some_kept : ℕ → N → Option (Hashed N)
+  some_kept hash node = Some (record { hash = hash; node = node })
+
+  abbrev pub HasNode : List (Cell N) → ℕ → N → Type 0
+  HasNode cells hash node = Contains (nodes_in cells) (record { hash = hash; node = node })
 
   -- a table with these slots, as a contract sees it
   abbrev pub contents : List (Cell N) → ℕ → Contents N

@@ -1,5 +1,6 @@
 -- A `Table`, as contracts see it.
-use Rattle.std.specs.Prelude.{◌≡◌, ◌⊎◌, ℕ, ◌*◌, ◌%◌, ◌≤◌, ◌==◌, List, length, count_by, Contains, refl}
+use Rattle.std.specs.Prelude.{◌≡◌, ◌⊎◌, ℕ, ◌*◌, ◌%◌, ◌≤◌, ◌==◌, List, ◌∷◌, length, count_by, Contains, refl}
+use Rattle.std.specs.Prelude.{Bool, false, true, Option, IfNone, IfSome, IsPermutation}
 use Rattle.std.specs.{Int.IsPowerOfTwo, Coded.{Coded, code_by, coded×, coded_ℕ, coded_list}}
 use Rattle.hashlink_table.specs.declared.hashed.Hashed.{Hashed}
 
@@ -54,6 +55,20 @@ module _ {N : Type 0} where
 
   abbrev pub AcceptsOnly : Contents N → ℕ → (N → Type 0) → Type 0
   AcceptsOnly t hash accepted = (h : ℕ) (node : N) → Keeps t h node → accepted node → h ≡ hash
+
+  -- this holds for each node of this hash
+  abbrev pub EachKept : Contents N → ℕ → (N → Type 0) → Type 0
+  EachKept t hash holds = (node : N) → Keeps t hash node → holds node
+
+  -- a node of this hash that is accepted is removed and returned; or else each of this hash is refused, and
+  -- nothing changes
+  pub record Removes (old new : Contents N) (hash : ℕ) (answers : N → Bool → Type 0) (result : Option N)
+      : Type 0 where
+    pub removed : IfSome result (λ node.
+        IsPermutation old.nodes (record { hash = hash; node = node } ∷ new.nodes) × answers node true)
+    pub none : IfNone result (EachKept old hash (λ node. answers node false))
+    pub unchanged : IfNone result (new ≡ old)
+    pub room : new.room ≡ old.room
 
   -- the number of nodes
   abbrev pub len_of : Contents N → ℕ

@@ -86,6 +86,13 @@ module _ {N : Type 0} where
   abbrev pub bare_grid : ℕ → Grid N
   bare_grid n = record { cells = replicate n bare_cell; heads = replicate (n / 16) no_guests }
 
+  -- a cell without its node, and all slots without their nodes
+  abbrev pub emptied : Cell N → Cell N
+  emptied c = record c { kept = None; guest = false }
+
+  abbrev pub cleared : Grid N → Grid N
+  cleared g = record { cells = map emptied g.cells; heads = replicate (length g.cells / 16) no_guests }
+
 -- a group without nodes
 abbrev pub empty_record : Record
 empty_record = record { marks = replicate 16 free_mark; head = no_guests }

@@ -1,11 +1,10 @@
 //! Searches. They read a node only by `look` and `look_at_guest`, which count it.
-ghost use Rattle.std.specs.Prelude.{◌≡◌, ℕ, ◌+◌, ◌%◌, ◌/◌, ◌<◌, ◌≤◌, ◌==◌, Contains, IfNone, IfSome, Some};
+ghost use Rattle.std.specs.Prelude.{◌≡◌, ℕ, ◌+◌, ◌%◌, ◌/◌, ◌<◌, ◌≤◌, ◌==◌, IfNone, IfSome, Some};
 ghost use Rattle.std.specs.{Prelude.{count_by, false, length, true}, Int.IsPowerOfTwo};
 ghost use Rattle.hashlink_table.specs.{declared.hashed.Hashed.Hashed, Stored.tag_of};
 ghost use Rattle.hashlink_table.specs.Slots.{lanes_of, may_be};
 ghost use Rattle.hashlink_table.specs.Chains.{bucket_in, first_at, guest_at, guest_of, kept_at, nodes_in};
-ghost use Rattle.hashlink_table.specs.Chains.{own_at};
-ghost use Rattle.hashlink_table.specs.Chains.{IsArranged, IsLinked};
+ghost use Rattle.hashlink_table.specs.Chains.{own_at, some_kept, HasNode, IsArranged, IsLinked};
 
 use super::steps::Steps;
 use super::store::bucket::base_of;
@@ -40,13 +39,10 @@ fn seek_slots<N: Copy, F: Fn(N) -> bool, L: Ledger>(
         → F.pre is_match.now kept.node }
     requires telling { (at : ℕ) (kept : Hashed N) → own_at slots.now.cells at ≡ Some kept
         → F.post is_match.now kept.node true → kept.hash ≡ hash }
-    ensures found { IfSome result
-        (λ f. (own_at slots.now.cells f.slot ≡ Some (record { hash = hash; node = f.node }))
+    ensures found { IfSome result (λ f. (own_at slots.now.cells f.slot ≡ some_kept hash f.node)
         × F.post is_match.now f.node true) }
-    ensures none { IfNone result
-        ((at : ℕ) (node : N) → base ≤ at → at < base + LANES
-        → own_at slots.now.cells at ≡ Some (record { hash = hash; node = node })
-        → F.post is_match.now node false) }
+    ensures none { IfNone result ((at : ℕ) (node : N) → base ≤ at → at < base + LANES
+        → own_at slots.now.cells at ≡ some_kept hash node → F.post is_match.now node false) }
     ensures goes_on { steps.old ≤ steps.new }
     ensures cost { steps.new ≤ steps.old + count_by (may_be hash) (lanes_of slots.now.cells base) }
 {
@@ -83,14 +79,11 @@ fn seek_guests<N: Copy, F: Fn(N) -> bool, L: Ledger>(
     requires few { length slots.now.heads ≤ length slots.now.cells }
     requires first { at.old ≡ first_at slots.now.heads (hash % length slots.now.cells / LANES) }
     requires linked { IsLinked slots.now.cells slots.now.heads }
-    requires callable { (at : ℕ) (node : N) → guest_at slots.now.cells at ≡ Some
-        (record { hash = hash; node = node })
+    requires callable { (at : ℕ) (node : N) → guest_at slots.now.cells at ≡ some_kept hash node
         → F.pre is_match node }
-    ensures found { IfSome result
-        (λ node. (guest_at slots.now.cells at.new ≡ Some (record { hash = hash; node = node }))
+    ensures found { IfSome result (λ node. (guest_at slots.now.cells at.new ≡ some_kept hash node)
         × F.post is_match node true) }
-    ensures none { IfNone result
-        ((at : ℕ) (node : N) → guest_at slots.now.cells at ≡ Some (record { hash = hash; node = node })
+    ensures none { IfNone result ((at : ℕ) (node : N) → guest_at slots.now.cells at ≡ some_kept hash node
         → F.post is_match node false) }
     ensures goes_on { steps.old ≤ steps.new }
     ensures cost { let m = length slots.now.cells in let b = hash % m in steps.new
@@ -120,19 +113,14 @@ pub fn seek<N: Copy, F: Fn(N) -> bool, L: Ledger>(
     requires masked { IsPowerOfTwo (length slots.now.cells) }
     requires whole { length slots.now.cells % LANES ≡ 0 }
     requires arranged { IsArranged slots.now.cells slots.now.heads }
-    requires callable { (h : ℕ) (node : N)
-        → Contains (nodes_in slots.now.cells) (record { hash = h; node = node })
-        → h % length slots.now.cells ≡ hash % length slots.now.cells
-        → F.pre is_match node }
-    requires telling { (h : ℕ) (node : N)
-        → Contains (nodes_in slots.now.cells) (record { hash = h; node = node })
+    requires callable { (h : ℕ) (node : N) → HasNode slots.now.cells h node
+        → h % length slots.now.cells ≡ hash % length slots.now.cells → F.pre is_match node }
+    requires telling { (h : ℕ) (node : N) → HasNode slots.now.cells h node
         → F.post is_match node true → h ≡ hash }
-    ensures found { IfSome result
-        (λ f. (kept_at slots.now.cells f.slot ≡ Some (record { hash = hash; node = f.node }))
+    ensures found { IfSome result (λ f. (kept_at slots.now.cells f.slot ≡ some_kept hash f.node)
         × F.post is_match f.node true) }
-    ensures none { IfNone result ((node : N)
-        → Contains (nodes_in slots.now.cells) (record { hash = hash; node = node })
-        → F.post is_match node false) }
+    ensures none { IfNone result
+        ((node : N) → HasNode slots.now.cells hash node → F.post is_match node false) }
     ensures goes_on { steps.old ≤ steps.new }
     ensures cost { let m = length slots.now.cells in steps.new
         ≤ steps.old + count_by (λ k. k.hash % m == hash % m) (nodes_in slots.now.cells) }
@@ -146,8 +134,6 @@ pub fn seek<N: Copy, F: Fn(N) -> bool, L: Ledger>(
         return None; // no guest of the group has the hash
     }
     let mut at = head.first as usize;
-    match seek_guests(slots, &mut at, hash, is_match, steps) {
-        None => None,
-        Some(node) => Some(FoundNode { node, slot: at }),
-    }
+    let node = seek_guests(slots, &mut at, hash, is_match, steps)?;
+    Some(FoundNode { node, slot: at })
 }

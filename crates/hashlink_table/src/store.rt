@@ -10,5 +10,4 @@ pub mod insertion;
 pub mod lanes;
 pub mod mark;
 pub mod removal;
-mod repeated;
 pub mod slots;

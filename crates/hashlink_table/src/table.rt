@@ -1,9 +1,9 @@
-ghost use Rattle.std.specs.Prelude.{◌≡◌, ℕ, ◌+◌, ◌*◌, ◌%◌, ◌^◌, ◌<◌, ◌≤◌, ◌↔◌, ◌∷◌, ◌++◌, [], false, true};
+ghost use Rattle.std.specs.Prelude.{◌≡◌, ℕ, ◌+◌, ◌*◌, ◌%◌, ◌^◌, ◌<◌, ◌≤◌, ◌↔◌, ◌∷◌, [], false, true};
 ghost use Rattle.std.specs.Prelude.{IfNone, IfOk, IfSome, IsOk, IsPermutation, OnErr, OnOk, Ok, Err};
 ghost use Rattle.std.specs.{Prelude.max, Int.IsPowerOfTwo};
 ghost use Rattle.hashlink_table.specs.declared.error.TryReserveError.TheVariants.{CapacityOverflow};
-ghost use Rattle.hashlink_table.specs.Contents.{agreeing, len_of, AcceptsOnly, AreBuckets, CanAsk, IsAmple};
-ghost use Rattle.hashlink_table.specs.Contents.{Keeps};
+ghost use Rattle.hashlink_table.specs.Contents.{agreeing, len_of, AcceptsOnly, AreBuckets, CanAsk, EachKept};
+ghost use Rattle.hashlink_table.specs.Contents.{IsAmple, Keeps, Removes};
 
 use crate::error::TryReserveError;
 use crate::hashed::Hashed;
@@ -140,13 +140,7 @@ impl<N: Copy> Table<N> {
     pub fn remove<F: Fn(N) -> bool>(&mut self, hash: u32, is_match: F) -> Option<N>
         requires callable { CanAsk self.old hash (λ node. F.pre is_match node) }
         requires telling { AcceptsOnly self.old hash (λ node. F.post is_match node true) }
-        ensures removed { IfSome result (λ node. IsPermutation self.old.nodes
-            (record { hash = hash; node = node } ∷ self.new.nodes)
-            × F.post is_match node true) }
-        ensures none { IfNone result
-            ((node : N) → Keeps self.old hash node → F.post is_match node false) }
-        ensures unchanged { IfNone result (self.new ≡ self.old) }
-        ensures room { self.new.room ≡ self.old.room }
+        ensures { Removes self.old self.new hash (F.post is_match) result }
     {
         self.remove_from::<F, Brand>(hash, is_match, Blank::new(1))
     }
@@ -164,13 +158,7 @@ impl<N: Copy> Table<N> {
         requires some_part { 0 < blank.parts }
         requires callable { CanAsk self.old hash (λ node. F.pre is_match node) }
         requires telling { AcceptsOnly self.old hash (λ node. F.post is_match node true) }
-        ensures removed { IfSome result (λ node. IsPermutation self.old.nodes
-            (record { hash = hash; node = node } ∷ self.new.nodes)
-            × F.post is_match node true) }
-        ensures none { IfNone result
-            ((node : N) → Keeps self.old hash node → F.post is_match node false) }
-        ensures unchanged { IfNone result (self.new ≡ self.old) }
-        ensures room { self.new.room ≡ self.old.room }
+        ensures { Removes self.old self.new hash (F.post is_match) result }
     {
         let mut steps = Steps::<L>::new(blank);
         self.remove_counted(hash, is_match, &mut steps)
@@ -187,46 +175,38 @@ impl<N: Copy> Table<N> {
     ) -> Option<N>
         requires callable { CanAsk self.old hash (λ node. F.pre is_match node) }
         requires telling { AcceptsOnly self.old hash (λ node. F.post is_match node true) }
-        ensures removed { IfSome result (λ node. IsPermutation self.old.nodes
-            (record { hash = hash; node = node } ∷ self.new.nodes)
-            × F.post is_match node true) }
-        ensures none { IfNone result
-            ((node : N) → Keeps self.old hash node → F.post is_match node false) }
-        ensures unchanged { IfNone result (self.new ≡ self.old) }
-        ensures room { self.new.room ≡ self.old.room }
+        ensures removes { Removes self.old self.new hash (F.post is_match) result }
         ensures goes_on { steps.old ≤ steps.new }
         ensures cost { (m : ℕ) × AreBuckets self.old m × (steps.new ≤ steps.old + agreeing self.old hash m) }
     {
         if self.len == 0 {
             return None;
         }
-        match search::seek(&self.slots, hash, is_match, steps) {
-            None => None,
-            Some(found) => {
-                removal::take(&mut self.slots, found.slot);
-                self.len -= 1;
-                Some(found.node)
-            }
-        }
+        let found = search::seek(&self.slots, hash, is_match, steps)?;
+        removal::take(&mut self.slots, found.slot);
+        self.len -= 1;
+        Some(found.node)
     }
 
-    /// Does the same as `remove`, but looks first at `slot`, which may be any number. If a search found the
-    /// node there, and the node has not moved since, there is no second search.
+    /// Does the same as `remove`, but looks first at `slot`, if there is one. It may be any number. If a
+    /// search found the node there, and the node has not moved since, there is no second search.
     #[inline(always)]
-    pub fn remove_at<F: Fn(N) -> bool>(&mut self, slot: usize, hash: u32, is_match: F) -> Option<N>
+    pub fn remove_at<F: Fn(N) -> bool>(
+        &mut self,
+        slot: Option<usize>,
+        hash: u32,
+        is_match: F,
+    ) -> Option<N>
         requires callable { (h : ℕ) (node : N) → Keeps self.old h node → F.pre is_match node }
         requires telling { AcceptsOnly self.old hash (λ node. F.post is_match node true) }
-        ensures removed { IfSome result (λ node. IsPermutation self.old.nodes
-            (record { hash = hash; node = node } ∷ self.new.nodes)
-            × F.post is_match node true) }
-        ensures none { IfNone result
-            ((node : N) → Keeps self.old hash node → F.post is_match node false) }
-        ensures unchanged { IfNone result (self.new ≡ self.old) }
-        ensures room { self.new.room ≡ self.old.room }
+        ensures { Removes self.old self.new hash (F.post is_match) result }
     {
-        if let Some(node) = self.slots.own_node(slot) {
+        let Some(at) = slot else {
+            return self.remove(hash, is_match);
+        };
+        if let Some(node) = self.slots.own_node(at) {
             if is_match(node) {
-                removal::take(&mut self.slots, slot);
+                removal::take(&mut self.slots, at);
                 self.len -= 1;
                 return Some(node);
             }
@@ -235,49 +215,22 @@ impl<N: Copy> Table<N> {
     }
 
     // `remove`, out of line.
+    #[cold]
     #[inline(never)]
     fn remove_elsewhere<F: Fn(N) -> bool>(&mut self, hash: u32, is_match: F) -> Option<N>
         requires callable { CanAsk self.old hash (λ node. F.pre is_match node) }
         requires telling { AcceptsOnly self.old hash (λ node. F.post is_match node true) }
-        ensures removed { IfSome result (λ node. IsPermutation self.old.nodes
-            (record { hash = hash; node = node } ∷ self.new.nodes)
-            × F.post is_match node true) }
-        ensures none { IfNone result
-            ((node : N) → Keeps self.old hash node → F.post is_match node false) }
-        ensures unchanged { IfNone result (self.new ≡ self.old) }
-        ensures room { self.new.room ≡ self.old.room }
+        ensures { Removes self.old self.new hash (F.post is_match) result }
     {
         self.remove(hash, is_match)
     }
 
-    /// Returns a node of this hash that matches: the first at which it looks. It looks at the nodes of the
-    /// hash's group whose tag is the hash's, and then at the group's guests of the hash's position. All of
-    /// them are of the hash's bucket. It takes a step for each. It calls `is_match` only on nodes at which it
-    /// looks; their hashes may differ from this one.
+    /// Returns a node of this hash that matches, and its slot: the first at which it looks. It looks at the
+    /// nodes of the hash's group whose tag is the hash's, and then at the group's guests of the hash's
+    /// position. All of them are of the hash's bucket. It takes a step for each. It calls `is_match` only on
+    /// nodes at which it looks; their hashes may differ from this one.
     #[inline(always)]
     pub fn find<F: Fn(N) -> bool, L: Ledger>(
-        &self,
-        hash: u32,
-        is_match: F,
-        steps: &mut Steps<L>,
-    ) -> Option<N>
-        requires callable { CanAsk self.now hash (λ node. F.pre is_match node) }
-        requires telling { AcceptsOnly self.now hash (λ node. F.post is_match node true) }
-        ensures found { IfSome result (λ node. Keeps self.now hash node × F.post is_match node true) }
-        ensures none { IfNone result
-            ((node : N) → Keeps self.now hash node → F.post is_match node false) }
-        ensures goes_on { steps.old ≤ steps.new }
-        ensures cost { (m : ℕ) × AreBuckets self.now m × (steps.new ≤ steps.old + agreeing self.now hash m) }
-    {
-        match self.locate(hash, is_match, steps) {
-            None => None,
-            Some(found) => Some(found.node),
-        }
-    }
-
-    // `find`, which returns the slot too.
-    #[inline(always)]
-    fn locate<F: Fn(N) -> bool, L: Ledger>(
         &self,
         hash: u32,
         is_match: F,
@@ -286,8 +239,7 @@ impl<N: Copy> Table<N> {
         requires callable { CanAsk self.now hash (λ node. F.pre is_match node) }
         requires telling { AcceptsOnly self.now hash (λ node. F.post is_match node true) }
         ensures found { IfSome result (λ f. Keeps self.now hash f.node × F.post is_match f.node true) }
-        ensures none { IfNone result
-            ((node : N) → Keeps self.now hash node → F.post is_match node false) }
+        ensures none { IfNone result (EachKept self.now hash (λ node. F.post is_match node false)) }
         ensures goes_on { steps.old ≤ steps.new }
         ensures cost { (m : ℕ) × AreBuckets self.now m × (steps.new ≤ steps.old + agreeing self.now hash m) }
     {
@@ -297,20 +249,18 @@ impl<N: Copy> Table<N> {
         search::seek(&self.slots, hash, is_match, steps)
     }
 
-    /// Does the same as `find`, without a counter of the caller's, and returns the slot too.
+    /// Does the same as `find`, without a counter of the caller's.
     #[inline(always)]
     pub fn look_up<F: Fn(N) -> bool>(&self, hash: u32, is_match: F) -> Option<FoundNode<N>>
         requires callable { CanAsk self.now hash (λ node. F.pre is_match node) }
         requires telling { AcceptsOnly self.now hash (λ node. F.post is_match node true) }
-        ensures found { IfSome result
-            (λ f. Keeps self.now hash f.node × F.post is_match f.node true) }
-        ensures none { IfNone result
-            ((node : N) → Keeps self.now hash node → F.post is_match node false) }
+        ensures found { IfSome result (λ f. Keeps self.now hash f.node × F.post is_match f.node true) }
+        ensures none { IfNone result (EachKept self.now hash (λ node. F.post is_match node false)) }
     {
         self.find_from::<F, Brand>(hash, is_match, Blank::new(1))
     }
 
-    // `locate`, with a counter of its own.
+    // `find`, with a counter of its own.
     #[inline(always)]
     fn find_from<F: Fn(N) -> bool, L: Ledger>(
         &self,
@@ -323,13 +273,11 @@ impl<N: Copy> Table<N> {
         requires some_part { 0 < blank.parts }
         requires callable { CanAsk self.now hash (λ node. F.pre is_match node) }
         requires telling { AcceptsOnly self.now hash (λ node. F.post is_match node true) }
-        ensures found { IfSome result
-            (λ f. Keeps self.now hash f.node × F.post is_match f.node true) }
-        ensures none { IfNone result
-            ((node : N) → Keeps self.now hash node → F.post is_match node false) }
+        ensures found { IfSome result (λ f. Keeps self.now hash f.node × F.post is_match f.node true) }
+        ensures none { IfNone result (EachKept self.now hash (λ node. F.post is_match node false)) }
     {
         let mut steps = Steps::<L>::new(blank);
-        self.locate(hash, is_match, &mut steps)
+        self.find(hash, is_match, &mut steps)
     }
 
     /// Removes every node, and keeps the room. It takes linear time in the number of slots.

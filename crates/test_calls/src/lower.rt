@@ -1,10 +1,12 @@
-//! The table, by the public names of its crate only: how many steps it takes to find each node.
+//! The table, by the public names of its crate only: how many steps it takes to find each node, and how many
+//! nodes a removal asks about that has the node's slot.
 ghost use Rattle.std.specs.Prelude.{◌≡◌, ℕ, ◌+◌, ◌<◌, ◌≤◌, IfOk};
 ghost use Rattle.hashlink_table.specs.Contents.{agreeing};
 ghost use Rattle.test_calls.specs.Telling.{Tells};
 
 use hashlink_table::{Steps, Table};
 use std::alloc::Global;
+use std::cell::Cell;
 use std::marker::Brand;
 use std::sync::ledger::{Blank, Ledger};
 use std::test::Fail;
@@ -31,9 +33,10 @@ fn find_each<L: Ledger>(table: &Table<u32>, steps: &mut Steps<L>) -> bool
 {
     let mut all = true;
     for number in 1..501u32 {
-        if table.find(number, |node| node == number, steps) != Some(number) {
-            all = false;
-        }
+        all &= match table.find(number, |node| node == number, steps) {
+            Some(found) => found.node == number,
+            None => false,
+        };
     }
     all
 }
@@ -52,5 +55,38 @@ fn count_steps<L: Ledger>(alloc: Global, blank: Blank) -> Result<bool, Fail>
 #[test]
 fn finds_each_of_500_in_1000_steps(rt: HostRuntime) -> Result<(), Fail> {
     assert!(rt; count_steps::<Brand>(rt.alloc(), Blank::new(1))?);
+    Ok(())
+}
+
+// A table of two nodes that have one hash.
+#[tactic(auto, using(std::proofs::lemmas::List::Sorted::length_permutation))]
+fn of_one_hash(alloc: Global) -> Result<Table<u32>, Fail>
+    ensures { IfOk result (Tells (λ _. 7)) }
+{
+    let mut table = Table::with_room(alloc, 0, 2)?;
+    table.insert_reserved(7, 1);
+    table.insert_reserved(7, 2);
+    Ok(table)
+}
+
+// Whether a removal of the second node asks about this node only, if it has the slot that a search found.
+fn asks_once_at_slot(table: &mut Table<u32>) -> bool
+    requires { Tells (λ _. 7) table.old }
+{
+    let slot = match table.look_up(7, |node| node == 2) {
+        Some(found) => Some(found.slot),
+        None => None,
+    };
+    let asked = Cell::new(0u32);
+    let removed = table.remove_at(slot, 7, |node| {
+        asked.set(asked.get().wrapping_add(1));
+        node == 2
+    });
+    removed == Some(2) && asked.get() == 1
+}
+
+#[test]
+fn a_removal_at_a_slot_asks_once(rt: HostRuntime) -> Result<(), Fail> {
+    assert!(rt; asks_once_at_slot(&mut of_one_hash(rt.alloc())?));
     Ok(())
 }

@@ -73,10 +73,11 @@ impl<K: Eq + Hash, V, S: BuildHasher> KeyedList<K, V, S> {
     }
 
     /// Removes the node's entry and returns it. The node is then free. It does not allocate, and stores three
-    /// links. `slot` may be any number, such as `NO_SLOT`. If a search found the node at this slot, the table
-    /// need not search again.
-    #[inline]
-    pub fn remove(&mut self, node: Node, slot: usize) -> (K, V)
+    /// links. `slot` may be any number. If a search found the node at this slot, the table need not search
+    /// again.
+    // It is inlined, so that a caller without a slot has no code for one.
+    #[inline(always)]
+    pub fn remove(&mut self, node: Node, slot: Option<usize>) -> (K, V)
         requires { Holds self.old.nodes node }
         ensures pair { slice_get (entries_of self.old) (place_number self.old.nodes (Some node))
             ≡ Some result }

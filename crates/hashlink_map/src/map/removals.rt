@@ -7,7 +7,7 @@ ghost use Rattle.hashlink_model.specs.Steps.{RemovesMatch, PopsFront, PopsBack, 
 ghost use Rattle.hashlink_core.specs.Keyed.{state_of, entries_of};
 
 use super::LinkedHashMap;
-use hashlink_core::{Equivalent, NO_SLOT};
+use hashlink_core::Equivalent;
 use std::hash::{BuildHasher, Hash};
 
 impl<K: Eq + Hash, V, S: BuildHasher> LinkedHashMap<K, V, S> {
@@ -52,7 +52,7 @@ impl<K: Eq + Hash, V, S: BuildHasher> LinkedHashMap<K, V, S> {
         ensures distinct { IsEntries K.eq (entries_of self.new) }
     {
         let node = self.list.front()?;
-        Some(self.list.remove(node, NO_SLOT))
+        Some(self.list.remove(node, None))
     }
 
     /// Removes the entry at the back, and returns it, or `None` if the map is empty. It takes constant time,
@@ -65,7 +65,7 @@ impl<K: Eq + Hash, V, S: BuildHasher> LinkedHashMap<K, V, S> {
         ensures distinct { IsEntries K.eq (entries_of self.new) }
     {
         let node = self.list.back()?;
-        Some(self.list.remove(node, NO_SLOT))
+        Some(self.list.remove(node, None))
     }
 
     /// Drops every entry and releases its node. The nodes that were free before and the room stay. It takes

@@ -6,7 +6,6 @@ ghost use Rattle.hashlink_model.specs.{Entries.IsEntries, Lookups.UpdatesKept, R
 ghost use Rattle.hashlink_core.specs.Keyed.{state_of, entries_of};
 
 use super::LinkedHashMap;
-use hashlink_core::NO_SLOT;
 use std::hash::{BuildHasher, Hash};
 
 impl<K: Eq + Hash, V, S: BuildHasher> LinkedHashMap<K, V, S> {
@@ -68,7 +67,7 @@ impl<K: Eq + Hash, V, S: BuildHasher> LinkedHashMap<K, V, S> {
             place = list.next(place);
             let (key, value) = list.entry_mut(node);
             if !keep(key, value) {
-                list.remove(node, NO_SLOT);
+                list.remove(node, None);
             }
         }
     }

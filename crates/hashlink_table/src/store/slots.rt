@@ -1,9 +1,9 @@
 //! The slots, in groups.
 ghost use Rattle.std.specs.Prelude.{◌≡◌, ◌+◌, ◌%◌, ◌/◌, ◌^◌, ◌<◌, ◌≤◌, ◌++◌, [], IfOk, IfSome, IsSome};
-ghost use Rattle.std.specs.Prelude.{IsTrue, Some, is_none, is_some, length, map, replicate, slice_index_or};
+ghost use Rattle.std.specs.Prelude.{Some, is_none, is_some, length, map, replicate, slice_index_or};
 ghost use Rattle.std.specs.Prelude.{slice_set, vec_capacity, vec_len, ℕ};
-ghost use Rattle.std.specs.Simd.Lanes.{mask_l};
-ghost use Rattle.hashlink_table.specs.Slots.{bare_grid, empty_record, kept_may_be, lanes_of, may_be};
+ghost use Rattle.std.specs.{Option.option_map, Simd.Lanes.mask_l};
+ghost use Rattle.hashlink_table.specs.Slots.{bare_grid, cleared, empty_record, kept_may_be, lanes_of, may_be};
 ghost use Rattle.hashlink_table.specs.Slots.{with_guest, with_kept, with_next, without_kept};
 ghost use Rattle.hashlink_table.specs.Chains.{guest_at, kept_at, next_at, own_at};
 ghost use Rattle.hashlink_table.specs.Records.{has_guest, is_guest, is_taken};
@@ -15,7 +15,6 @@ use super::group::Group;
 use super::head::Head;
 use super::lanes::LANES;
 use super::mark::Mark;
-use super::repeated::repeated;
 use crate::hashed::Hashed;
 use crate::steps::Steps;
 use std::alloc::{AllocError, Global};
@@ -95,8 +94,10 @@ impl<N: Copy> Slots<N> {
     {
         let mut groups = Vec::with_capacity(alloc, count / LANES)?;
         add_groups(&mut groups, count / LANES);
-        let nodes = repeated(alloc, filler, count)?;
-        let rests = repeated(alloc, BARE_REST, count)?;
+        let mut nodes = Vec::new(alloc);
+        nodes.resize(count, filler)?;
+        let mut rests = Vec::new(alloc);
+        rests.resize(count, BARE_REST)?;
         Ok(Slots {
             groups,
             nodes,
@@ -194,8 +195,7 @@ impl<N: Copy> Slots<N> {
     /// Returns the node of a slot, or `None` if there is no such slot or it has no node of its group.
     #[inline]
     pub fn own_node(&self, at: usize) -> Option<N>
-        ensures { IfSome result (λ node. (hash : ℕ)
-            × (own_at self.now.cells at ≡ Some (record { hash = hash; node = node }))) }
+        ensures { option_map (λ k. k.node) (own_at self.now.cells at) ≡ result }
     {
         if at >= self.len() || !self.mark(at).own {
             return None;
@@ -295,13 +295,12 @@ impl<N: Copy> Slots<N> {
         self.groups[base / LANES].taken()
     }
 
-    /// Removes all nodes, and ends all chains.
+    /// Removes all nodes, and ends all chains. The links stay: that of a slot without a guest means nothing.
     pub fn clear(&mut self)
-        ensures { self.new ≡ bare_grid (length self.old.cells) }
+        ensures { self.new ≡ cleared self.old }
     {
         let count = self.groups.len();
         self.groups.clear();
         add_groups(&mut self.groups, count);
-        self.rests.fill(BARE_REST);
     }
 }

@@ -92,10 +92,11 @@ returns-then-not-may_have-clause-none g c =
     = ap (λ n. bit_at n (mask_bit_of c.args.hash)) read ∙ c.requires.arranged.covered at _ is in
     absurd (false≢true (sym c.if-not-may_have.true ∙ c.may_have.ensures.1 bit)))
 
-pub returns-in-None-clause-none : goal.returns-in-None-clause-none
-returns-in-None-clause-none g c =
-    none_left c.args.slots.now.cells c.args.hash _
-    (none_in_slots g (goal.at.returns-in-None-clause-none g c).In_default) c.in-None.ensures.none
+pub returns-in_err-node-clause-none : goal.returns-in_err-node-clause-none
+returns-in_err-node-clause-none g c =
+    rw c.from_residual.ensures
+    (none_left c.args.slots.now.cells c.args.hash _
+    (none_in_slots g (goal.at.returns-in_err-node-clause-none g c).In_default) c.in_err-node.ensures.none)
 
 pub returns-in-Some-clause-cost : goal.returns-in-Some-clause-cost
 returns-in-Some-clause-cost g c =
@@ -105,10 +106,10 @@ pub returns-then-not-may_have-clause-cost : goal.returns-then-not-may_have-claus
 returns-then-not-may_have-clause-cost g c =
     omega (arith, looked g (goal.at.returns-then-not-may_have-clause-cost g c).After-base_of-base)
 
-pub returns-in-Some-seek_guests-clause-cost : goal.returns-in-Some-seek_guests-clause-cost
-returns-in-Some-seek_guests-clause-cost g c =
-    omega (arith, looked g (goal.at.returns-in-Some-seek_guests-clause-cost g c).After-base_of-base)
+pub returns-clause-cost : goal.returns-clause-cost
+returns-clause-cost g c =
+    omega (arith, looked g (goal.at.returns-clause-cost g c).After-base_of-base)
 
-pub returns-in-None-clause-cost : goal.returns-in-None-clause-cost
-returns-in-None-clause-cost g c =
-    omega (arith, looked g (goal.at.returns-in-None-clause-cost g c).After-base_of-base)
+pub returns-in_err-node-clause-cost : goal.returns-in_err-node-clause-cost
+returns-in_err-node-clause-cost g c =
+    omega (arith, looked g (goal.at.returns-in_err-node-clause-cost g c).After-base_of-base)

@@ -1,6 +1,6 @@
 use Rattle.std.proofs.lemmas.Option.{IfSome_then}
 use Rattle.hashlink_table.proofs.{Nodes.contains-at, Views.{can_ask, no_cost, search_cost}}
-use Rattle.hashlink_table.proofs.table.Table.locate.Goals as goal
+use Rattle.hashlink_table.proofs.table.Table.find.Goals as goal
 
 pub seek-requires-clause-arranged : goal.seek-requires-clause-arranged
 seek-requires-clause-arranged g c = c.self.invariant.arranged
