@@ -32,7 +32,6 @@ mod loops;
 mod lower;
 #[cfg(test)]
 mod no_size;
-pub mod raw_insert;
 #[cfg(test)]
 mod rooms;
 #[cfg(test)]
