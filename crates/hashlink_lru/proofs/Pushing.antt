@@ -24,8 +24,7 @@ module _ {K V S : Type 0} (eq : K → K → Bool) (old new : CacheState K V S) (
       let all = put eq old.map.entries k v (length old.map.entries) in
       let p = named_parts eq old.map.entries old.cap k v e n in
       let some : 0 < length all - old.cap = omega (arith, p.2) in
-      s.left
-      ∙ ap (λ o. option_or (option_map (λ w. (k, w)) o) (first_of (evicted_entries all old.cap))) l
+      s.left ∙ ap (λ o. option_or (option_map (λ w. (k, w)) o) (first_of (evicted_entries all old.cap))) l
       ∙ first_of-take (length all - old.cap) all some ∙ ap first_of p.1
 
   -- a push, from the map's insert and what makes room after it
@@ -38,13 +37,9 @@ module _ {K V S : Type 0} (eq : K → K → Bool) (old new : CacheState K V S) (
   pushes between out first s replaced keeps cap named =
       record {
         inserts =
-            record {
-              map = record { between = between; inserts = s; fits = keeps };
-              cap = cap;
-            };
+            record { map = record { between = between; inserts = s; fits = keeps }; cap = cap };
         left =
-            ap₂ option_or replaced (named
-            ∙ ap (λ es. first_of (evicted_entries es old.cap))
+            ap₂ option_or replaced (named ∙ ap (λ es. first_of (evicted_entries es old.cap))
             (put_entries eq old.map between k v (lookup (eq k) old.map.entries) s));
       }
 

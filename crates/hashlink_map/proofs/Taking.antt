@@ -1,15 +1,16 @@
 -- A step that takes an entry out of a map, as a step of an iterator.
 use Rattle.hashlink_map.proofs.Names
-use Names.{◌≡◌, ℕ, zero, suc, ◌-◌, Bool, List, [], ◌∷◌, length, refl, arith, slice_get, remove, take}
-use Names.{Keyed, Node, IsPlaceAt, IsKeyed, IsEntries, entries_of, state_of, place_number}
-use Names.{IsEquivalence, Option, None, Some, ap, sym, subst, ◌∙◌, TakesFirst, TakesLast}
+use Names.{◌≡◌, ℕ, zero, suc, ◌+◌, ◌-◌, Bool, List, [], ◌∷◌, ◌++◌, length, refl, arith, slice_get, remove}
+use Names.{take, Keyed, Node, IsPlaceAt, IsKeyed, IsEntries, entries_of, state_of, place_number, last_of}
+use Names.{IsEquivalence, Option, None, Some, ap, sym, subst, ◌∙◌, TakesFirst, TakesLast, length-append}
 use Rattle.hashlink_map.proofs.Names.{GivesInOrder, GivesInReverse, as_is, as_is_back, in-order, in-reverse}
 use Rattle.hashlink_map.proofs.Names.{MapState, PopsFront, PopsBack, after_first_of, before_last_of}
-use Rattle.hashlink_model.{specs.Steps.KeepsOnly, proofs.Walks.{takes_first, takes_last}}
-use Rattle.hashlink_model.specs.{MapState.Removes, Lookups.UpdatesPopped}
-use Rattle.hashlink_model.proofs.Updates.{updates-pop_front, updates-pop_back}
+use Rattle.hashlink_model.{specs.{Steps.KeepsOnly, MapState.Removes}, proofs.Walks.{takes_first, takes_last}}
+use Rattle.hashlink_model.{specs.Lookups.UpdatesPopped, proofs.Updates.{updates-pop_front, updates-pop_back}}
 use Rattle.hashlink_core.specs.Steps.{RemovesNode}
-use Rattle.std.proofs.{Common.drop, lemmas.Option.{slice_get_past, slice_get_within}}
+use Rattle.hashlink_model.proofs.Places.{last_of-end}
+use Rattle.std.proofs.{Common.drop, Math.Seq.take-append_seam, lemmas.Option.slice_get_past}
+use Rattle.std.proofs.lemmas.Option.{slice_get_within}
 
 module _ {K V S : Type 0} (old new : MapState K V S) where
   pub pop-takes_first : (r : Option (K × V)) → PopsFront old new r
@@ -51,8 +52,7 @@ module _ {K V S : Type 0} (before after : Keyed K V S) where
   module _ (n : Node) (e : K × V)
       (pair : slice_get (entries_of before) (place_number before.nodes (Some n)) ≡ Some e)
       (removed : RemovesNode before after (place_number before.nodes (Some n))) where
-    pub pops-first : IsPlaceAt before.nodes (Some n) 0
-        → PopsFront (state_of before) (state_of after) (Some e)
+    pub pops-first : IsPlaceAt before.nodes (Some n) 0 → PopsFront (state_of before) (state_of after) (Some e)
     pops-first at = record {
       answer = sym pair ∙ ap (slice_get (entries_of before)) at.number;
       step = subst (Removes (state_of before) (state_of after))
@@ -123,6 +123,17 @@ module _ {K V S : Type 0} where
   -- only entries that were present at the start are left
   abbrev pub Kept : MapState K V S → MapState K V S → Type 0
   Kept start now = KeepsOnly start now now.entries
+
+-- a drain took the last entry
+pub last-taken : {X : Type 0} {xs ys : List X} {y : X} → xs ≡ ys ++ y ∷ []
+    → (Some y ≡ last_of xs) × (before_last_of xs ≡ ys) × (length xs ≡ length ys + 1)
+last-taken {X} {xs} {ys} {y} is =
+    let long : length xs ≡ length ys + 1 = ap length is ∙ length-append ys (y ∷ []) in
+    let less : length xs - 1 ≡ length ys = omega (arith, long) in (
+      sym (ap last_of is ∙ last_of-end ys y),
+      ap (λ n. take n xs) less ∙ ap (take (length ys)) is ∙ take-append_seam ys (y ∷ []),
+      long,
+    )
 
 -- each run of an iterator that owns its items returns the entries left: in order from the front, in reverse
 -- from the back

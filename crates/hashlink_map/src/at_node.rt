@@ -3,11 +3,10 @@ ghost use Rattle.std.specs.{Prelude.{◌≡◌, ◌-◌, length, slice_get, None
 ghost use Rattle.std.specs.{Map.Iter.deref_pair, Option.option_map};
 ghost use Rattle.hashlink_model.specs.Entry.{key_at, value_at, ReplacesEntry};
 ghost use Rattle.hashlink_model.specs.{Entries.{place_of, IsEntries}, MapState.MovesAt};
-ghost use Rattle.hashlink_model.specs.Entry.{ReplacesKey, ReplacesValue, TakesEntry, VacantInserts};
+ghost use Rattle.hashlink_model.specs.Entry.{ReplacesKey, ReplacesValue, VacantInserts};
 ghost use Rattle.hashlink_core.specs.{Keyed.{state_of, entries_of, HoldsKey, EqualsKeyAt}, Tied.hash_with};
 ghost use Rattle.hashlink_core.specs.Places.{Holds, IsPlace, place_number};
 
-use crate::as_node::AsNode;
 use crate::map::LinkedHashMap;
 use hashlink_core::Node;
 use std::hash::{BuildHasher, Hash};
@@ -49,7 +48,7 @@ impl<K: Eq + Hash, V, S: BuildHasher> LinkedHashMap<K, V, S> {
     }
 
     /// Returns a mutable reference to the value of the node.
-    #[inline]
+    #[inline(always)]
     pub(crate) fn value_at_mut(&mut self, node: Node) -> &mut V
         requires { Holds self.old.nodes node }
         ensures* lends { sem 𝓛 (LendsAtNode K.row V.row S.row S.Hasher.row K.Hash
@@ -136,17 +135,6 @@ impl<K: Eq + Hash, V, S: BuildHasher> LinkedHashMap<K, V, S> {
         let old_value = self.replace_value_at(node, value);
         let old_key = self.replace_key_at(node, key);
         (old_key, old_value)
-    }
-
-    /// Removes the entry of the node, and returns it. `slot` is where a search found the node, or any number.
-    #[inline]
-    pub(crate) fn take_at<N: AsNode>(&mut self, node: N, slot: usize) -> (K, V)
-        requires held { Holds self.old.nodes (N.node node) }
-        ensures takes { TakesEntry (state_of self.old) (state_of self.new)
-            (place_number self.old.nodes (Some (N.node node))) result }
-        ensures distinct { IsEntries K.eq (entries_of self.old) }
-    {
-        self.list.remove(node.as_node(), Some(slot))
     }
 
     /// Inserts a pair at the back. Its key has to be absent, and `hash` has to be the key's hash.

@@ -259,8 +259,8 @@ impl<'a, K: Eq + Hash, V, S: BuildHasher> OccupiedEntry<'a, K, V, S> {
     {
         let node = self.node;
         let slot = self.slot;
-        let (_, value) = self.map.take_at(node, slot);
-        value
+        let map = &mut *self.map;
+        map.list.remove(node, Some(slot)).1
     }
 
     /// Removes the entry and returns the stored pair. The given key is dropped. It stores at most three
@@ -276,6 +276,7 @@ impl<'a, K: Eq + Hash, V, S: BuildHasher> OccupiedEntry<'a, K, V, S> {
     {
         let node = self.node;
         let slot = self.slot;
-        self.map.take_at(node, slot)
+        let map = &mut *self.map;
+        map.list.remove(node, Some(slot))
     }
 }

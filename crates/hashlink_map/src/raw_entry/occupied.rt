@@ -142,6 +142,7 @@ impl<'a, K: Eq + Hash, V, S: BuildHasher> RawOccupiedEntryMut<'a, K, V, S> {
     }
 
     /// Moves the entry to the back. It stores at most six links.
+    #[inline]
     pub fn to_back(&mut self)
         ensures same_map { (raw_occupied_map self.new).ghost_name ≡ (raw_occupied_map self.old).ghost_name }
         ensures moves { MovesAt (raw_occupied_state self.old).map (raw_occupied_state self.new).map
@@ -213,8 +214,8 @@ impl<'a, K: Eq + Hash, V, S: BuildHasher, N: AsNode> RawOccupiedEntryMut<'a, K, 
     {
         let node = self.node;
         let slot = self.slot;
-        let (_, value) = self.map.take_at(node, slot);
-        value
+        let map = &mut *self.map;
+        map.list.remove(node.as_node(), Some(slot)).1
     }
 
     /// Removes the entry and returns its pair. It stores at most three links.
@@ -227,6 +228,7 @@ impl<'a, K: Eq + Hash, V, S: BuildHasher, N: AsNode> RawOccupiedEntryMut<'a, K, 
     {
         let node = self.node;
         let slot = self.slot;
-        self.map.take_at(node, slot)
+        let map = &mut *self.map;
+        map.list.remove(node.as_node(), Some(slot))
     }
 }

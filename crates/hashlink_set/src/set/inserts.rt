@@ -110,7 +110,7 @@ impl<T: Eq + Hash, S: BuildHasher> LinkedHashSet<T, S> {
     }
 
     /// Returns the last element, borrowed for as long as the set. The set does not change.
-    #[inline]
+    #[inline(always)]
     fn last_for_good(&mut self) -> Option<&T>
         ensures* unchanged { sem 𝓛 (StaysAsItWas T.row S.row S.Hasher.row T.Hash S.BuildHasher S.Hasher.Hasher
             self.entry) }
@@ -149,7 +149,7 @@ impl<T: Eq + Hash, S: BuildHasher> LinkedHashSet<T, S> {
     }
 
     /// Returns `refused` in `Err` if there is one, and otherwise `lent`.
-    #[inline]
+    #[inline(always)]
     fn lent_or_refused(lent: Option<&T>, refused: Option<T>) -> Result<&T, T>
     where
         T: Drop,

@@ -4,6 +4,7 @@ use Rattle.hashlink_map.proofs.entry.occupied.OccupiedEntry+K+V+S.remove.Goals a
 
 pub returns-clause-updates : goal.returns-clause-updates
 returns-clause-updates g c =
-    let o = c.args.self in let e = c.take_at-value.ensures in
-    updates-taken g.K.PartialEq.eq g.met.K.Eq.laws (state_of o.map.now) _ o.key _ o.stands.place _
-    e.distinct e.takes
+    let o = c.args.self in let e = c.remove.ensures in
+    rw (← c.map.view_is) (updates-taken g.K.PartialEq.eq g.met.K.Eq.laws (state_of c.map.inside.list) _
+    o.key _ (rw (← c.map.view_is) at o.stands.place) _ e.was_sound.distinct
+    (record { answer = e.pair; step = e.removed.state }))
