@@ -139,7 +139,7 @@ impl<K: Eq + Hash, V, S: BuildHasher> LinkedHashMap<K, V, S> {
     }
 
     /// Removes the entry of the node, and returns it. `slot` is where a search found the node, or any number.
-    #[inline]
+    #[inline(always)]
     pub(crate) fn take_at<N: AsNode>(&mut self, node: N, slot: usize) -> (K, V)
         requires held { Holds self.old.nodes (N.node node) }
         ensures takes { TakesEntry (state_of self.old) (state_of self.new)
