@@ -51,7 +51,7 @@ impl<N> Model for Slots<N> {
     ghost invariant = { λ o. AreSlots o.groups.items o.nodes.items o.rests.items };
 }
 
-// What a slot stores that has no node.
+// What a new slot stores besides its node.
 const BARE_REST: Rest = Rest {
     hash: 0,
     link: END as u32,
