@@ -1,15 +1,10 @@
 -- What the results of an entry's calls state.
 use Rattle.hashlink_map.proofs.Names.{◌≡◌, Bool, Option, Some, refl, sym, ap, subst, Result, Ok, Err}
-use Rattle.hashlink_map.proofs.Names.{IfOk, IfErr, OnErr, unwrap_or, length, MutBor, UnwrapsOrElse, MapState}
+use Rattle.hashlink_map.proofs.Names.{IfOk, IfErr, OnErr, length, MutBor, UnwrapsOrElse, MapState}
 use Rattle.hashlink_map.proofs.Names.{AddsEntry, RefusesEntry, PutsLast}
 
 module _ {V E : Type 0} where
   -- the value now in the entry is lent
-  pub or_default : (r : Result (MutBor V) E) (o : Option V) (d : V) → IfOk r (λ v. o ≡ Some v.now)
-      → IfOk r (λ v. v.now ≡ unwrap_or o d)
-  or_default (Ok v) o d h = sym (ap (λ x. unwrap_or x d) h)
-  or_default (Err e) o d h = tt
-
   pub or_made : (r : Result (MutBor V) E) (o : Option V) (P : V → Type 0) → IfOk r (λ v. o ≡ Some v.now)
       → IfOk r (λ v. UnwrapsOrElse o P v.now)
   or_made (Ok v) o P h = subst (λ x. UnwrapsOrElse x P v.now) (sym h) refl

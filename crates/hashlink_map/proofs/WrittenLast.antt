@@ -2,7 +2,7 @@
 -- by a cache's `get` and `get_mut`; the keys after an insert at the back. The comment over each lemma names
 -- the goal that it closes.
 use Rattle.std.proofs.Common.{◌≡◌, ℕ, Bool, true, List, [], ◌∷◌, ◌++◌, length, Option, None, Some, refl, sym}
-use Rattle.std.proofs.Common.{ap, ◌∙◌, nat_eq, false, true≢false}
+use Rattle.std.proofs.Common.{ap, ◌∙◌, nat_eq, true≢false}
 use Rattle.std.proofs.lemmas.{Bool.eqb-true, Cmp.nat_eq_equiv, List.map-append}
 use Rattle.std.specs.{Cmp.{IsEquivalence, Lexicographic.bytes_decides}}
 use Rattle.std.specs.Map.{IsKeyTest, keys_of, lookup, remove_entry, set_value}

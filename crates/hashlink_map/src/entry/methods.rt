@@ -70,10 +70,10 @@ impl<'a, K: Eq + Hash, V, S: BuildHasher> Entry<'a, K, V, S> {
             (entry_state self.entry).key) }
         ensures handed_back { IfErr result (λ pair. pair ≡ ((entry_state self.entry).key, default)) }
     {
-        match self {
-            Entry::Occupied(entry) => entry.into_last_mut(),
-            Entry::Vacant(entry) => entry.insert(default),
-        }
+        let make = move || -> V
+            ensures { result ≡ default }
+        { default };
+        self.or_insert_with(make)
     }
 
     /// Does the same as `or_insert` with the value that `default` returns. It calls `default` only if the

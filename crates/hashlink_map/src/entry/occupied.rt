@@ -257,10 +257,7 @@ impl<'a, K: Eq + Hash, V, S: BuildHasher> OccupiedEntry<'a, K, V, S> {
         ensures updates { Updates K.eq (occupied_state self.entry).map.entries
             (entries_of self.exit.0.now) (occupied_state self.entry).key None }
     {
-        let node = self.node;
-        let slot = self.slot;
-        let map = &mut *self.map;
-        map.list.remove(node, Some(slot)).1
+        self.remove_entry().1
     }
 
     /// Removes the entry and returns the stored pair. The given key is dropped. It stores at most three

@@ -29,14 +29,10 @@ impl<'a, K: Eq + Hash, V, S: BuildHasher> RawEntryMut<'a, K, V, S> {
         ensures handed_back { IfErr result (λ pair. pair ≡ (default_key, default_value)) }
         ensures vacant { OnErr result ((raw_state self.entry).place ≡ None) }
     {
-        match self {
-            RawEntryMut::Occupied(entry) => {
-                let RawOccupiedEntryMut { map, node, slot } = entry;
-                map.move_to_back(node);
-                Ok(RawOccupiedEntryMut { map, node, slot })
-            }
-            RawEntryMut::Vacant(entry) => entry.insert_entry(default_key, default_value),
-        }
+        let make = move || -> (K, V)
+            ensures { result ≡ (default_key, default_value) }
+        { (default_key, default_value) };
+        self.or_insert_entry_with(make)
     }
 
     /// Returns the key and a mutable reference to the value. An occupied entry moves to the back. A vacant

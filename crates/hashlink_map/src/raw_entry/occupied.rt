@@ -212,10 +212,7 @@ impl<'a, K: Eq + Hash, V, S: BuildHasher, N: AsNode> RawOccupiedEntryMut<'a, K, 
         ensures updates { UpdatesAt K.eq (raw_occupied_state self.entry).map.entries
             (entries_of self.exit.0.now) (raw_place self.entry) None }
     {
-        let node = self.node;
-        let slot = self.slot;
-        let map = &mut *self.map;
-        map.list.remove(node.as_node(), Some(slot)).1
+        self.remove_entry().1
     }
 
     /// Removes the entry and returns its pair. It stores at most three links.

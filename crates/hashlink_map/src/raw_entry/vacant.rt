@@ -101,14 +101,9 @@ impl<'a, K: Eq + Hash, V, S: BuildHasher> RawVacantEntryMut<'a, K, V, S> {
         ensures last { IfOk result (λ o. raw_place o ≡ length (entries_of (raw_vacant_map self.entry).now)) }
         ensures handed_back { IfErr result (λ p. p ≡ (key, value)) }
     {
-        let RawVacantEntryMut { map } = self;
+        let map = &*self.map;
         let hash = map.list.hash_of(&key);
-        let node = map.push_back(hash, key, value)?;
-        Ok(RawOccupiedEntryMut {
-            map,
-            node,
-            slot: NO_SLOT,
-        })
+        self.insert_entry_hashed_nocheck(hash, key, value)
     }
 
     /// Inserts the pair at the back, and returns its entry. The key has to be absent, and `hash` has to be
