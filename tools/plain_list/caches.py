@@ -38,7 +38,7 @@ class CacheModel(Model):
             {
                 0: (
                     *("peek_lru", "back", "make_room", "remove_lru", "set_capacity 2", "clear"),
-                    *("inside front", "retain even", "retain_from even", "iter next back"),
+                    *("inside front", "retain even", "retain odd", "retain_from even", "iter next back"),
                     *("keys next back", "values next back", "iter_mut next back", "drain next back"),
                     *("into_iter next back", "try_take", "new"),
                 ),

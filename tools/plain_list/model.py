@@ -93,6 +93,7 @@ class Model(Entries, Cursors):
                     "reserve 1",
                     "try_reserve 1",
                     "retain even",
+                    "retain odd",
                     "retain_with_order even",
                     "retain_from even",
                     "keys next back",
