@@ -38,9 +38,9 @@ class CacheModel(Model):
             {
                 0: (
                     *("peek_lru", "back", "make_room", "remove_lru", "set_capacity 2", "clear"),
-                    *("inside front", "retain even", "retain_from even", "iter next back"),
-                    *("keys next back", "values next back", "iter_mut next back", "drain next"),
-                    *("into_iter next", "try_take", "new"),
+                    *("inside front", "retain even", "retain odd", "retain_from even", "iter next back"),
+                    *("keys next back", "values next back", "iter_mut next back", "drain next back"),
+                    *("into_iter next back", "try_take", "new"),
                 ),
                 1: (
                     "get 2",

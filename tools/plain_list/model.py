@@ -23,7 +23,8 @@ SIZE_LINES = ("room SIZE", "capacity SIZE", "under SIZE")
 ROOM_LINES = ("3 reserve SIZE", "3 try_reserve SIZE", "5 shrink", "4 clone")
 #: calls of a map and of a set that request no memory
 SHARED_FREE = (
-    *("front", "len", "pop_front", "pop_back", "clear", "iter next back", "drain next"),
+    *("front", "len", "pop_front", "pop_back", "clear", "iter next back"),
+    *("drain next back", "forgotten_drain next back"),
     *("both eq", "both hash", "into_iter next back", "try_take", "new", "with_capacity 0", "reserve 0"),
 )
 
@@ -92,6 +93,7 @@ class Model(Entries, Cursors):
                     "reserve 1",
                     "try_reserve 1",
                     "retain even",
+                    "retain odd",
                     "retain_with_order even",
                     "retain_from even",
                     "keys next back",
@@ -167,6 +169,8 @@ class Model(Entries, Cursors):
                 ),
             },
         ),
+        # more room in as many slots
+        ("map\nreserve 4", {0: ("reserve 14",)}),
         # so many pairs that each call removes one
         (
             "map\neach 1 1001 insert n 10",

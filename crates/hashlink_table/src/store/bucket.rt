@@ -1,4 +1,4 @@
-ghost use Rattle.std.specs.Prelude.{◌≡◌, ◌-◌, ◌*◌, ◌^◌, ◌%◌, ◌≤◌, max};
+ghost use Rattle.std.specs.Prelude.{◌≡◌, ◌-◌, ◌*◌, ◌^◌, ◌%◌, ◌/◌, ◌<◌, ◌≤◌, max};
 ghost use Rattle.std.specs.Int.{IsPowerOfTwo};
 ghost use Rattle.hashlink_table.specs.Stored.{tag_of};
 
@@ -47,6 +47,7 @@ pub fn slots_for(room: usize) -> usize
     ensures enough { 8 * room ≤ 7 * result }
     ensures grouped { result % LANES ≡ 0 }
     ensures bounded { result ≤ 4 * max 8 room }
+    ensures least { LANES < result → 7 * (result / 2) < 8 * room }
 {
     (room + (room + 6) / 7).max(LANES).next_power_of_two()
 }

@@ -57,6 +57,7 @@ impl Head {
         requires { first ≤ END }
         ensures first { result.first ≡ first }
         ensures mask { first ≢ END → result.mask ≡ self.mask }
+        ensures empty { first ≡ END → result.mask ≡ 0 }
     {
         if first == END {
             NO_GUESTS
