@@ -125,7 +125,7 @@ impl<T> Arena<T> {
         unsafe { &(*(node.at as *mut Block<T>)).pair }
     }
 
-    #[inline]
+    #[inline(always)]
     pub(crate) fn pair_mut(&mut self, node: Node) -> &mut T
         requires { IsSome (entry_in (lookup (same_node node) self.old.blocks)) }
         ensures* lends { sem 𝓛 (LendsPair T.row self.entry node result) }

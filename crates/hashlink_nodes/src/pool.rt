@@ -84,7 +84,7 @@ impl<K, V> Pool<K, V> {
     }
 
     /// Returns the key and a mutable reference to the value.
-    #[inline]
+    #[inline(always)]
     pub(crate) fn entry_mut(&mut self, node: Node) -> (&K, &mut V)
         requires { IsSome ((state_of self.old).held node) }
         ensures* lends { sem 𝓛 (LendsPoolValue K.row V.row self.entry node result) }

@@ -12,7 +12,7 @@ impl<K: Eq + Hash, V, S: BuildHasher> KeyedList<K, V, S> {
     ghost use Rattle.hashlink_core.specs.KeyedLends.{LendsValueAt};
 
     /// Returns the key of the node's entry and a mutable reference to its value. It takes constant time.
-    #[inline]
+    #[inline(always)]
     pub fn entry_mut(&mut self, node: Node) -> (&K, &mut V)
         requires { Holds self.old.nodes node }
         ensures* lends { sem 𝓛 (LendsValueAt K.row V.row S.row S.Hasher.row K.Hash
@@ -24,7 +24,7 @@ impl<K: Eq + Hash, V, S: BuildHasher> KeyedList<K, V, S> {
     }
 
     /// Returns a mutable reference to the value of the node's entry. It takes constant time.
-    #[inline]
+    #[inline(always)]
     pub fn value_mut(&mut self, node: Node) -> &mut V
         requires { Holds self.old.nodes node }
         ensures* lends { sem 𝓛 (LendsValueAt K.row V.row S.row S.Hasher.row K.Hash

@@ -36,7 +36,7 @@ impl<K, V> Nodes<K, V> {
     }
 
     /// Returns the key of the node's entry and a mutable reference to its value.
-    #[inline]
+    #[inline(always)]
     pub fn entry_mut(&mut self, node: Node) -> (&K, &mut V)
         requires { Holds self.old.entries node }
         ensures* lends { sem 𝓛 (LendsValueAt K.row V.row self.entry node result.1) }
