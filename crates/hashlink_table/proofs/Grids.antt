@@ -12,7 +12,8 @@ use Names.{heads_in}
 use Names.{marks_in, no_guests}
 use Names.{cleared}
 use Names.{Head, Hashed, END, Bool, true, false, bare_grid, map-set, tag_of, with_kept, with_guest}
-use Rattle.hashlink_table.proofs.Storing.{AreCells, bare, bare_cells, emptied_all, sizes, put_in, guest_put_in}
+use Rattle.hashlink_table.proofs.Storing.{AreCells, bare, bare_cells, emptied_all, sizes, put_in}
+use Rattle.hashlink_table.proofs.Storing.{guest_put_in}
 use Rattle.std.proofs.lemmas.{List.{same_lists, replicate-append-replicate}, List.Elements.{All-replicate}}
 
 abbrev pub AreEven : List Record → Type 0

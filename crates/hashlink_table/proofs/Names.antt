@@ -4,7 +4,8 @@ pub use Rattle.hashlink_table.specs.Chains.{IsLink, IsLinked, IsLinkedBut, IsSou
 pub use Rattle.hashlink_table.specs.Chains.{SameMasks, SameNodes, bucket_in, cell_at, chain_at, chain_of}
 pub use Rattle.hashlink_table.specs.Chains.{contents}
 pub use Rattle.hashlink_table.specs.Chains.{first_at, guest_at, guest_of, kept_at, links_of}
-pub use Rattle.hashlink_table.specs.Chains.{mask_at, next_at, nodes_in, own_at, own_of, some_kept, stored_in, with_node}
+pub use Rattle.hashlink_table.specs.Chains.{mask_at, next_at, nodes_in, own_at, own_of, stored_in, with_node}
+pub use Rattle.hashlink_table.specs.Chains.{some_kept}
 pub use Rattle.hashlink_table.specs.Slots.{AreSlots, Grid, IsStored, IsTagged, Row, bare_grid, cells_in}
 pub use Rattle.hashlink_table.specs.Slots.{cleared, emptied, empty_record, grid_in, kept_may_be}
 pub use Rattle.hashlink_table.specs.Slots.{lanes_of, may_be, slot}

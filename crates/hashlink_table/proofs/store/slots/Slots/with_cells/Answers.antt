@@ -1,6 +1,6 @@
 use Rattle.hashlink_table.proofs.Names.{◌≡◌, ◌++◌, ◌/◌, List, length, ap, refl, ◌∙◌, length-replicate}
-use Rattle.hashlink_table.proofs.Names.{Record, bare_grid, empty_record, replicate, ℕ, ◌-◌, [], take, take_all}
-use Rattle.hashlink_table.proofs.Names.{arith}
+use Rattle.hashlink_table.proofs.Names.{Record, bare_grid, empty_record, replicate, ℕ, ◌-◌, [], take}
+use Rattle.hashlink_table.proofs.Names.{arith, take_all}
 use Rattle.hashlink_table.proofs.{Grids.{Stores, stores-bare}}
 use Rattle.hashlink_table.proofs.store.slots.Slots.with_cells.Given as given
 use Rattle.hashlink_table.proofs.store.slots.Slots.with_cells.Goals.{In_ok-resize-2}
@@ -22,7 +22,8 @@ stored : (g : given.Over) (c : In_ok-resize-2 g)
 stored g c =
     let nodes : c.resize.new.self.items ≡ replicate c.args.count c.args.filler
     = filled _ _ _ _ _ c.new-nodes.ensures.items c.new-nodes.ensures.len c.in_ok-resize.ensures.items in
-    let rests = filled _ _ _ _ _ c.new-rests.ensures.items c.new-rests.ensures.len c.in_ok-resize-2.ensures.items in
+    let rests
+    = filled _ _ _ _ _ c.new-rests.ensures.items c.new-rests.ensures.len c.in_ok-resize-2.ensures.items in
     rw (
       c.add_groups.ensures ∙ ap (λ (bs : List Record). bs ++ replicate (c.args.count / 16) empty_record)
           c.in_ok-groups.ensures.items,
