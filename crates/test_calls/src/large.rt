@@ -1,5 +1,5 @@
-//! One large run of a map, which is also one of a set, of each cache, of a text of each kind of loop, and of each
-//! list of commands.
+//! One large run of a map, which is also one of a set, of each cache, of a text of each kind of loop, and of
+//! each list of commands.
 use crate::few::{Map, is_cloned, is_value, map_of, passes};
 use hashlink::LruCache;
 use hashlink::run::{CacheCommand, Command, PairCommand, run, run_cache, run_pair, run_text};

@@ -246,7 +246,7 @@ impl<'a, K: Eq + Hash, V, S: BuildHasher> OccupiedEntry<'a, K, V, S> {
 
     /// Removes the entry and returns its value. The given key and the stored key are dropped. It stores at
     /// most three links.
-    #[inline]
+    #[inline(always)]
     pub fn remove(self) -> V
     where
         K: Drop,
@@ -262,7 +262,7 @@ impl<'a, K: Eq + Hash, V, S: BuildHasher> OccupiedEntry<'a, K, V, S> {
 
     /// Removes the entry and returns the stored pair. The given key is dropped. It stores at most three
     /// links.
-    #[inline]
+    #[inline(always)]
     pub fn remove_entry(self) -> (K, V)
     where
         K: Drop,

@@ -201,7 +201,7 @@ impl<'a, K: Eq + Hash, V, S: BuildHasher, N: AsNode> RawOccupiedEntryMut<'a, K, 
     ghost use Rattle.hashlink_map.specs.RawEntry.{raw_place, raw_occupied_state};
 
     /// Removes the entry and returns its value. The key is dropped. It stores at most three links.
-    #[inline]
+    #[inline(always)]
     pub fn remove(self) -> V
     where
         K: Drop,
@@ -216,7 +216,7 @@ impl<'a, K: Eq + Hash, V, S: BuildHasher, N: AsNode> RawOccupiedEntryMut<'a, K, 
     }
 
     /// Removes the entry and returns its pair. It stores at most three links.
-    #[inline]
+    #[inline(always)]
     pub fn remove_entry(self) -> (K, V)
         ensures takes { TakesEntry (raw_occupied_state self.entry).map (state_of self.exit.0.now)
             (raw_place self.entry) result }

@@ -6,5 +6,5 @@ pub returns-clause-updates : goal.returns-clause-updates
 returns-clause-updates g c =
     let e = c.remove.ensures in
     rw (← c.as_node.ensures, ← c.map.view_is)
-    (updates-taken_raw g.K.PartialEq.eq g.met.K.Eq.laws (state_of c.map.inside.list) _ _ e.was_sound.distinct _
-    (record { answer = e.pair; step = e.removed.state }))
+    (updates-taken_raw g.K.PartialEq.eq g.met.K.Eq.laws (state_of c.map.inside.list) _ _
+    e.was_sound.distinct _ (record { answer = e.pair; step = e.removed.state }))
