@@ -1,7 +1,7 @@
 """Counts the cost of a call of each row.
 
-Each program is run under callgrind, with one round of each row and with two; the difference is the cost of
-one round. For each call it prints the instructions, the reads and the writes of data, the misses of a cache
+Each program is run under callgrind, which counts while a clock runs, with one round of each row and with two;
+the difference is the cost of one round. For each call it prints the instructions, the reads and the writes of data, the misses of a cache
 of 1 MiB, and the mispredicted branches, as callgrind models them. The counts of a program are the same on
 each machine, whatever else runs there. It needs valgrind with its headers and a C compiler, and takes
 minutes.
@@ -21,7 +21,8 @@ PRELOAD = Path(__file__).resolve().parent.parent / "preload.c"
 def counts_of(program, kind, size, rounds, room):
     """The cost of a round of each row of the kind, by its name, with its number of calls."""
     out = Path(room) / f"{kind}.{rounds}"
-    tool = ["valgrind", "--tool=callgrind", "--cache-sim=yes", "--branch-sim=yes", "--LL=1048576,16,64"]
+    tool = ["valgrind", "--tool=callgrind", "--collect-atstart=no", "--cache-sim=yes", "--branch-sim=yes"]
+    tool.append("--LL=1048576,16,64")
     subprocess.run(
         [*tool, f"--callgrind-out-file={out}", program, kind, str(rounds), str(size)],
         env={"LD_PRELOAD": f"{Path(room).parent}/counts.so"},

@@ -1,7 +1,7 @@
 //! The blocks of a ring, by their nodes: safe code over the arena.
 ghost use Rattle.std.specs.Prelude.{◌≡◌, ◌^◌, ◌<◌, true, false, [], IfOk, OnErr, None, Some, IsSome, is_some};
 ghost use Rattle.std.specs.Prelude.{List, length, map};
-ghost use Rattle.std.specs.{Option.option_map, Borrow.sem, Map.keys_of};
+ghost use Rattle.std.specs.{Bool.then_some, Option.option_map, Borrow.sem, Map.keys_of};
 ghost use Rattle.hashlink_nodes.specs.State.{state, hold, detached, attached, AreThere, Drops, GuardIs};
 ghost use Rattle.hashlink_nodes.specs.{Ring.{Entry, held, pair_of, with_key}, Pool.state_of};
 ghost use Rattle.hashlink_nodes.specs.{Parting.{IsPath, Parts}, declared.node.Node.Node};
@@ -43,6 +43,30 @@ impl<K, V> Pool<K, V> {
         ensures { is_some ((state_of self.now).held node) ≡ result }
     {
         *self.arena.number(node) != NO_ENTRY
+    }
+
+    /// Returns the place of a node: the node if it holds an entry, and else that of the guard. It branches, so
+    /// that a caller's next step need not wait for the number: a processor predicts the branch.
+    #[inline(always)]
+    pub(crate) fn place_of(&self, node: Node) -> Option<Node>
+        requires { (state_of self.now).has node ≡ true }
+        ensures { then_some (is_some ((state_of self.now).held node)) node ≡ result }
+    {
+        if !self.is_full(node) {
+            return self.place_at_guard(node);
+        }
+        Some(node)
+    }
+
+    // `place_of`, out of line, for the guard. The compiler cannot know that it is `None`, and make it a choice
+    // without a branch.
+    #[cold]
+    #[inline(never)]
+    fn place_at_guard(&self, node: Node) -> Option<Node>
+        requires { (state_of self.now).has node ≡ true }
+        ensures { then_some (is_some ((state_of self.now).held node)) node ≡ result }
+    {
+        self.is_full(node).then_some(node)
     }
 
     #[inline]

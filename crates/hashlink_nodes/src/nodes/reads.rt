@@ -35,8 +35,7 @@ impl<K, V> Nodes<K, V> {
         ensures apart { IsDistinct same_node (keys_of self.now.entries ++ self.now.free) }
     {
         let guard = self.guard?;
-        let next = self.pool.next(place.unwrap_or(guard));
-        self.pool.is_full(next).then_some(next)
+        self.pool.place_of(self.pool.next(place.unwrap_or(guard)))
     }
 
     /// Returns the previous place. Before the first node this is the guard, and before the guard the last
@@ -48,8 +47,7 @@ impl<K, V> Nodes<K, V> {
         ensures apart { IsDistinct same_node (keys_of self.now.entries ++ self.now.free) }
     {
         let guard = self.guard?;
-        let prev = self.pool.prev(place.unwrap_or(guard));
-        self.pool.is_full(prev).then_some(prev)
+        self.pool.place_of(self.pool.prev(place.unwrap_or(guard)))
     }
 
     /// Returns the node after this one. After the last node it returns the guard's, which has no entry. It
