@@ -12,7 +12,6 @@ pub use Rattle.hashlink_map.proofs.Names.{of_field, of_list, of_opd, on_entry, o
 pub use Rattle.hashlink_map.proofs.Names.{pass_all, peeks, plain, proved_at, returns, sem, sep, sets, shows}
 pub use Rattle.hashlink_map.proofs.Names.{shr_ref_copy, shr_ref_laws, state_of, stay_dropped, stop, sub}
 pub use Rattle.hashlink_map.proofs.Names.{tables, through, triple_of, ty_ptr, types_at, vptr, vstruct}
-pub use Rattle.hashlink_map.proofs.Extending.{grows-none, stopped_at_last, took_all, took_some}
 pub use Rattle.hashlink_map.proofs.{InTurn.accepts_another, PairValues.{value_of, valued}}
 pub use Rattle.hashlink_map.proofs.Names.{walk_of, whole, ◌⊑◌}
 pub use Rattle.hashlink_model.specs.Sets.{GetsOrInserts, SetInserts, SetReplaces, SetState, elements_of}
