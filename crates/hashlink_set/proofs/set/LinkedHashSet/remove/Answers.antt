@@ -5,7 +5,8 @@ use Rattle.hashlink_set.proofs.set.LinkedHashSet.remove.Goals as goal
 
 pub returns-clause-answer : goal.returns-clause-answer
 returns-clause-answer g c =
-    c.is_some.ensures ∙ sym (is_some-map (λ t. (t, tt)) c.take.result) ∙ ap is_some c.take.ensures.removes.answer
+    c.is_some.ensures ∙ sym (is_some-map (λ t. (t, tt)) c.take.result)
+    ∙ ap is_some c.take.ensures.removes.answer
     ∙ member-entry c.args.self.now.entries (g.Q.Equivalent.matches c.args.value)
 
 pub returns-clause-elements : goal.returns-clause-elements

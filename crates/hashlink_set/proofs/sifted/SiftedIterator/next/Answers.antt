@@ -1,6 +1,6 @@
-use Rattle.hashlink_set.proofs.Names.{◌≡◌, true, not, ap, sym, ◌∙◌, rules, eqb, elements_in, sifts, entries_of}
-use Rattle.hashlink_set.proofs.{Names.is_some-lookup, Looking.{some_looks, none_looks}}
-use Rattle.hashlink_set.proofs.Looking.{sifts_asked, sifted_steps}
+use Rattle.hashlink_set.proofs.Names.{◌≡◌, true, not, ap, sym, ◌∙◌, rules, eqb, elements_in, sifts}
+use Rattle.hashlink_set.proofs.Names.{entries_of, is_some-lookup}
+use Rattle.hashlink_set.proofs.Looking.{some_looks, none_looks, sifts_asked, sifted_steps}
 use Rattle.hashlink_set.proofs.sifted.SiftedIterator.next.Goals as goal
 
 pub loop-element-preserved : goal.loop-element-preserved
