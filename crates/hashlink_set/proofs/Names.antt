@@ -18,7 +18,7 @@ pub use Rattle.hashlink_model.specs.Sets.{GetsOrInserts, SetInserts, SetReplaces
 pub use Rattle.hashlink_model.proofs.{LazyWalks.left_to_give-at_most, SetElements.{set_inserts, set_replaces}}
 pub use Rattle.hashlink_model.specs.{Algebra.{at_most_both, first_passing}, Compare.elements_eq, Steps.Moves}
 pub use Rattle.hashlink_model.specs.{Retain.RetainsInOrder, Sets.{put_element, stored_element}}
-pub use Rattle.hashlink_set.specs.{Answers.as_value, Elements.elements_in, Made.GetsOrMakes}
+pub use Rattle.hashlink_set.specs.{Elements.elements_in, Made.GetsOrMakes}
 pub use Rattle.hashlink_set.specs.SetLends.{LastOrRefused, StaysAsItWas, as_seen}
 pub use Rattle.hashlink_set.specs.Walks.{lacks, sifts, symmetric_difference_rest, union_rest}
 pub use Rattle.std.proofs.Common.{Bool, Err, List, None, Ok, Option, Result, Some, [], ap, ap₂, arith, cond}
