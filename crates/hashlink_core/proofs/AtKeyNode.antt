@@ -1,16 +1,14 @@
 -- From what the keyed list's calls leave at a key's node to what the map's calls leave.
 use Rattle.hashlink_core.proofs.Names
-use Names.{◌≡◌, ◌+◌, ◌≤◌, ℕ, Bool, List, [], ◌∷◌, length, Option, None, Some, refl, sym, ap, subst, ◌∙◌}
-use Names.{arith, slice_get, is_some, option_map, IsEquivalence, lookup, lookup_entry, values_of}
-use Names.{length-values_of, IsEntries, IsKeyTest, place_of, Shrinks, MovesMatchAndWrites, with_match_value}
-use Names.{lookup-moved, set_value_at-place, moved_at-put, put-absent, Keyed, entries_of, state_of, HoldsKey}
-use Names.{HoldsMatch, IsKeyed, pair_with_value, with_value_at, place_number, AddsNode, MovesNode, WritesNode}
-use Names.{GrowsRoom, place_number-renewed, renewed-holds}
+use Names.{◌≡◌, ◌+◌, ◌≤◌, ℕ, Bool, length, Option, None, Some, refl, sym, ap, subst, ◌∙◌, slice_get, is_some}
+use Names.{option_map, IsEquivalence, lookup, lookup_entry, length-values_of, IsEntries, IsKeyTest, place_of}
+use Names.{MovesMatchAndWrites, with_match_value, lookup-moved, set_value_at-place, moved_at-put, put-absent}
+use Names.{Keyed, entries_of, state_of, HoldsKey, HoldsMatch, IsKeyed, pair_with_value, with_value_at}
+use Names.{place_number, AddsNode, MovesNode, WritesNode, GrowsRoom, place_number-renewed, renewed-holds}
 use Rattle.hashlink_core.proofs.Steps.{lookup_entry-place, lookup-place, lookup-unplaced, then_moves}
 use Rattle.hashlink_core.{specs.Places.{Node, Holds}, proofs.Holding.moved-holds_key}
 use Rattle.hashlink_core.proofs.{Mapped.values-renewed_value, Steps.none_passes_from_place}
-use Rattle.std.specs.Prelude.{Result, Ok, Err, IsErrAnd, IsOk, OnOk, OnErr}
-use Rattle.std.proofs.lemmas.Result.{err_from_is_err_and}
+use Rattle.std.{specs.Prelude.{Result, Err, IsErrAnd}, proofs.lemmas.Result.err_from_is_err_and}
 use Rattle.hashlink_model.{specs.Entries.moved_match, proofs.Splits.key_from_place}
 use Rattle.hashlink_model.specs.MapState.{RoomFor, Changes, AddsEntry, PutsEntry, RefusesEntry}
 
@@ -142,38 +140,3 @@ pub passed-on : {A B : Type 0} (P : Result A B → Type 0) (r : Result A B) (e :
     → P (Err e)
     → P r
 passed-on P r e q p = let is = err_from_is_err_and r q in subst P (sym (is.1 ∙ ap Err is.2)) p
-
--- a shrink of the list inside is one of the map
-pub shrinks : {K V S E : Type 0} (old new : Keyed K V S) (r : Result (Unit {0}) E)
-    → OnOk r (new ≡ record old { spare = 0; room = length old.nodes })
-    → OnErr r (new ≡ record old { spare = 0 })
-    → (old.nodes ≡ [] → IsOk r) → length (entries_of old) ≤ old.room → Shrinks (state_of old) (state_of new) r
-shrinks old new (Ok x) ok err empty below =
-    let long = length-values_of old.nodes in
-    rw ok (record {
-      entries = refl;
-      spare = refl;
-      fits = omega arith;
-      room = omega arith;
-      fitted = sym long;
-      refused = tt;
-      empty = λ none. (refl, omega (arith, ap length none));
-      link_writes = refl;
-      hasher = refl;
-    })
-shrinks old new (Err e) ok err empty below =
-    rw err (record {
-      entries = refl;
-      spare = refl;
-      fits = omega arith;
-      room = omega arith;
-      fitted = tt;
-      refused = refl;
-      empty = λ none. absurd (cc (empty (nil-values_of old.nodes none)));
-      link_writes = refl;
-      hasher = refl;
-    })
-  where
-    nil-values_of : {X : Type 0} (ns : List (Node × X)) → values_of ns ≡ [] → ns ≡ []
-    nil-values_of [] h = refl
-    nil-values_of (x ∷ ns) h = cc

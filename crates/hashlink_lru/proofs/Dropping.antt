@@ -1,31 +1,20 @@
 -- Entries are dropped from the front one by one.
-use Rattle.std.specs.Prelude.{◌≡◌, ℕ, ◌+◌, List, [], ◌∷◌, length, Option, None, Some}
-use Rattle.std.proofs.Common.{refl, ap, sym, subst, ◌∙◌, drop, drop-drop, arith, le_refl}
-use Rattle.std.proofs.lemmas.Option.{none-some}
+use Rattle.std.specs.Prelude.{◌≡◌, ℕ, ◌+◌, List, [], ◌∷◌, Option, None, Some}
+use Rattle.std.proofs.{Common.{refl, ap, sym, subst, ◌∙◌, drop, drop-drop}, lemmas.Option.none-some}
 use Rattle.hashlink_model.specs.{MapState.MapState, Steps.{KeepsOnly, PopsFront}, Walk.first_of}
 use Rattle.hashlink_model.proofs.NodeCounts.{removes_keeps, keeps_twice}
+use Rattle.hashlink_map.proofs.Taking.{kept-none}
 
 none_first : {X : Type 0} (xs : List X) → None ≡ first_of xs → xs ≡ drop 1 xs
 none_first [] n = refl
 none_first (x ∷ xs) n = absurd (none-some x n)
 
 module _ {K V S : Type 0} where
-  pub kept : (m : MapState K V S) → KeepsOnly m m m.entries
-  kept m =
-      record {
-        entries = refl;
-        no_more = le_refl (length m.entries);
-        spare = refl;
-        room = refl;
-        link_writes = record { grows = le_refl m.link_writes; bound = omega arith };
-        hasher = refl;
-      }
-
   pub pops_keeps : (old new : MapState K V S) (r : Option (K × V)) → PopsFront old new r
       → KeepsOnly old new (drop 1 old.entries)
   pops_keeps old new None s =
       subst (λ m. KeepsOnly old m (drop 1 old.entries)) (sym s.step)
-      (subst (KeepsOnly old old) (none_first old.entries s.answer) (kept old))
+      (subst (KeepsOnly old old) (none_first old.entries s.answer) (kept-none old))
   pops_keeps old new (Some e) s = removes_keeps old new (drop 1 old.entries) s.step
 
   -- one more is dropped

@@ -44,7 +44,7 @@ pub use Rattle.hashlink_model.specs.Walk.{after_first_of, before_last_of, first_
 pub use Rattle.std.proofs.Common.{Bool, List, None, Option, Some, [], ap, append-nil, append_assoc, ap₂}
 pub use Rattle.std.proofs.Common.{arith, cond, false, fold, get_or, is_some, le_refl, length, length-append}
 pub use Rattle.std.proofs.Common.{length-take-le, lit<, map, refl, rules, subst, suc, sym, take, true}
-pub use Rattle.std.specs.Prelude.{Contains, Err, IfErr, IfNone, IfOk, IfSome, IsErr, IsOk, IsSome}
+pub use Rattle.std.specs.Prelude.{Contains, Err, IfErr, IfNone, IfOk, IfSome, IsOk, IsSome}
 pub use Rattle.std.specs.Prelude.{MatchOption, MatchResult, Ok, OnErr, OnOk, OnSome, Result, insert, remove}
 pub use Rattle.std.proofs.Common.{true≢false, zero, ℕ, ◌++◌, ◌+◌, ◌-◌, ◌<◌, ◌∙◌, ◌∷◌, ◌≡◌, ◌≢◌, ◌≤◌}
 pub use Rattle.std.{proofs.RcSteps.{word, word-Good, word_ty}, specs.declared.iter.Map.Map}

@@ -9,7 +9,7 @@ use Rattle.hashlink_model.{specs.{Steps.KeepsOnly, MapState.Removes}, proofs.Wal
 use Rattle.hashlink_model.{specs.Lookups.UpdatesPopped, proofs.Updates.{updates-pop_front, updates-pop_back}}
 use Rattle.hashlink_core.specs.Steps.{RemovesNode}
 use Rattle.hashlink_model.proofs.Places.{last_of-end}
-use Rattle.std.proofs.{Common.drop, Math.Seq.take-append_seam, lemmas.Option.slice_get_past}
+use Rattle.std.proofs.{Common.{drop, le_refl}, Math.Seq.take-append_seam, lemmas.Option.slice_get_past}
 use Rattle.std.proofs.lemmas.Option.{slice_get_within}
 
 module _ {K V S : Type 0} (old new : MapState K V S) where
@@ -123,6 +123,17 @@ module _ {K V S : Type 0} where
   -- only entries that were present at the start are left
   abbrev pub Kept : MapState K V S → MapState K V S → Type 0
   Kept start now = KeepsOnly start now now.entries
+
+  pub kept-none : (m : MapState K V S) → Kept m m
+  kept-none m =
+      record {
+        entries = refl;
+        no_more = le_refl (length m.entries);
+        spare = refl;
+        room = refl;
+        link_writes = record { grows = le_refl m.link_writes; bound = omega arith };
+        hasher = refl;
+      }
 
 -- a drain took the last entry
 pub last-taken : {X : Type 0} {xs ys : List X} {y : X} → xs ≡ ys ++ y ∷ []

@@ -97,8 +97,7 @@ impl<K: Eq + Hash + Drop, V: Drop, S: BuildHasher> Extend<(K, V)> for LinkedHash
         ensures stopped { OnErr result (ReadsSome I.into_iter_gives I.IntoIter.next_gives iter
             (λ items. StopsAtLast (InsertsPair K.eq) (state_of self.old) items (state_of self.new))) }
     {
-        LinkedHashMap::extend(self, iter)?;
-        Ok(())
+        LinkedHashMap::extend(self, iter).map_err(|_| AllocError)
     }
 }
 
@@ -122,7 +121,6 @@ impl<'a, K: Eq + Hash + Copy + 'a, V: Copy + 'a, S: BuildHasher> Extend<(&'a K, 
             (λ items. StopsAtLast (InsertsPair K.eq) (state_of self.old) (map deref_pair items)
             (state_of self.new))) }
     {
-        self.extend_ref(iter)?;
-        Ok(())
+        self.extend_ref(iter).map_err(|_| AllocError)
     }
 }

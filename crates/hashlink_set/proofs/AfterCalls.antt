@@ -1,11 +1,12 @@
 -- Lemmas for callers: a set's elements after a call. The comment over each lemma names the goal that it
 -- closes.
-use Rattle.std.proofs.Common.{◌≡◌, Bool, true, false, cond, [], ◌∷◌, ◌++◌, Option, None, Some}
-use Rattle.std.proofs.Common.{Result, Ok, Err, refl, ap, ◌∙◌, true≢false, not, filter, is_some}
+use Rattle.std.proofs.Common.{◌≡◌, Bool, true, false, cond, [], ◌∷◌, ◌++◌, None, Some}
+use Rattle.std.proofs.Common.{Result, Ok, Err, refl, ap, ◌∙◌, not, filter}
 use Rattle.std.proofs.lemmas.List.{map-append}
 use Rattle.std.proofs.lemmas.Map.Made.{is_some-lookup}
+use Rattle.std.proofs.option.Match.{None-if_not_some}
 use Rattle.std.specs.List.{list_any}
-use Rattle.std.specs.Map.{lookup, keys_of}
+use Rattle.std.specs.Map.{keys_of}
 use Rattle.std.specs.Prelude.{MatchResult}
 use Rattle.hashlink_map.proofs.Inserting.{inserts_absent}
 use Rattle.hashlink_map.proofs.Retained.{retained_where}
@@ -34,13 +35,7 @@ module _ {T S : Type 0} (old new : SetState T S) where
   set_inserts_new eq t none (Ok b) s =
       let e = set_inserts eq old new t b s in
       let new_one : b ≡ true = e.1 ∙ ap not none in
-      let adds = inserts_absent eq old new t tt (absent) (Ok (cond b None (Some tt))) s in
+      let absent = None-if_not_some _ (is_some-lookup (eq t) old.entries ∙ none) in
+      let adds = inserts_absent eq old new t tt absent (Ok (cond b None (Some tt))) s in
       (new_one, ap keys_of adds.1 ∙ map-append (λ e. e.0) old.entries ((t, tt) ∷ []))
-    where
-      absent : lookup (eq t) old.entries ≡ None
-      absent = by (lookup (eq t) old.entries) (is_some-lookup (eq t) old.entries ∙ none)
-        where
-          by : (o : Option (Unit {0})) → is_some o ≡ false → o ≡ None
-          by None h = refl
-          by (Some x) h = absurd (true≢false h)
   set_inserts_new eq t none (Err x) s = (ap (λ p. p.0) s.handed_back, ap keys_of s.grows.entries)

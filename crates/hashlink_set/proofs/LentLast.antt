@@ -4,14 +4,14 @@ use Rattle.hashlink_set.proofs.Names.{subst, ◌∙◌, SProp, ent, sep, emp, fa
 use Rattle.hashlink_set.proofs.Names.{◌∵◌, !, qed, move, join, split, use0, fpick, Lfts, RattleType, IfOk}
 use Rattle.hashlink_set.proofs.Names.{IfErr, IsSome, option_copied, Bor, find, UnwrapsOrElse, SetState}
 use Rattle.hashlink_set.proofs.Names.{elements_of, stored_element, GetsOrInserts, last_of, GetsOrMakes}
-use Rattle.hashlink_set.proofs.{Names.{as_seen, PutsElement, MakesElement}, Stored.inserted_last}
+use Rattle.hashlink_set.proofs.{Names.{SetInserts, as_seen, LastOrRefused}, Stored.inserted_last}
 use seplogic.Ra.Ura.{Ura}
 use types.{Logic.Logic, Kit.{fpack, done}}
 use base.Fml.{ftrue, flft}
 use contract.Lifetimes.{Shares, toks}
 use mathlib.Core.Option.{none}
 use denote.Follow.{follows_by, such_by}
-use Rattle.std.specs.{Prelude.⊤, Borrow.{Fml, GName, follows_so, follows_if}}
+use Rattle.std.specs.{Prelude.⊤, Borrow.{Fml, GName, follows_so, follows_if}, Result.result_err}
 
 module _ {M : Type 1} (𝓤 : Ura M) (A B C : Type 0) where
   -- what a call requires: three facts on lifetimes, and R
@@ -78,25 +78,30 @@ module _ {M : Type 1} {𝓤 : Ura M} (𝓛 : Logic 𝓤) (κs : Lfts 6) (qs : Sh
       move ! (1 ∷ 3 ∷ []) $ join ! $ move ! (2 ∷ 0 ∷ []) $ join ! $ move ! (2 ∷ 0 ∷ []) $ join ! $
       move ! (2 ∷ 0 ∷ []) $ join ! $ move ! (1 ∷ 0 ∷ []) $ join ! $ move ! (1 ∷ 0 ∷ []) $ join ! $ done !
 
-module _ {T S : Type 0} (eq : T → T → Bool) (old new : SetState T S) (t : T) where
+module _ {T S : Type 0} (new : SetState T S) (G : Result T T → Type 0) where
   -- if nothing was refused, there is a last element
-  pub there_is_last : (y : Option T) (o : Option (Bor T)) → PutsElement eq old new t y
+  pub there_is_last : (y : Option T) (o : Option (Bor T)) → LastOrRefused new G y
       → option_copied o ≡ last_of (elements_of new) → y ≡ None → IsSome o
-  there_is_last None None s is empty = absurd (cc (is, inserted_last eq old new t s.0 s.1))
+  there_is_last None None s is empty = absurd (cc (is, s.1))
   there_is_last None (Some x) s is empty = refl
   there_is_last (Some y) o s is empty = absurd (cc)
 
-  -- the result is that of an insert
-  pub answers_insert : (y : Option T) (o : Option (Bor T)) (a : Result (Bor T) T) → PutsElement eq old new t y
+  -- and then G holds for what is returned
+  pub given : (y : Option T) (o : Option (Bor T)) (a : Result (Bor T) T) → LastOrRefused new G y
       → option_copied o ≡ last_of (elements_of new)
-      → IfOk a (λ x. (y ≡ None) × (option_copied o ≡ Some x.now)) → IfErr a (λ x. y ≡ Some x)
-      → GetsOrInserts eq old new t (as_seen a)
-  answers_insert y o (Ok x) s is lent refused =
-      let put = subst (PutsElement eq old new t) lent.0 s in
-      let stored : Some x.now ≡ Some (stored_element eq (elements_of old) t)
-      = sym lent.1 ∙ is ∙ inserted_last eq old new t put.0 put.1 in
-      (put.0, put.1, cc)
-  answers_insert y o (Err x) s is lent refused = subst (PutsElement eq old new t) refused s
+      → IfOk a (λ x. (y ≡ None) × (option_copied o ≡ Some x.now)) → IfErr a (λ x. y ≡ Some x) → G (as_seen a)
+  given y o (Ok x) s is lent refused =
+      let put = subst (LastOrRefused new G) lent.0 s in
+      let stands : Some put.0 ≡ Some x.now = sym (sym lent.1 ∙ is ∙ put.1) in
+      let same : put.0 ≡ x.now = cc in subst (λ z. G (Ok z)) same put.2
+  given y o (Err x) s is lent refused = subst (LastOrRefused new G) refused s
+
+-- the result is that of an insert
+module _ {T S : Type 0} (eq : T → T → Bool) (old new : SetState T S) (t : T) where
+  pub inserted : (r : Result Bool T) → SetInserts eq old new t r
+      → LastOrRefused new (GetsOrInserts eq old new t) (result_err r)
+  inserted (Ok b) s = (stored_element eq (elements_of old) t, inserted_last eq old new t b s, (b, s, refl))
+  inserted (Err x) s = s
 
   pub is_stored : (a : Result (Bor T) T) → GetsOrInserts eq old new t (as_seen a)
       → IfOk a (λ x. x.now ≡ stored_element eq (elements_of old) t)
@@ -107,27 +112,8 @@ module _ {T S : Type 0} (eq : T → T → Bool) (old new : SetState T S) (t : T)
   is_given (Ok x) s = tt
   is_given (Err x) s = ap (λ e. e.0) s.handed_back
 
--- the same for the elements that a closure may make
+-- or of an insert of an element that a closure may make
 module _ {T S : Type 0} (eq : T → T → Bool) (Makes : T → Type 0) (old new : SetState T S) (t : T) where
-  -- the element that was made and refused, from a result that contains it
-  pub there_is_made : (y : Option T) (o : Option (Bor T)) → MakesElement eq Makes old new t y
-      → option_copied o ≡ last_of (elements_of new) → y ≡ None → IsSome o
-  there_is_made None None s is empty = absurd (cc (is, s.1))
-  there_is_made None (Some x) s is empty = refl
-  there_is_made (Some y) o s is empty = absurd (cc)
-
-  pub answers_made : (y : Option T) (o : Option (Bor T)) (a : Result (Bor T) T)
-      → MakesElement eq Makes old new t y
-      → option_copied o ≡ last_of (elements_of new)
-      → IfOk a (λ x. (y ≡ None) × (option_copied o ≡ Some x.now)) → IfErr a (λ x. y ≡ Some x)
-      → GetsOrMakes eq Makes old new t (as_seen a)
-  answers_made y o (Ok x) s is lent refused =
-      let put = subst (MakesElement eq Makes old new t) lent.0 s in
-      let stands : Some put.0 ≡ Some x.now = sym (sym lent.1 ∙ is ∙ put.1) in
-      let same : put.0 ≡ x.now = cc in
-      subst (λ z. GetsOrMakes eq Makes old new t (Ok z)) same put.2
-  answers_made y o (Err x) s is lent refused = subst (MakesElement eq Makes old new t) refused s
-
   pub is_lent : (a : Result (Bor T) T) → GetsOrMakes eq Makes old new t (as_seen a)
       → IfOk a (λ x. UnwrapsOrElse (find (eq t) (elements_of old)) Makes x.now)
   is_lent (Ok x) s = s.0

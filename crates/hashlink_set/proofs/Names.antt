@@ -12,15 +12,14 @@ pub use Rattle.hashlink_map.proofs.Names.{of_field, of_list, of_opd, on_entry, o
 pub use Rattle.hashlink_map.proofs.Names.{pass_all, peeks, plain, proved_at, returns, sem, sep, sets, shows}
 pub use Rattle.hashlink_map.proofs.Names.{shr_ref_copy, shr_ref_laws, state_of, stay_dropped, stop, sub}
 pub use Rattle.hashlink_map.proofs.Names.{tables, through, triple_of, ty_ptr, types_at, vptr, vstruct}
-pub use Rattle.hashlink_map.proofs.Extending.{grows-none, stopped_at_last, took_all, took_some}
 pub use Rattle.hashlink_map.proofs.{InTurn.accepts_another, PairValues.{value_of, valued}}
 pub use Rattle.hashlink_map.proofs.Names.{walk_of, whole, ◌⊑◌}
 pub use Rattle.hashlink_model.specs.Sets.{GetsOrInserts, SetInserts, SetReplaces, SetState, elements_of}
 pub use Rattle.hashlink_model.proofs.{LazyWalks.left_to_give-at_most, SetElements.{set_inserts, set_replaces}}
 pub use Rattle.hashlink_model.specs.{Algebra.{at_most_both, first_passing}, Compare.elements_eq, Steps.Moves}
 pub use Rattle.hashlink_model.specs.{Retain.RetainsInOrder, Sets.{put_element, stored_element}}
-pub use Rattle.hashlink_set.specs.{Answers.as_value, Elements.elements_in, Made.GetsOrMakes}
-pub use Rattle.hashlink_set.specs.SetLends.{MakesElement, PutsElement, StaysAsItWas, as_seen}
+pub use Rattle.hashlink_set.specs.{Elements.elements_in, Made.GetsOrMakes}
+pub use Rattle.hashlink_set.specs.SetLends.{LastOrRefused, StaysAsItWas, as_seen}
 pub use Rattle.hashlink_set.specs.Walks.{lacks, sifts, symmetric_difference_rest, union_rest}
 pub use Rattle.std.proofs.Common.{Bool, Err, List, None, Ok, Option, Result, Some, [], ap, ap₂, arith, cond}
 pub use Rattle.std.proofs.Common.{false, filter, is_some, length, map, not, option_map, refl, rules, subst}

@@ -3,6 +3,7 @@ use Rattle.hashlink_set.proofs.Names.{◌≡◌, Bool, true, false, cond, List, 
 use Rattle.hashlink_set.proofs.Names.{ap, subst, sym, refl, is_some, is_some-lookup, option_map, keys_of}
 use Rattle.hashlink_set.proofs.{Names.{is_member, RetainsInOrder, SetState}, Lookups.element-found}
 use Rattle.hashlink_set.specs.Called.{HasAnswered, SetUpdatesKept}
+use Rattle.std.proofs.option.Match.{None-if_not_some}
 use Rattle.std.specs.{List.FoldsTo, Map.{lookup, lookup_entry}, Prelude.MatchOption}
 use Rattle.std.specs.Map.Calls.{CallableOnEachPair, SomeCallAtPair}
 use Rattle.hashlink_model.specs.{Lookups.{AsAnswered, UpdatesKept}, Retain.KeepsInOrder}
@@ -38,10 +39,6 @@ module _ {C F T : Type 0} (see : C → F) (P : C → T → Unit {0} → Bool →
   }
 
 -- what a look-up of an element finds after a retain of the pairs
-none_found : {X : Type 0} (o : Option X) → is_some o ≡ false → o ≡ None
-none_found None n = refl
-none_found (Some x) n = absurd (cc)
-
 module _ {C F T : Type 0} (see : C → F) (P : C → T → Unit {0} → Bool → Unit {0} → C → Type 0)
     (U : F → T → Bool → F → Type 0)
     (says : (c : C) (t : T) (b : Bool) (d : C) → P c t tt b tt d → U (see c) t b (see d)) where
@@ -69,7 +66,7 @@ module _ {C F T : Type 0} (see : C → F) (P : C → T → Unit {0} → Bool →
         (HasAnswered U b)) (is_some-lookup (eq q) new) seen),
     λ test none.
         sym (is_some-lookup test new)
-        ∙ ap is_some (u.1 test (none_found (lookup test old) (is_some-lookup test old ∙ none))),
+        ∙ ap is_some (u.1 test (None-if_not_some _ (is_some-lookup test old ∙ none))),
   )
 
 -- if no call changes a part of a closure, such as the reference that it holds, then all calls together do not

@@ -1,11 +1,11 @@
 -- The state in which a set ends, after the loan of one of its elements has ended. Nothing can be written
 -- through the loan.
-use Rattle.std.specs.Prelude.{◌≡◌, Bool, Option, Some, MatchOption, Result, Ok, Err, ⊤}
+use Rattle.std.specs.Prelude.{◌≡◌, Option, Some, MatchOption, Result, Ok, Err, ⊤}
 use Rattle.std.specs.Borrow.{Fml, RattleType, Bor, MutBor, follows_so}
 use Rattle.std.specs.declared.hash.Hasher as hasher
 use Rattle.std.specs.declared.hash.BuildHasher as builder
 use mathlib.Core.Option.{none}
-use Rattle.hashlink_model.specs.{Sets.{SetState, elements_of, SetInserts, GetsOrInserts}, Walk.last_of}
+use Rattle.hashlink_model.specs.{Sets.{SetState, elements_of, GetsOrInserts}, Walk.last_of}
 use Rattle.hashlink_core.specs.KeyedLends.{HashMembers}
 use Rattle.hashlink_set.specs.{Made.GetsOrMakes, contracts.set.LinkedHashSet.the_row}
 
@@ -14,19 +14,10 @@ abbrev pub as_seen : {T E : Type 0} → Result (Bor T) E → Result T E
 as_seen (Ok x) = Ok x.now
 as_seen (Err e) = Err e
 
--- `insert`, by the element that was refused, if any
-abbrev pub PutsElement : {T S : Type 0} → (T → T → Bool) → SetState T S → SetState T S → T → Option T → Type 0
-PutsElement eq old new t o =
-    MatchOption o ((b : Bool) × SetInserts eq old new t (Ok b)) (λ x. SetInserts eq old new t (Err x))
-
--- `get_or_insert_with`, by the element that was made and refused, if any; else the returned element is the
--- last one
-abbrev pub MakesElement : {T S : Type 0} → (T → T → Bool) → (T → Type 0) → SetState T S
-    → SetState T S → T → Option T
-    → Type 0
-MakesElement {T} eq Makes old new t o =
-    MatchOption o ((x : T) × (last_of (elements_of new) ≡ Some x) × GetsOrMakes eq Makes old new t (Ok x))
-    (λ x. GetsOrMakes eq Makes old new t (Err x))
+-- what G states of a result, by the element that was refused, if any; else the last element is returned
+abbrev pub LastOrRefused : {T S : Type 0} → SetState T S → (Result T T → Type 0) → Option T → Type 0
+LastOrRefused {T} new G o =
+    MatchOption o ((x : T) × (last_of (elements_of new) ≡ Some x) × G (Ok x)) (λ x. G (Err x))
 
 module _ (T S H : RattleType) (g : HashMembers T.Denot) (b : builder.Ghosts S.Denot H.Denot)
     (w : hasher.Ghosts H.Denot) where

@@ -91,8 +91,7 @@ impl<T: Eq + Hash + Drop, S: BuildHasher> Extend<T> for LinkedHashSet<T, S> {
         ensures stopped { OnErr result (ReadsSome I.into_iter_gives I.IntoIter.next_gives iter
             (λ items. StopsAtLast (SetInserts T.eq) self.old items self.new)) }
     {
-        LinkedHashSet::extend(self, iter)?;
-        Ok(())
+        LinkedHashSet::extend(self, iter).map_err(|_| AllocError)
     }
 }
 
@@ -111,7 +110,6 @@ impl<'a, T: Eq + Hash + Copy + 'a, S: BuildHasher> Extend<&'a T> for LinkedHashS
         ensures stopped { OnErr result (ReadsSome I.into_iter_gives I.IntoIter.next_gives iter
             (λ items. StopsAtLast (SetInserts T.eq) self.old (map deref items) self.new)) }
     {
-        self.extend_ref(iter)?;
-        Ok(())
+        self.extend_ref(iter).map_err(|_| AllocError)
     }
 }

@@ -12,7 +12,6 @@ mod extend;
 mod into_iter;
 mod iter;
 mod iterators;
-mod lookup;
 mod set;
 mod sifted;
 mod symmetric_difference;

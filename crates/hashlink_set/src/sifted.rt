@@ -5,7 +5,6 @@ ghost use Rattle.hashlink_model.specs.Algebra.{part_hint, difference_of, interse
 ghost use Rattle.hashlink_set.specs.Elements.{elements_in};
 
 use crate::iter::Iter;
-use crate::lookup::contains;
 use hashlink_map::{DefaultHashBuilder, LinkedHashMap};
 use std::alloc::AllocError;
 use std::fmt;
@@ -76,7 +75,7 @@ impl<'a, T: Eq + Hash, S: BuildHasher, const HAS: bool> Iterator for Sifted<'a, 
     #[inline(always)]
     fn next(&mut self) -> Option<&'a T> {
         while let Some(element) = self.iter.next() {
-            if contains(self.other, element) == HAS {
+            if self.other.contains_key(element) == HAS {
                 return Some(element);
             }
         }

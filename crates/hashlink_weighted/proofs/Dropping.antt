@@ -1,6 +1,6 @@
 -- Entries are dropped from the front, one by one, until the weights fit the budget.
 use Rattle.std.proofs.Common.{◌≡◌, ℕ, ◌+◌, ◌-◌, ◌<◌, ◌≤◌, List, [], ◌∷◌, ◌++◌, length, drop, None, Some, refl}
-use Rattle.std.proofs.{Common.{sym, ap, ◌∙◌, subst, arith, le_refl}, lemmas.Bool.lt-leb}
+use Rattle.std.proofs.{Common.{sym, ap, ◌∙◌, subst, arith}, lemmas.Bool.lt-leb}
 use Rattle.std.proofs.lemmas.{List.length-append, Option.none-some}
 use Rattle.hashlink_model.specs.{MapState.MapState, Steps.{KeepsOnly, PopsFront}, Walk.first_of}
 use Rattle.hashlink_model.{specs.Weights.{total_weight, fitting}, proofs.Pops.pops_front}
@@ -13,24 +13,6 @@ module _ {K V S : Type 0} where
     pub keeps : KeepsOnly old new new.entries
     pub last : LastWeighs new.entries others weight
     pub same : fitting new.entries budget ≡ fitting old.entries budget
-
-  pub none_dropped : (m : MapState K (V × ℕ) S) (others weight budget : ℕ)
-      → LastWeighs m.entries others weight
-      → HasDropped m m others weight budget
-  none_dropped m others weight budget l =
-      record {
-        keeps =
-            record {
-              entries = refl;
-              no_more = le_refl (length m.entries);
-              spare = refl;
-              room = refl;
-              link_writes = record { grows = le_refl m.link_writes; bound = omega arith };
-              hasher = refl;
-            };
-        last = l;
-        same = refl;
-      }
 
 -- if a list weighs too much, its first entry is not in its fitting end
 pub fitting-drops : {K V : Type 0} (e : K × (V × ℕ)) (es : List (K × (V × ℕ))) (budget : ℕ)

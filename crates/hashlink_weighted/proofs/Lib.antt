@@ -1,5 +1,4 @@
 pub mod Dropping
 pub mod Evicting
 pub mod Inserted
-pub mod Moved
 pub mod Totals

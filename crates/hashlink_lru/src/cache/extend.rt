@@ -78,8 +78,7 @@ impl<K: Eq + Hash + Drop, V: Drop, S: BuildHasher> Extend<(K, V)> for LruCache<K
             (λ items. StopsAtLast (InsertsPairIn K.eq) (state_of self.old) items (state_of self.new))) }
         ensures within { StaysWithin (state_of self.old) (state_of self.new) }
     {
-        LruCache::extend(self, iter)?;
-        Ok(())
+        LruCache::extend(self, iter).map_err(|_| AllocError)
     }
 }
 

@@ -4,7 +4,7 @@ ghost use Rattle.std.specs.{Prelude.{Err, Some, length, not, true}, Borrow.sem, 
 ghost use Rattle.std.specs.{List.{find, IsDistinct}, Option.UnwrapsOrElse, Set.is_member};
 ghost use Rattle.hashlink_model.specs.Sets.{elements_of, put_element, replaced, stored_element, SetInserts};
 ghost use Rattle.hashlink_model.specs.{Lookups.SetUpdates, MapState.RefusesEntry, Walk.last_of};
-ghost use Rattle.hashlink_model.specs.Sets.{SetReplaces};
+ghost use Rattle.hashlink_model.specs.Sets.{GetsOrInserts, SetReplaces};
 ghost use Rattle.hashlink_core.specs.Keyed.{state_of};
 ghost use Rattle.hashlink_set.specs.Made.{CanMakeAbsent, GetsOrMakes};
 
@@ -13,8 +13,7 @@ use hashlink_map::{Entry, LinkedHashMap, RawEntryMut};
 use std::hash::{BuildHasher, Hash};
 
 impl<T: Eq + Hash, S: BuildHasher> LinkedHashSet<T, S> {
-    ghost use Rattle.hashlink_set.specs.SetLends.{EndsInserted, EndsMade, StaysAsItWas, PutsElement};
-    ghost use Rattle.hashlink_set.specs.SetLends.{MakesElement};
+    ghost use Rattle.hashlink_set.specs.SetLends.{EndsInserted, EndsMade, LastOrRefused, StaysAsItWas};
 
     /// Inserts the element at the back, and returns whether it was absent. If an equal element is present, it
     /// stays in the set and moves to the back. It hashes the element once, and stores at most six links if it
@@ -125,7 +124,7 @@ impl<T: Eq + Hash, S: BuildHasher> LinkedHashSet<T, S> {
     where
         T: Drop,
         ensures same_set { result.0.ghost_name ≡ self.entry.ghost_name }
-        ensures puts { PutsElement T.eq self.old result.0.now value result.1 }
+        ensures puts { LastOrRefused result.0.now (GetsOrInserts T.eq self.old result.0.now value) result.1 }
     {
         let refused = self.insert(value).err();
         (self, refused)
@@ -139,8 +138,8 @@ impl<T: Eq + Hash, S: BuildHasher> LinkedHashSet<T, S> {
         F: Drop,
         requires { CanMakeAbsent T.eq F.FnOnce f self.old value.now }
         ensures same_set { result.0.ghost_name ≡ self.entry.ghost_name }
-        ensures makes { MakesElement T.eq (FnOnceReturnsAt F.FnOnce f value.now) self.old
-            result.0.now value.now result.1 }
+        ensures makes { LastOrRefused result.0.now (GetsOrMakes T.eq (FnOnceReturnsAt F.FnOnce f value.now)
+            self.old result.0.now value.now) result.1 }
     {
         match move_or_make(&mut self.map, value, f) {
             Ok(()) => (self, None),

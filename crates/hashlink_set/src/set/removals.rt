@@ -25,7 +25,7 @@ impl<T: Eq + Hash, S: BuildHasher> LinkedHashSet<T, S> {
             (lookup_entry (Q.matches value) self.old.entries) }
         ensures distinct { IsDistinct T.eq (elements_of self.new) }
     {
-        self.map.remove_entry(value).is_some()
+        self.take(value).is_some()
     }
 
     /// Removes the equal element and returns it, or returns `None` if it is absent. It looks the element up

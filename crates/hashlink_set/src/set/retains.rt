@@ -3,11 +3,9 @@
 ghost use Rattle.std.specs.{Fn.CalledAt, List.IsDistinct};
 ghost use Rattle.hashlink_model.specs.Retain.{RetainsInOrder};
 ghost use Rattle.hashlink_model.specs.Sets.{elements_of, at_element};
-ghost use Rattle.hashlink_core.specs.Keyed.{state_of};
 ghost use Rattle.hashlink_set.specs.Called.{CallableOnEachElement, SetUpdatesKept};
 
 use super::LinkedHashSet;
-use hashlink_map::LinkedHashMap;
 use std::hash::{BuildHasher, Hash};
 
 impl<T: Eq + Hash, S: BuildHasher> LinkedHashSet<T, S> {
@@ -57,27 +55,10 @@ impl<T: Eq + Hash, S: BuildHasher> LinkedHashSet<T, S> {
             (elements_of self.new) }
         ensures distinct { IsDistinct T.eq (elements_of self.new) }
     {
-        retain_in_map(&mut self.map, keep);
+        self.map.retain_from(
+            &mut |element: &T, _: &mut ()|
+                requires { F.pre keep.now element }
+            { keep(element) },
+        );
     }
-}
-
-/// Does the same as `retain_from`, on the map.
-fn retain_in_map<T: Eq + Hash, S: BuildHasher, F: FnMut(&T) -> bool>(
-    map: &mut LinkedHashMap<T, (), S>,
-    keep: &mut F,
-)
-where
-    T: Drop,
-    requires callable { CallableOnEachElement F.FnMut keep.old (state_of map.old) }
-    ensures retained { RetainsInOrder (at_element (CalledAt F.FnMut)) keep.old (state_of map.old)
-        (state_of map.new) keep.new }
-    ensures updates { SetUpdatesKept (CalledAt F.FnMut) T.eq (elements_of (state_of map.old))
-        (elements_of (state_of map.new)) }
-    ensures distinct { IsDistinct T.eq (elements_of (state_of map.new)) }
-{
-    map.retain_from(
-        &mut |element: &T, _: &mut ()|
-            requires { F.pre keep.now element }
-        { keep(element) },
-    );
 }

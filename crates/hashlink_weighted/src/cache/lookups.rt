@@ -1,36 +1,13 @@
 //! Reads, uses and removals. Each hashes the key once and does not allocate.
-ghost use Rattle.std.specs.{Prelude.{◌≡◌, None, is_some, length, option_copied}, Borrow.sem, Map.lookup};
-ghost use Rattle.hashlink_core.specs.Keyed as keyed;
-ghost use Rattle.hashlink_core.specs.Keyed.{state_of};
+ghost use Rattle.std.specs.{Prelude.{◌≡◌, None, length, option_copied}, Borrow.sem, Map.lookup};
 ghost use Rattle.hashlink_model.specs.{Entries.{IsEntries, moved_match}, Lookups.{KeepsLookups, UpdatesBy}};
-ghost use Rattle.hashlink_model.specs.Steps.{MovesMatch};
 ghost use Rattle.hashlink_weighted.specs.Weighed.{entries_of, WeightedRemovesMatch};
 
 use super::WeightedCache;
-use hashlink_map::{Equivalent, LinkedHashMap};
+use hashlink_map::Equivalent;
 use std::hash::{BuildHasher, Hash};
 
 // Look-ups are inlined, as the map's are.
-
-/// Moves the entry of the key to the back, and returns whether the key is present.
-#[inline(always)]
-fn move_last<K: Eq + Hash, V, S: BuildHasher, Q: Equivalent<K>>(
-    map: &mut LinkedHashMap<K, (V, u64), S>,
-    key: Q,
-) -> bool
-    ensures there { result ≡ is_some (lookup (Q.matches key) (keyed.entries_of map.old)) }
-    ensures moves { MovesMatch (Q.matches key) (state_of map.old) (state_of map.new)
-        (length (keyed.entries_of map.old)) (lookup (Q.matches key) (keyed.entries_of map.old)) }
-    ensures keeps { KeepsLookups K.eq (Q.matches key) (keyed.entries_of map.old)
-        (moved_match (Q.matches key) (keyed.entries_of map.old) (length (keyed.entries_of map.old))) }
-    ensures distinct { IsEntries K.eq (keyed.entries_of map.old) }
-{
-    match map.to_back(key) {
-        Some(_) => true,
-        None => false,
-    }
-}
-
 impl<K: Eq + Hash, V, S: BuildHasher> WeightedCache<K, V, S> {
     ghost use Rattle.hashlink_weighted.specs.{Answers.without_weight, Lends.EndsUsed};
 
@@ -55,11 +32,10 @@ impl<K: Eq + Hash, V, S: BuildHasher> WeightedCache<K, V, S> {
         ensures value { option_copied result ≡ without_weight (lookup (Q.matches key) (entries_of self.old)) }
         ensures distinct { IsEntries K.eq (entries_of self.old) }
     {
-        if !move_last(&mut self.map, key) {
-            return None;
+        match self.map.to_back(key) {
+            Some(pair) => Some(&pair.0),
+            None => None,
         }
-        let (_, (value, _)) = self.map.back()?;
-        Some(value)
     }
 
     /// Removes the entry of the key, and returns its value, or `None` if the key is absent. It looks the key

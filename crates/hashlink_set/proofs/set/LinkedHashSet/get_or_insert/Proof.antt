@@ -11,9 +11,9 @@ use Names.{ShrRef, NamedLft, mut_vals, mut_Tells, plain, mut_ref_to, types_at, n
 use Names.{shr_ref_field, shr_ref_laws, shr_ref_copy, as_fields, Tuple, calls_at, lasts, Lasts, alive}
 use Names.{on_entry, triple_of, framed, Stays, stay_dropped, walk_of, Goes-spent_ref, Goes-dropped, proved_at}
 use Names.{leaves, IfOk, IfErr, IsSome, None, Some, option_copied, value_of, valued, elements_of}
-use Names.{stored_element, GetsOrInserts, last_of, as_seen, PutsElement}
-use Rattle.hashlink_set.proofs.LentLast.{Asks, asked, ends_so, there_is_last, answers_insert, is_stored}
-use Rattle.hashlink_set.{proofs.Names.StaysAsItWas, specs.SetLends.EndsInserted, proofs.LentLast.is_given}
+use Names.{stored_element, GetsOrInserts, last_of, as_seen, LastOrRefused}
+use Rattle.hashlink_set.proofs.LentLast.{Asks, asked, ends_so, there_is_last, given, is_stored, is_given}
+use Rattle.hashlink_set.{proofs.Names.StaysAsItWas, specs.SetLends.EndsInserted}
 use Rattle.hashlink_set.proofs.set.LinkedHashSet.get_or_insert.Statement.{statement}
 use Rattle.std.proofs.option.Option.TheLaws as option_laws
 use Rattle.std.proofs.result.Result.TheLaws as result_laws
@@ -72,7 +72,8 @@ get_or_insert_spec 𝓤 𝓛 𝓜 𝓡 wired T S X LT LS LX e de p dp h dh b db 
     let y : Y.Ghost = ((κs, qs, z.0.2, a, vss), tt) in
     let E₁ = puts.ended T S X e de p dp h dh b db w dw dd dt in
     let Same : Mid.Denot → Type 0 = λ q. q.0.ghost_name ≡ r.ghost_name in
-    let Puts : Mid.Denot → Type 0 = λ q. PutsElement p.eq r.now q.0.now t q.1 in
+    let States = λ (q : Mid.Denot). GetsOrInserts p.eq r.now q.0.now t in
+    let Puts : Mid.Denot → Type 0 = λ q. LastOrRefused q.0.now (States q) q.1 in
     subst (λ (us : Valss (types_at En.signature.params κs)). ent 𝓤 (W.pre (At us))
     (WpFn 𝓤 H 𝓣.C 𝓣.Λ fn (W.args (At us)) (W.post (At us)))) (λ i. (sym is_ref i, (sym value_at.1 i, tt))) (
     qed 𝓛 (raw (on_entry 𝓛 En.signature κs qs a vss) ∷ raw ((c κs a).requires z.1) ∷ []) ∵ move ! (1 ∷ []) $
@@ -134,7 +135,7 @@ get_or_insert_spec 𝓤 𝓛 𝓜 𝓡 wired T S X LT LS LX e de p dp h dh b db 
     lands_as ! refl refl ((LOut.lawful 𝓛).typed o (v₂ ∷ []) is_out).0 $
     sets ! (of_opd ! (get ! refl)) refl fits $
     let Some_there : Type 0 = q.1 ≡ None → IsSome o in
-    let there : Some_there = there_is_last p.eq r.now q.0.now t q.1 o put_in last in
+    let there : Some_there = there_is_last q.0.now (States q) q.1 o put_in last in
     nothing ! $ move ! (4 ∷ 0 ∷ []) $ fjoin ! $ move ! (1 ∷ 0 ∷ []) $ fjoin ! $ move ! (1 ∷ 0 ∷ []) $ join ! $
     use0 𝓛 (raw (fact 𝓤 Some_there)) (fact_i 𝓤 Some_there (emp 𝓤) there) $
     use1 𝓛 (raw (Asks 𝓤 A B C (fact 𝓤 Some_there))) (asked 𝓤 A B C 𝓛 (fact 𝓤 Some_there) has_A has_B has_C) $
@@ -161,7 +162,7 @@ get_or_insert_spec 𝓤 𝓛 𝓜 𝓡 wired T S X LT LS LX e de p dp h dh b db 
     returns ! (look_at ! 0 refl) $ free_all ! refl $
     -- [the result; the tokens; how the set ends]
     let Gets : Set.Denot → Type 0 = λ new. GetsOrInserts p.eq r.now new t (as_seen x) in
-    let gets : Gets q.0.now = answers_insert p.eq r.now q.0.now t q.1 o x put_in last is_lent is_refused in
+    let gets : Gets q.0.now = given q.0.now (States q) q.1 o x put_in last is_lent is_refused in
     let Ends : SProp 𝓤 = sem 𝓛
     (EndsInserted TR SR XR (record { eq = p.eq; hash_input = h.hash_input }) b w r t x) in
     let Stored : Type 0 = IfOk x (λ k. k.now ≡ stored_element p.eq (elements_of r.now) t) in

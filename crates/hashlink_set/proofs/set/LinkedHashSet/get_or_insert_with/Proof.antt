@@ -11,9 +11,9 @@ use Names.{nothing, peeks, only, heard, shr_ref_field, shr_ref_laws, shr_ref_cop
 use Names.{lasts, Lasts, alive, on_entry, triple_of, framed, Stays, stay_dropped, walk_of, Goes-spent_ref}
 use Names.{Goes-dropped, proved_at, leaves, IfOk, IfErr, IsSome, None, Some, option_copied, FnOnceReturnsAt}
 use Names.{find, UnwrapsOrElse, value_of, valued, elements_of, last_of, GetsOrMakes}
-use Rattle.hashlink_set.proofs.LentLast.{Asks, asked, ends_so, there_is_made, answers_made, is_lent, is_made}
+use Rattle.hashlink_set.proofs.LentLast.{Asks, asked, ends_so, there_is_last, given, is_lent, is_made}
 use Rattle.hashlink_set.proofs.LentLast.{lifetimes_left, shares_left, Left as TokensLeft, Aside, set_aside}
-use Rattle.hashlink_set.{proofs.Names.{as_seen, MakesElement, StaysAsItWas}, specs.Made.CanMakeAbsent}
+use Rattle.hashlink_set.{proofs.Names.{as_seen, LastOrRefused, StaysAsItWas}, specs.Made.CanMakeAbsent}
 use Rattle.hashlink_set.{specs.SetLends.EndsMade, proofs.LentLast.taken_back}
 use Rattle.hashlink_set.proofs.set.LinkedHashSet.get_or_insert_with.Statement.{statement}
 use denote.{Exit.yes, Ref.{shr_vals, shr_Tells}, Signature.shr_ref_to}
@@ -87,7 +87,8 @@ get_or_insert_with_spec 𝓤 𝓛 𝓜 𝓡 wired T S X F LT LS LX LF e de p dp 
     let y : Y.Ghost = ((κs, qs, z.0.2, a, vss), tt) in
     let E₁ = puts.ended T S X F e de p dp h dh b db w dw dd fo df dt dF in
     let Same : Mid.Denot → Type 0 = λ q. q.0.ghost_name ≡ r.ghost_name in
-    let Puts : Mid.Denot → Type 0 = λ q. MakesElement p.eq Makes r.now q.0.now t q.1 in
+    let States = λ (q : Mid.Denot). GetsOrMakes p.eq Makes r.now q.0.now t in
+    let Puts : Mid.Denot → Type 0 = λ q. LastOrRefused q.0.now (States q) q.1 in
     subst (λ (us : Valss (types_at En.signature.params κs)). ent 𝓤 (W.pre (At us))
     (WpFn 𝓤 H 𝓣.C 𝓣.Λ fn (W.args (At us)) (W.post (At us))))
     (λ i. (sym is_ref i, (sym is_value i, (sym made_at.1 i, tt)))) (
@@ -153,7 +154,7 @@ get_or_insert_with_spec 𝓤 𝓛 𝓜 𝓡 wired T S X F LT LS LX LF e de p dp 
     lands_as ! refl refl ((LOut.lawful 𝓛).typed o (v₂ ∷ []) is_out).0 $
     sets ! (of_opd ! (get ! refl)) refl fits $
     let Some_there : Type 0 = q.1 ≡ None → IsSome o in
-    let there : Some_there = there_is_made p.eq Makes r.now q.0.now t q.1 o put_in last in
+    let there : Some_there = there_is_last q.0.now (States q) q.1 o put_in last in
     nothing ! $ move ! (4 ∷ 0 ∷ []) $ fjoin ! $ move ! (1 ∷ 0 ∷ []) $ fjoin ! $ move ! (1 ∷ 0 ∷ []) $ join ! $
     use0 𝓛 (raw (fact 𝓤 Some_there)) (fact_i 𝓤 Some_there (emp 𝓤) there) $
     use1 𝓛 (raw (Asks 𝓤 A B C (fact 𝓤 Some_there))) (asked 𝓤 A B C 𝓛 (fact 𝓤 Some_there) has_A has_B has_C) $
@@ -180,8 +181,7 @@ get_or_insert_with_spec 𝓤 𝓛 𝓜 𝓡 wired T S X F LT LS LX LF e de p dp 
     returns ! (look_at ! 0 refl) $ free_all ! refl $
     -- [the result; the tokens; how the set ends]
     let Gets : Set.Denot → Type 0 = λ new. GetsOrMakes p.eq Makes r.now new t (as_seen x) in
-    let gets : Gets q.0.now = answers_made p.eq Makes r.now q.0.now t q.1 o x put_in last
-    lent_last is_refused in
+    let gets : Gets q.0.now = given q.0.now (States q) q.1 o x put_in last lent_last is_refused in
     let Ends : SProp 𝓤 = sem 𝓛 (EndsMade TR SR XR (record { eq = p.eq; hash_input = h.hash_input }) b w r t
     Makes x) in
     let Lent : Type 0 = IfOk x (λ k. UnwrapsOrElse (find (p.eq t) (elements_of r.now)) Makes k.now) in

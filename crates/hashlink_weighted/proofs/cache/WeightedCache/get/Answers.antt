@@ -1,50 +1,60 @@
-use Rattle.std.proofs.Common.{◌≡◌, ℕ, Option, None, Some, false, refl, ap, sym, ◌∙◌, is_some, true≢false}
-use Rattle.std.specs.{Option.option_map, Map.Iter.deref_pair}
-use Rattle.hashlink_weighted.{specs.Answers.without_weight, proofs.Moved.last_value_match}
-use Rattle.hashlink_weighted.proofs.Totals.{moves_total}
+use Rattle.std.{proofs.Common.{refl, ap, sym, subst, ◌∙◌}, specs.Option.option_copied_mut}
+use Rattle.hashlink_core.specs.Keyed.{state_of}
+use Rattle.hashlink_model.{specs.Steps.MovesMatch, proofs.MovedLast.moved_match_last}
+use Rattle.hashlink_weighted.{specs.Answers.without_weight, proofs.Totals.moves_total}
 use Rattle.hashlink_weighted.proofs.cache.WeightedCache.get.Goals as goal
 
-pub invariant_of-self-2 : goal.invariant_of-self-2
-invariant_of-self-2 g c =
-    moves_total _ _ _ _ _ _ c.move_last.ensures.moves c.self.invariant
+pub invariant_of-self : goal.invariant_of-self
+invariant_of-self g c =
+    let v = c.in-Some.pair.now in
+    let test = g.Q.Equivalent.matches c.args.key in
+    moves_total _ _ _ _ _ _ (moved_match_last g.K.PartialEq.eq g.met.K.Eq.laws test
+    (g.met.Q.Equivalent.finds_equal c.args.key) (state_of c.self.inside.map) _ v c.to_back.ensures.distinct
+    (sym c.to_back.ensures.value ∙ ap option_copied_mut c.in-Some.is) (c.to_back.follows.holds v))
+    c.self.invariant
 
--- an absent key has no value
-no_value : {V : Type 0} (o : Option (V × ℕ)) → is_some o ≡ false → None ≡ without_weight o
-no_value None n = refl
-no_value (Some w) n = absurd (true≢false n)
-
-pub returns-then-not-move_last : goal.returns-then-not-move_last
-returns-then-not-move_last g c =
-    let none = sym c.move_last.ensures.there ∙ c.if-not-move_last.true in
+pub returns-in-Some : goal.returns-in-Some
+returns-in-Some g c =
+    let test = g.Q.Equivalent.matches c.args.key in
+    let v = c.in-Some.pair.now in
+    let at = sym c.to_back.ensures.value ∙ ap option_copied_mut c.in-Some.is in
+    let moves = moved_match_last g.K.PartialEq.eq g.met.K.Eq.laws test
+    (g.met.Q.Equivalent.finds_equal c.args.key) (state_of c.self.inside.map) _ v c.to_back.ensures.distinct
+    at (c.to_back.follows.holds v) in
     rw (← c.self.view_is) (
-      (refl, λ _. tt, record { moves = c.move_last.ensures.moves; budget = refl }),
+      (
+        refl,
+        λ _. tt,
+        record {
+          moves = subst (MovesMatch test (state_of c.self.inside.map) _ _) (sym at) moves;
+          budget = refl;
+        },
+      ),
       record {
         used = tt;
-        keeps = c.move_last.ensures.keeps;
-        value = no_value _ none;
-        distinct = c.move_last.ensures.distinct;
+        keeps = c.to_back.ensures.keeps;
+        value = ap without_weight (sym at);
+        distinct = c.to_back.ensures.distinct;
       },
     )
 
-pub returns-in_err-value : goal.returns-in_err-value
-returns-in_err-value g c =
-    let there = sym c.move_last.ensures.there ∙ c.if-not-move_last.false in
-    let value = last_value_match _ _ _ c.move_last.ensures.moves there in
-    let shown = ap (λ r. option_map (λ e. e.1) (option_map deref_pair r)) c.in_err-value.was in
-    absurd (true≢false (sym (ap is_some (sym shown ∙ ap (option_map (λ e. e.1)) c.back.ensures.found ∙ value)
-    ∙ there)))
-
-pub returns : goal.returns
-returns g c =
-    let there = sym c.move_last.ensures.there ∙ c.if-not-move_last.false in
-    let value = last_value_match _ _ _ c.move_last.ensures.moves there in
-    let shown = ap (λ r. option_map (λ e. e.1) (option_map deref_pair r)) c.in_ok-value.was in
+pub returns-in-None : goal.returns-in-None
+returns-in-None g c =
+    let none = sym c.to_back.ensures.value ∙ ap option_copied_mut c.in-None.is in
     rw (← c.self.view_is) (
-      (refl, λ _. tt, record { moves = c.move_last.ensures.moves; budget = refl }),
+      (
+        refl,
+        λ _. tt,
+        record {
+          moves = subst (MovesMatch (g.Q.Equivalent.matches c.args.key) (state_of c.self.inside.map) _ _)
+              (sym none) (record { answer = sym none; step = c.to_back.follows.holds-at-none });
+          budget = refl;
+        },
+      ),
       record {
         used = tt;
-        keeps = c.move_last.ensures.keeps;
-        value = ap without_weight (sym shown ∙ ap (option_map (λ e. e.1)) c.back.ensures.found ∙ value);
-        distinct = c.move_last.ensures.distinct;
+        keeps = c.to_back.ensures.keeps;
+        value = ap without_weight (sym none);
+        distinct = c.to_back.ensures.distinct;
       },
     )

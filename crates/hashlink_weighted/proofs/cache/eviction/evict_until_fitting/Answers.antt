@@ -1,5 +1,6 @@
 use Rattle.std.proofs.Common.{refl, arith, ◌≡◌, ◌≤◌, ◌-◌}
-use Rattle.hashlink_weighted.proofs.Dropping.{none_dropped, drops_one, not_none, drops_enough}
+use Rattle.hashlink_map.proofs.Taking.{kept-none}
+use Rattle.hashlink_weighted.proofs.Dropping.{drops_one, not_none, drops_enough}
 use Rattle.hashlink_weighted.proofs.Evicting.{begins, may_give, given, given_all}
 use Rattle.hashlink_weighted.proofs.cache.eviction.evict_until_fitting.Goals.{Left-loop-others}
 use Rattle.hashlink_weighted.proofs.cache.eviction.evict_until_fitting.Goals as goal
@@ -7,7 +8,7 @@ use Rattle.hashlink_weighted.proofs.cache.eviction.evict_until_fitting.Goals as 
 pub loop-others-init : goal.loop-others-init
 loop-others-init g c =
     record {
-      dropped = none_dropped _ _ _ _ c.requires.last;
+      dropped = record { keeps = kept-none _; last = c.requires.last; same = refl };
       evicting = begins _ _ _ _ c.requires.callable;
       distinct = c.requires.distinct;
       room = refl;

@@ -2,7 +2,7 @@ use Rattle.hashlink_set.proofs.Names.{rules, state_of, RetainsInOrder}
 use Rattle.std.specs.Fn.{CalledAt}
 use Rattle.hashlink_model.specs.Sets.{at_element}
 use Rattle.hashlink_set.proofs.Retaining.{callable_seen, retains_seen, updates_seen, name_kept, back}
-use Rattle.hashlink_set.proofs.set.retains.retain_in_map.Goals as goal
+use Rattle.hashlink_set.proofs.set.LinkedHashSet.retain_from.Goals as goal
 
 pub retain_from-requires : goal.retain_from-requires
 retain_from-requires g c = record {
@@ -10,7 +10,7 @@ retain_from-requires g c = record {
     shown = call.key;
     shows = call.shows.0;
     called = search (rules, call.called);
-  }) _ _ (λ f t takes p q h i. takes p h) _ _ c.requires.callable;
+  }) _ _ (λ f t takes p q h i. takes p h) _ _ (rw (← c.self.view_is) at c.requires.callable);
 }
 
 pub returns-clause-retained : goal.returns-clause-retained
@@ -24,13 +24,15 @@ returns-clause-retained g c =
     }) _ _ _ _ r in
     let name =
     name_kept (λ f. f.0.ghost_name) _ (λ f t b d call. search (rules, call.called)) _ _ _ _ r.calls in
-    back (RetainsInOrder Called c.args.keep.now (state_of c.args.map.now) (state_of c.retain_from.new.self))
-    c.keep-1.given.1 name seen
+    rw (← c.self.view_is)
+    (back (RetainsInOrder Called c.args.keep.now (state_of c.self.inside.map)
+    (state_of c.retain_from.new.self)) c.keep-1.given.1 name seen)
 
 pub returns-clause-updates : goal.returns-clause-updates
 returns-clause-updates g c =
-    updates_seen (λ f. f.0.now) _ (CalledAt g.F.FnMut) (λ f t b d call. record {
+    rw (← c.self.view_is)
+    (updates_seen (λ f. f.0.now) _ (CalledAt g.F.FnMut) (λ f t b d call. record {
       shown = call.key;
       shows = call.shows.0;
       called = search (rules, call.called);
-    }) _ _ _ c.retain_from.ensures.updates
+    }) _ _ _ c.retain_from.ensures.updates)
