@@ -1,4 +1,5 @@
-use Rattle.hashlink_map.proofs.Names.{subst, rules, Inserts, state_of, cursor_node}
+use Rattle.hashlink_map.proofs.Names.{subst, Inserts, state_of, cursor_node}
+use Rattle.std.proofs.lemmas.Iterator.Adapters.{option_map_id}
 use Rattle.hashlink_map.proofs.cursor.methods.CursorMut+K+V+S.insert_after.Goals as goal
 
 pub invariant_of-self : goal.invariant_of-self
@@ -12,6 +13,7 @@ returns-clause-inserts g c =
     record {
       map =
           subst (λ i. Inserts g.K.PartialEq.eq (state_of s.map.now) (state_of c.insert_at.new.self)
-          c.args.key c.args.value i c.insert_at.result) (search rules) c.insert_at.ensures.inserts;
+          c.args.key c.args.value i c.insert_at.result)
+          (rw (← c.map.view_is, option_map_id) c.next-place.ensures.number) c.insert_at.ensures.inserts;
       place = (c.insert_at.ensures.keeps (cursor_node s) s.within).number;
     }

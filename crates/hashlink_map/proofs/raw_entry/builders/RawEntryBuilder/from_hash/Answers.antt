@@ -1,13 +1,15 @@
-use Rattle.hashlink_map.proofs.Names.{sym, ap, ◌∙◌, rules, option_map, deref_pair, entries_of}
+use Rattle.hashlink_map.proofs.Names.{sym, ap, ◌∙◌, option_map, deref_pair, entries_of}
 use Rattle.hashlink_map.proofs.Names.{lookup_entry-place, lookup_entry-unplaced}
 use Rattle.hashlink_map.proofs.raw_entry.builders.RawEntryBuilder.from_hash.Goals as goal
 
 pub returns-in_err-found : goal.returns-in_err-found
 returns-in_err-found g c k told =
     ap (option_map deref_pair) c.from_residual.ensures
-    ∙ sym (lookup_entry-unplaced (g.K.PartialEq.eq k) (entries_of c.args.self.map.now) (search rules))
+    ∙ sym (lookup_entry-unplaced (g.K.PartialEq.eq k) (entries_of c.args.self.map.now)
+    ((rw c.map.view_is at c.in_err-found.ensures.found) k told))
 
 pub returns : goal.returns
 returns g c k told =
-    sym (lookup_entry-place (g.K.PartialEq.eq k) (entries_of c.args.self.map.now) _ (search rules)
+    sym (lookup_entry-place (g.K.PartialEq.eq k) (entries_of c.args.self.map.now) _
+    ((rw c.map.view_is at c.in_ok-found.ensures.found) k told).place
     ∙ c.pair_at.ensures)
