@@ -62,7 +62,7 @@ impl<K: Eq + Hash, V, S: BuildHasher> KeyedList<K, V, S> {
         ensures sound { IsKeyed K.eq self.now }
     {
         let nodes = &self.nodes;
-        let holds_match = |node: Node| -> bool
+        let holds_match = move |node: Node| -> bool
             requires held { Holds nodes.now.entries node }
             requires callable { ForSome (lookup (same_node node) nodes.now.entries)
                 (λ held. (x : Bor K) → x.now ≡ held.key → F.pre is_match x) }
