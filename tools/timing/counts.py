@@ -1,10 +1,10 @@
 """Counts the cost of a call of each row.
 
-Each program is run under callgrind, which counts while a clock runs, with one round of each row and with two;
-the difference is the cost of one round. For each call it prints the instructions, the reads and the writes of data, the misses of a cache
-of 1 MiB, and the mispredicted branches, as callgrind models them. The counts of a program are the same on
-each machine, whatever else runs there. It needs valgrind with its headers and a C compiler, and takes
-minutes.
+Each program is run under callgrind, with one round of each row and with two; the difference is the cost of
+one round. Callgrind counts while the bench's clock runs. For each call it prints the instructions, the reads
+and the writes of data, the misses of a cache of 1 MiB, and the mispredicted branches, as callgrind models
+them. The counts of a program are the same on each machine, whatever else runs there. It needs valgrind with
+its headers and a C compiler, and takes minutes.
 """
 
 import re
